@@ -1,0 +1,3 @@
+pub mod IndexLemmas
+pub mod LocalZones
+pub mod PlainLemmas

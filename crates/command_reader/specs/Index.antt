@@ -1,0 +1,22 @@
+-- The names of declared zones, kept for look-ups.
+use Rattle.std.specs.Prelude.{◌≡◌, ℕ, List, ◌∷◌, length, Option, bytes_eq, option_and_then, MatchOption}
+use Rattle.std.specs.List.{list_any}
+use Rattle.std.specs.List.Sorted.{IsPermutation}
+use Rattle.command_reader.specs.declared.commands.Command.{Command}
+use Rattle.command_reader.specs.declared.faults.FaultKind.{FaultKind}
+use Rattle.command_reader.specs.Zones.{zones_of, declared_by, is_declared}
+use Rattle.command_reader.specs.Reading.{fault_of_name}
+
+-- the names are those of the zones that the commands declare, each once
+pub record AreDeclared (names : List (List ℕ)) (lines : List Command) : Type 0 where
+  pub same : (name : List ℕ) → list_any (bytes_eq name) names ≡ is_declared lines name
+  pub count : length names ≡ length (zones_of lines)
+
+-- the fault of a command, by the names alone
+abbrev pub fault_by_names : List (List ℕ) → Command → Option FaultKind
+fault_by_names names command =
+    option_and_then (λ zone. fault_of_name (list_any (bytes_eq zone.0) names) (length names)) (declared_by command)
+
+-- new has the name that the command declares, if it declares one, beside those of old
+abbrev pub AddsDeclared : List (List ℕ) → List (List ℕ) → Command → Type 0
+AddsDeclared old new command = MatchOption (declared_by command) (new ≡ old) (λ zone. IsPermutation (zone.0 ∷ old) new)

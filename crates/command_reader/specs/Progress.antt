@@ -1,0 +1,17 @@
+-- What has been read of a configuration so far.
+use Rattle.std.specs.Prelude.{ℕ, ◌+◌, List, length, map}
+use Rattle.command_reader.specs.declared.commands.Command.{Command}
+use Rattle.command_reader.specs.declared.commands.NumberedCommand.{NumberedCommand}
+
+-- the kept commands with their lines' numbers, in line order, and how many lines were passed over
+pub record Progress : Type 0 where
+  pub kept : List NumberedCommand
+  pub passed : ℕ
+
+-- how many lines there were
+abbrev pub line_count : Progress → ℕ
+line_count before = length before.kept + before.passed
+
+-- the commands alone
+abbrev pub commands_in : Progress → List Command
+commands_in read = map (λ n. n.command) read.kept

@@ -1,0 +1,104 @@
+-- Whether a configuration is accepted: its commands, or its first fault.
+use Rattle.std.specs.Prelude.{◌≡◌, ℕ, ◌+◌, Bool, not, nat_le, List, [], ◌∷◌, ◌++◌, length, Option, Some, None, Result, Ok, Err, find, option_map, option_and_then, unwrap_or, false, is_some, ◌⊎◌, if◌then◌else◌}
+use Rattle.gk_terms.specs.declared.limits.TheConstants.{MOST_LINES, MOST_ZONES}
+use Rattle.gk_terms.specs.Text.{lines_of}
+use Rattle.command_reader.specs.declared.faults.FaultKind.{FaultKind}
+use Rattle.command_reader.specs.declared.faults.FaultKind.TheVariants.{DuplicateZone, UnknownZone, NoLocalZone, TooMany, NoMemory}
+use Rattle.command_reader.specs.declared.faults.LineFault.{LineFault}
+use Rattle.command_reader.specs.declared.commands.Command.{Command}
+use Rattle.command_reader.specs.Line.{line_of}
+use Rattle.command_reader.specs.Progress.{Progress, line_count, commands_in}
+use Rattle.command_reader.specs.Configuration.{Configuration}
+use Rattle.command_reader.specs.Zones.{zones_of, declared_by, is_declared, named_by, first_local_of}
+
+-- ---- one line
+-- the fault of one more zone: its name is declared before, or there are as many as there may be
+abbrev pub fault_of_name : Bool → ℕ → Option FaultKind
+fault_of_name declared count =
+    if declared then Some DuplicateZone else (if nat_le MOST_ZONES count then Some TooMany else None)
+
+-- the fault of a zone that is declared behind these commands
+abbrev pub zone_fault : List Command → List ℕ → Option FaultKind
+zone_fault before name = fault_of_name (is_declared before name) (length (zones_of before))
+
+abbrev pub command_fault : List Command → Command → Option FaultKind
+command_fault before command = option_and_then (λ zone. zone_fault before zone.0) (declared_by command)
+
+-- with a command of the next line
+abbrev pub with_command : Progress → Command → Progress
+with_command before command =
+    record before { kept = before.kept ++ (record { line = line_count before + 1; command = command }) ∷ [] }
+
+-- with the next line passed over
+abbrev pub with_passed : Progress → Progress
+with_passed before = record before { passed = before.passed + 1 }
+
+abbrev pub unless_fault : Option FaultKind → Progress → Result Progress FaultKind
+unless_fault None read = Ok read
+unless_fault (Some kind) read = Err kind
+
+-- behind a line that says this
+abbrev pub said_after : Progress → Result (Option Command) FaultKind → Result Progress FaultKind
+said_after before (Err kind) = Err kind
+said_after before (Ok None) = Ok (with_passed before)
+said_after before (Ok (Some command)) = unless_fault (command_fault (commands_in before) command) (with_command before command)
+
+-- one line behind those before it
+unfoldable pub line_after : Progress → List ℕ → Result Progress FaultKind
+line_after before line = if nat_le MOST_LINES (line_count before) then Err TooMany else said_after before (line_of line)
+
+-- ---- all lines
+-- a fault of the line with this number
+abbrev pub fault_at : ℕ → FaultKind → LineFault
+fault_at number kind = record { line = number; kind = kind }
+
+-- the rest is read where this line has no fault
+abbrev pub line_then : ℕ → (Progress → Result Progress LineFault) → Result Progress FaultKind → Result Progress LineFault
+line_then number rest (Ok read) = rest read
+line_then number rest (Err kind) = Err (fault_at number kind)
+
+-- the lines one after another, up to the first faulty one
+abbrev pub lines_after : Progress → List (List ℕ) → Result Progress LineFault
+lines_after before [] = Ok before
+lines_after before (line ∷ lines) = line_then (line_count before + 1) (λ read. lines_after read lines) (line_after before line)
+
+-- ---- the whole
+-- whether a command names a zone that none of these declares
+abbrev pub names_unknown : List Command → Command → Bool
+names_unknown lines command = unwrap_or (option_map (λ name. not (is_declared lines name)) (named_by command)) false
+
+-- the first line that names a zone which no line declares
+abbrev pub unknown_zone : Progress → Option LineFault
+unknown_zone read =
+    option_map (λ n. fault_at n.line UnknownZone) (find (λ n. names_unknown (commands_in read) n.command) read.kept)
+
+-- a file without a local zone is at fault behind its last line
+abbrev pub local_zone_checked : Progress → Result Configuration LineFault
+local_zone_checked read =
+    if is_some (first_local_of (commands_in read)) then Ok (record { lines = commands_in read; passed = read.passed })
+    else Err (fault_at (line_count read + 1) NoLocalZone)
+
+abbrev pub zones_checked : Progress → Option LineFault → Result Configuration LineFault
+zones_checked read (Some fault) = Err fault
+zones_checked read None = local_zone_checked read
+
+-- the configuration, where no line has a fault of its own
+abbrev pub finished : Progress → Result Configuration LineFault
+finished read = zones_checked read (unknown_zone read)
+
+-- each line for itself, and then the zones of all
+abbrev pub whole_of : Result Progress LineFault → Result Configuration LineFault
+whole_of (Err fault) = Err fault
+whole_of (Ok read) = finished read
+
+-- nothing read yet
+abbrev pub nothing_read : Progress
+nothing_read = record { kept = []; passed = 0 }
+
+-- what the bytes of a configuration say
+unfoldable pub reading_of : List ℕ → Result Configuration LineFault
+reading_of bytes = whole_of (lines_after nothing_read (lines_of bytes))
+
+-- what a reader of these bytes may answer: what they say; or want of memory, at some line
+abbrev pub ReadsAs : List ℕ → Result Configuration LineFault → Type 0
+ReadsAs bytes result = (result ≡ reading_of bytes) ⊎ ((line : ℕ) × (result ≡ Err (fault_at line NoMemory)))

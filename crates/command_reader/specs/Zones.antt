@@ -1,0 +1,49 @@
+-- The zones that commands declare and name.
+use Rattle.std.specs.Prelude.{ℕ, Bool, true, false, List, Option, Some, None, bytes_eq, find, option_map}
+use Rattle.std.specs.List.{filter_map, list_any}
+use Rattle.gk_terms.specs.Address.{AddressParts}
+use Rattle.command_reader.specs.declared.commands.Command.{Command}
+use Rattle.command_reader.specs.declared.commands.Command.TheVariants.{ZoneLocal, ZoneRemote, ZonePrefix}
+
+-- a zone that is controlled here, or one of another gatekeeper
+pub data Zone : Type 0 where
+  Local : Zone
+  Remote : (address : AddressParts) → Zone
+
+-- the zone that a command declares, with its name
+abbrev pub declared_by : Command → Option (List ℕ × Zone)
+declared_by (ZoneLocal name domain address) = Some (name, Local)
+declared_by (ZoneRemote name domain address) = Some (name, Remote address)
+declared_by (ZonePrefix zone pattern) = None
+
+-- all zones, in line order
+abbrev pub zones_of : List Command → List (List ℕ × Zone)
+zones_of lines = filter_map declared_by lines
+
+-- whether a zone of that name is declared
+abbrev pub is_declared : List Command → List ℕ → Bool
+is_declared lines name = list_any (λ zone. bytes_eq name zone.0) (zones_of lines)
+
+-- what the line that declares the name says of it
+abbrev pub zone_of : List Command → List ℕ → Option Zone
+zone_of lines name = option_map (λ zone. zone.1) (find (λ zone. bytes_eq name zone.0) (zones_of lines))
+
+abbrev pub is_local_zone : Zone → Bool
+is_local_zone Local = true
+is_local_zone (Remote address) = false
+
+-- the first local zone in line order
+abbrev pub first_local_of : List Command → Option (List ℕ)
+first_local_of lines = option_map (λ zone. zone.0) (find (λ zone. is_local_zone zone.1) (zones_of lines))
+
+-- whether a command declares a local zone
+abbrev pub is_local_command : Command → Bool
+is_local_command (ZoneLocal name domain address) = true
+is_local_command (ZoneRemote name domain address) = false
+is_local_command (ZonePrefix zone pattern) = false
+
+-- the zone that a command names and that some line must declare
+abbrev pub named_by : Command → Option (List ℕ)
+named_by (ZoneLocal name domain address) = None
+named_by (ZoneRemote name domain address) = None
+named_by (ZonePrefix zone pattern) = Some zone

@@ -1,0 +1,208 @@
+//! A configuration as it is read, line by line.
+
+ghost use Rattle.std.specs.Prelude.{◌≡◌, ◌⊎◌, ◌+◌, ◌<◌, ◌≤◌, ◌==◌, ℕ, List, length, ◌∷◌, MatchResult, Ok, Err, Some, None, bytes_eq, is_some};
+ghost use Rattle.std.specs.List.{list_any};
+ghost use Rattle.std.specs.List.Sorted.{IsPermutation};
+ghost use Rattle.std.specs.HashSet.{keys};
+ghost use Rattle.command_reader.specs.Index.{AddsDeclared, fault_by_names};
+ghost use Rattle.command_reader.specs.Progress.{Progress, line_count, commands_in};
+ghost use Rattle.command_reader.specs.Zones.{first_local_of, is_local_command};
+ghost use Rattle.command_reader.specs.Reading.{nothing_read, line_after, said_after, fault_of_name, with_passed, finished, names_unknown, unknown_zone};
+
+use crate::commands::{Command, Commands, NumberedCommand};
+use crate::faults::{FaultKind, LineFault};
+use crate::lines::command_in;
+use gk_terms::Name;
+use gk_terms::limits::{MOST_LINES, MOST_ZONES};
+use std::alloc::Global;
+use std::collections::HashSet;
+use std::marker::Model;
+
+/// The lines read so far. A contract sees them as `Progress`.
+#[derive(Drop)]
+pub struct Draft {
+    kept: Vec<NumberedCommand>,
+    passed: u32,
+    declared: HashSet<Name>,
+}
+
+impl Model for Draft {
+    ghost use Rattle.std.specs.Prelude.{◌+◌, ◌≤◌, length, map};
+    ghost use Rattle.std.specs.HashSet.{keys};
+    ghost use Rattle.gk_terms.specs.declared.limits.TheConstants.{MOST_LINES};
+    ghost use Rattle.command_reader.specs.Index.{AreDeclared};
+    ghost use Rattle.command_reader.specs.Progress.{Progress};
+
+    ghost Value = { Progress };
+
+    ghost view = { λ d. record { kept = d.kept.items; passed = d.passed } };
+
+    ghost invariant = { λ d. (length d.kept.items + d.passed ≤ MOST_LINES) × AreDeclared (keys d.declared) (map (λ n. n.command) d.kept.items) };
+}
+
+impl Draft {
+    /// Nothing read yet.
+    pub fn new(alloc: Global) -> Draft
+        ensures { result ≡ nothing_read }
+    {
+        Draft {
+            kept: Vec::new(alloc),
+            passed: 0,
+            declared: HashSet::new(alloc),
+        }
+    }
+
+    /// How many lines were read.
+    pub fn line_count(&self) -> usize
+        ensures count { result ≡ line_count self.now }
+        ensures within { result ≤ MOST_LINES }
+    {
+        self.kept.len() + self.passed as usize
+    }
+
+    /// With the next line, or the line's first fault. Where memory is refused, the fault is `NoMemory` in place of
+    /// what the line may say.
+    pub fn with_line(self, line: &[u8]) -> Result<Draft, LineFault>
+        ensures { MatchResult result
+            (λ read. line_after self line.now ≡ Ok read)
+            (λ fault. (fault.line ≡ line_count self + 1)
+            × ((line_after self line.now ≡ Err fault.kind) ⊎ (fault.kind ≡ FaultKind.NoMemory))) }
+    {
+        let number = self.line_count() as u32 + 1;
+        match self.with_text(line) {
+            Ok(read) => Ok(read),
+            Err(kind) => Err(LineFault { line: number, kind }),
+        }
+    }
+
+    #[tactic(auto, unfolding(crate::specs::Reading::line_after))]
+    /// With the next line, or the kind of its fault.
+    fn with_text(self, line: &[u8]) -> Result<Draft, FaultKind>
+        ensures { MatchResult result
+            (λ read. line_after self line.now ≡ Ok read)
+            (λ kind. (line_after self line.now ≡ Err kind) ⊎ (kind ≡ FaultKind.NoMemory)) }
+    {
+        if self.line_count() >= MOST_LINES {
+            return Err(FaultKind::TooMany);
+        }
+        match command_in(line)? {
+            None => Ok(self.with_passed()),
+            Some(command) => self.with_command(command),
+        }
+    }
+
+    /// The configuration, where each line was read: its commands, or the fault of its zones.
+    pub fn finish(self) -> Result<Commands, LineFault>
+        ensures { result ≡ finished self }
+    {
+        if let Some(fault) = self.unknown_zone() {
+            return Err(fault);
+        }
+        if !self.has_local_zone() {
+            return Err(LineFault {
+                line: self.line_count() as u32 + 1,
+                kind: FaultKind::NoLocalZone,
+            });
+        }
+        Ok(self.into_commands())
+    }
+
+    /// The fault of the first line that names a zone which no line declares.
+    pub fn unknown_zone(&self) -> Option<LineFault>
+        ensures { result ≡ unknown_zone self.now }
+    {
+        let kept = self
+            .kept
+            .iter()
+            .find(|kept| self.names_unknown(&kept.command))?;
+        Some(LineFault {
+            line: kept.line,
+            kind: FaultKind::UnknownZone,
+        })
+    }
+
+    /// Whether a command names a zone that no line declares.
+    fn names_unknown(&self, command: &Command) -> bool
+        ensures { result ≡ names_unknown (commands_in self.now) command.now }
+    {
+        match command.names() {
+            None => false,
+            Some(name) => !self.declared.contains(&name),
+        }
+    }
+
+    #[tactic(auto, using(crate::proofs::LocalZones::some_local))]
+    /// Whether a line declares a local zone.
+    pub fn has_local_zone(&self) -> bool
+        ensures { result ≡ is_some (first_local_of (commands_in self.now)) }
+    {
+        has_local(&self.kept)
+    }
+
+    /// The commands, and how many lines were passed over.
+    fn into_commands(self) -> Commands
+        ensures { result ≡ record { lines = commands_in self; passed = self.passed } }
+    {
+        let Draft { kept, passed, .. } = self;
+        Commands::new(kept, passed)
+    }
+
+    /// With the next line passed over.
+    fn with_passed(mut self) -> Draft
+        requires { line_count self < MOST_LINES }
+        ensures { result ≡ with_passed self }
+    {
+        self.passed += 1;
+        self
+    }
+
+    /// With a command of the next line.
+    fn with_command(mut self, command: Command) -> Result<Draft, FaultKind>
+        requires { line_count self < MOST_LINES }
+        ensures { MatchResult result
+            (λ read. said_after self (Ok (Some command)) ≡ Ok read)
+            (λ kind. (said_after self (Ok (Some command)) ≡ Err kind) ⊎ (kind ≡ FaultKind.NoMemory)) }
+    {
+        let line = self.line_count() as u32 + 1;
+        index(&mut self.declared, &command)?;
+        self.kept.push(NumberedCommand { line, command })?;
+        Ok(self)
+    }
+}
+
+/// Whether one of the commands declares a local zone.
+fn has_local(kept: &[NumberedCommand]) -> bool
+    ensures { result ≡ list_any (λ n. is_local_command n.command) kept.now }
+{
+    kept.iter().any(|kept| kept.command.is_local_zone())
+}
+
+/// Adds the name of the zone that a command declares, if it declares one.
+fn index(declared: &mut HashSet<Name>, command: &Command) -> Result<(), FaultKind>
+    ensures { MatchResult result
+        (λ _. (fault_by_names (keys declared.old) command.now ≡ None) × AddsDeclared (keys declared.old) (keys declared.new) command.now)
+        (λ kind. (fault_by_names (keys declared.old) command.now ≡ Some kind) ⊎ (kind ≡ FaultKind.NoMemory)) }
+{
+    match command.declares() {
+        None => Ok(()),
+        Some(name) => declare(declared, name),
+    }
+}
+
+/// Adds the name of one more zone.
+fn declare(declared: &mut HashSet<Name>, name: Name) -> Result<(), FaultKind>
+    ensures { MatchResult result
+        (λ _. (fault_of_name (list_any (bytes_eq name) (keys declared.old)) (length (keys declared.old)) ≡ None)
+        × IsPermutation (name ∷ keys declared.old) (keys declared.new))
+        (λ kind. (fault_of_name (list_any (bytes_eq name) (keys declared.old)) (length (keys declared.old)) ≡ Some kind)
+        ⊎ (kind ≡ FaultKind.NoMemory)) }
+{
+    if declared.contains(&name) {
+        return Err(FaultKind::DuplicateZone);
+    }
+    if declared.len() >= MOST_ZONES {
+        return Err(FaultKind::TooMany);
+    }
+    declared.insert(name)?;
+    Ok(())
+}

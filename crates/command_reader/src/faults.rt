@@ -1,0 +1,72 @@
+//! Why a configuration is refused.
+
+use std::alloc::AllocFailed;
+use thiserror::Error;
+
+/// The kind of a fault of a configuration line.
+#[derive(Clone, Copy, Debug, PartialEq, Eq, Error)]
+pub enum FaultKind {
+    /// The line is longer than 512 bytes, its ending aside.
+    #[error("TooLong")]
+    TooLong,
+    /// The line begins with no known command word.
+    #[error("UnknownCommand")]
+    UnknownCommand,
+    /// The line is a command, or has an option, that this project leaves out.
+    #[error("Unsupported")]
+    Unsupported,
+    /// A field is absent.
+    #[error("Missing")]
+    Missing,
+    /// A word stands behind the last field.
+    #[error("Extra")]
+    Extra,
+    /// A field is no name.
+    #[error("BadName")]
+    BadName,
+    /// A field is no pattern of digits, or no technology prefix.
+    #[error("BadPattern")]
+    BadPattern,
+    /// A field is no number in its range.
+    #[error("BadNumber")]
+    BadNumber,
+    /// A field is no IPv4 address.
+    #[error("BadAddress")]
+    BadAddress,
+    /// The line names a zone that no line declares.
+    #[error("UnknownZone")]
+    UnknownZone,
+    /// An earlier line declared a zone of this name.
+    #[error("DuplicateZone")]
+    DuplicateZone,
+    /// No line declares a local zone.
+    #[error("NoLocalZone")]
+    NoLocalZone,
+    /// The line is the 20,001st, or declares the 1,025th zone.
+    #[error("TooMany")]
+    TooMany,
+    /// Memory was refused while the line was read.
+    #[error("NoMemory")]
+    NoMemory,
+}
+
+impl<T: Drop> From<AllocFailed<T>> for FaultKind {
+    ghost use Rattle.std.specs.Prelude.{◌≡◌};
+    ghost use Rattle.command_reader.specs.declared.faults.FaultKind.TheVariants.{NoMemory};
+
+    ghost from_gives = { λ _ kind. kind ≡ NoMemory };
+
+    fn from(_refused: AllocFailed<T>) -> FaultKind {
+        FaultKind::NoMemory
+    }
+}
+
+/// The first fault of a configuration: the number of its line, from 1, and its kind.
+#[derive(Clone, Copy, Debug, PartialEq, Eq, Error)]
+#[error("line {line}: {kind}")]
+pub struct LineFault {
+    /// The number of the line, from 1. `NoLocalZone` is named one behind the last line.
+    pub line: u32,
+    /// What is wrong there.
+    pub kind: FaultKind,
+}

@@ -1,0 +1,38 @@
+-- What digits say never falls with more of them.
+use Rattle.std.proofs.Common.{◌≡◌, ℕ, ◌+◌, ◌-◌, ◌*◌, ◌<◌, ◌≤◌, true, List, [], ◌∷◌, ◌++◌, length, take, drop, get_or, fold, zero, suc, sym, ap, ◌∙◌, arith}
+use Rattle.std.specs.Char.{is_ascii_digit}
+use Rattle.std.specs.List.{list_all}
+use Rattle.std.proofs.lemmas.Bool.{and_parts}
+use Rattle.std.proofs.lemmas.Bool.Decides.{nat_tests}
+use Rattle.std.proofs.lemmas.List.Sums.{fold-append, fold_more}
+use Rattle.std.proofs.Common.{take-append-drop}
+use Rattle.gk_terms.specs.Number.{value_of}
+
+abbrev next_value : ℕ → ℕ → ℕ
+next_value n d = 10 * n + (d - 48)
+
+at_least_zero : (b : ℕ) → is_ascii_digit b ≡ true → 48 ≤ b
+at_least_zero b h = grind (arith, nat_tests)
+
+grows : (a : ℕ) (ds : List ℕ) → a ≤ fold next_value a ds
+grows a [] = omega arith
+grows a (d ∷ ds) = omega (arith, grows (next_value a d) ds)
+
+-- one digit further
+pub value_of_more : (ds : List ℕ) (i d : ℕ) → i < length ds → value_of (take (i + 1) ds) ≡ 10 * value_of (take i ds) + (get_or ds i d - 48)
+value_of_more ds i d h = fold_more next_value 0 ds i d h
+
+-- the value of a front, with the next digit, is at most that of all
+pub value_of_front : (ds : List ℕ) (i d : ℕ) → i < length ds → 10 * value_of (take i ds) + (get_or ds i d - 48) ≤ value_of ds
+value_of_front ds i d h =
+    let front = take (i + 1) ds in
+    let behind = drop (i + 1) ds in
+    let whole : value_of ds ≡ fold next_value (value_of front) behind =
+    ap value_of (sym (take-append-drop (i + 1) ds)) ∙ fold-append next_value 0 front behind in
+    omega (arith, whole, grows (value_of front) behind, value_of_more ds i d h)
+
+-- a digit is at least the digit 0
+pub digit_at : (ds : List ℕ) (i d : ℕ) → list_all is_ascii_digit ds ≡ true → i < length ds → 48 ≤ get_or ds i d
+digit_at [] i d all h = absurd (omega arith)
+digit_at (b ∷ bs) zero d all h = at_least_zero b (and_parts _ _ all).0
+digit_at (b ∷ bs) (suc i) d all h = digit_at bs i d (and_parts _ _ all).1 (omega arith)

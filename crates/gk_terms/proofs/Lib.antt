@@ -1,0 +1,6 @@
+pub mod Digits
+pub mod Visible
+pub mod WordsLemmas
+pub mod LinesLemmas
+pub mod PartsLemmas
+pub mod ChoiceLemmas

@@ -1,0 +1,13 @@
+use Rattle.std.proofs.Common.{◌≡◌, ◌+◌, ◌<◌, ◌≤◌, length, take, drop, arith, refl}
+use Rattle.std.specs.List.{position_or_len}
+use Rattle.gk_terms.specs.Text.{raw_lines_of}
+use Rattle.gk_terms.proofs.LinesLemmas.{line_to_feed, line_to_end}
+use Rattle.gk_terms.proofs.text_lines.first_line.Goals as goal
+
+pub returns-then-end-text : goal.returns-then-end-text
+returns-then-end-text c =
+    rw (c.split_at.ensures.front, c.split_at.ensures.back, c.length_of_line-end.ensures) (line_to_feed c.args.text.now c.requires)
+
+pub returns-else-end-text : goal.returns-else-end-text
+returns-else-end-text c =
+    line_to_end c.args.text.now c.requires (omega (arith, c.length_of_line-end.ensures))

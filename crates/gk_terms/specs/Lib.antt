@@ -1,0 +1,9 @@
+pub mod Address
+pub mod Choice
+pub mod Dialled
+pub mod Name
+pub mod Number
+pub mod Reason
+pub mod Spelling
+pub mod TechPrefix
+pub mod Text

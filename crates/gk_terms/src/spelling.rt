@@ -1,0 +1,159 @@
+//! A short text that is held in place: what names, dialled digits and technology prefixes are made of.
+
+ghost use Rattle.std.specs.Prelude.{◌≡◌, ℕ, ◌-◌, ◌<◌, ◌≤◌, ◌++◌, List, length, take, replicate, nat_eq, refl, Some};
+ghost use Rattle.std.specs.List.{list_all};
+ghost use Rattle.std.specs.Cmp.Lexicographic.{pointwise, slice_cmp};
+ghost use Rattle.std.specs.Cmp.Rules.{comparing, hashing};
+ghost use Rattle.std.specs.Cmp.{partial_order_from_own_ties};
+ghost use Rattle.std.specs.Ordering.{nat_cmp, as_partial_cmp};
+ghost use Rattle.std.specs.Hash as fed;
+ghost use Rattle.std.proofs.Common.{rules};
+ghost use Rattle.gk_terms.specs.Spelling.{IsVisible, is_visible as is_visible_byte, padded};
+
+use std::cmp::Ordering;
+use std::hash::{Hash, Hasher};
+use std::marker::Model;
+use std::{fmt, str};
+
+/// A text of at most `MOST` visible ASCII characters. A contract sees the text alone.
+#[derive(Clone, Copy)]
+pub struct Spelling<const MOST: usize> {
+    bytes: [u8; MOST],
+    len: u8,
+}
+
+impl<const MOST: usize> Model for Spelling<MOST> {
+    ghost use Rattle.std.specs.Prelude.{ℕ, List, length, take};
+    ghost use Rattle.gk_terms.specs.Spelling.{Holds, padded, padded-take, length-take-held};
+
+    ghost Value = { List ℕ };
+
+    ghost view = { λ s. take s.len s.bytes };
+
+    ghost invariant = { λ s. Holds MOST s.bytes s.len };
+
+    ghost inverse = { λ text. record { bytes = padded MOST text; len = length text } };
+
+    ghost inverse_ok = { λ s h i. record {
+      bytes = padded-take MOST s.bytes s.len h i;
+      len = length-take-held MOST s.bytes s.len h i;
+    } };
+}
+
+impl<const MOST: usize> Spelling<MOST> {
+    /// The text, held in place.
+    pub fn new(text: &[u8]) -> Self
+        requires fits { length text.now ≤ MOST }
+        requires counted { MOST < 256 }
+        requires visible { IsVisible text.now }
+        ensures { result ≡ text.now }
+    {
+        Spelling {
+            bytes: filled(text),
+            len: text.len() as u8,
+        }
+    }
+
+    /// The text as bytes.
+    pub fn as_bytes(&self) -> &[u8]
+        ensures spells { result.now ≡ self.now }
+        ensures visible { IsVisible self.now }
+    {
+        &self.bytes[..self.len as usize]
+    }
+
+    /// The text as text.
+    pub fn as_str(&self) -> &str
+        ensures { result.now ≡ self.now }
+    {
+        unsafe { str::from_utf8_unchecked(self.as_bytes()) }
+    }
+}
+
+/// Whether a byte is from `!` to `~`: neither a blank nor a control byte, and ASCII.
+pub fn is_visible(byte: u8) -> bool
+    ensures { result ≡ is_visible_byte byte }
+{
+    0x21 <= byte && byte <= 0x7E
+}
+
+/// Whether each byte of the text is visible.
+pub fn are_visible(text: &[u8]) -> bool
+    ensures { result ≡ list_all is_visible_byte text.now }
+{
+    text.iter().all(|byte| is_visible(*byte))
+}
+
+/// The text with zeros behind it.
+fn filled<const SIZE: usize>(text: &[u8]) -> [u8; SIZE]
+    requires { length text.now ≤ SIZE }
+    ensures { result ≡ padded SIZE text.now }
+{
+    let mut bytes = [0; SIZE];
+    for (place, byte) in text.iter().enumerate() {
+        bytes[place] = *byte;
+    }
+    bytes
+}
+
+impl<const MOST: usize> PartialEq for Spelling<MOST> {
+    ghost eq = { pointwise nat_eq };
+
+    ghost laws = { Prim.search (comparing, rules) };
+
+    fn eq(&self, other: &Self) -> bool {
+        self.as_bytes() == other.as_bytes()
+    }
+}
+
+impl<const MOST: usize> Eq for Spelling<MOST> {
+    ghost laws = { Prim.search (comparing, rules) };
+}
+
+impl<const MOST: usize> PartialOrd for Spelling<MOST> {
+    ghost partial_cmp = { as_partial_cmp (slice_cmp nat_cmp) };
+
+    ghost laws = { partial_order_from_own_ties (Prim.search (comparing, rules)) (Prim.search (comparing, rules)) };
+
+    fn partial_cmp(&self, other: &Self) -> Option<Ordering> {
+        Some(self.cmp(other))
+    }
+}
+
+impl<const MOST: usize> Ord for Spelling<MOST> {
+    ghost cmp = { slice_cmp nat_cmp };
+
+    ghost total = { Prim.search (comparing, rules) };
+
+    ghost matches_partial_cmp = { λ x y. refl };
+
+    ghost matches_eq = { Prim.search (comparing, rules) };
+
+    fn cmp(&self, other: &Self) -> Ordering {
+        self.as_bytes().cmp(other.as_bytes())
+    }
+}
+
+impl<const MOST: usize> Hash for Spelling<MOST> {
+    ghost hash_input = { fed.slice fed.u8 };
+
+    ghost respects_eq = { Prim.search (hashing, rules) };
+
+    fn hash<H: Hasher>(&self, state: &mut H) {
+        self.as_bytes().hash(state);
+    }
+}
+
+impl<const MOST: usize> fmt::Display for Spelling<MOST> {
+    ghost output = { λ s. Some s };
+
+    fn fmt<W: fmt::Write>(&self, f: &mut fmt::Formatter<W>) -> fmt::Result {
+        f.write_str(self.as_str())
+    }
+}
+
+impl<const MOST: usize> fmt::Debug for Spelling<MOST> {
+    fn fmt<W: fmt::Write>(&self, f: &mut fmt::Formatter<W>) -> fmt::Result {
+        fmt::Debug::fmt(self.as_str(), f)
+    }
+}

@@ -1,0 +1,80 @@
+//! The lines of a text.
+
+ghost use Rattle.std.specs.Prelude.{◌≡◌, ℕ, ◌<◌, ◌==◌, List, [], ◌∷◌, length};
+ghost use Rattle.std.specs.List.{position_or_len};
+ghost use Rattle.std.specs.Iterator.{YieldsFirstBy, item_count};
+ghost use Rattle.gk_terms.specs.Text.{raw_lines_of, content_of};
+
+use std::marker::Model;
+
+/// The lines of a text, from the first, each with its line feed; the last may have none.
+/// A contract sees the bytes that are left.
+#[derive(Drop)]
+pub struct RawLines<'a> {
+    rest: &'a [u8],
+}
+
+impl<'a> Model for RawLines<'a> {
+    ghost use Rattle.std.specs.Prelude.{ℕ, List};
+
+    ghost Value = { List ℕ };
+
+    ghost view = { λ l. l.rest.now };
+}
+
+impl<'a> RawLines<'a> {
+    /// The lines of a text.
+    pub fn of(text: &'a [u8]) -> RawLines<'a>
+        ensures { result ≡ text.now }
+    {
+        RawLines { rest: text }
+    }
+}
+
+impl<'a> Iterator for RawLines<'a> {
+    type Item = &'a [u8];
+
+    ghost next_gives = { YieldsFirstBy (λ line. line.now) raw_lines_of };
+
+    ghost remaining = { item_count raw_lines_of };
+
+    fn next(&mut self) -> Option<&'a [u8]> {
+        if self.rest.is_empty() {
+            return None;
+        }
+        let (line, rest) = first_line(self.rest);
+        self.rest = rest;
+        Some(line)
+    }
+}
+
+/// The first line of a text, with its line feed, and what stands behind it.
+fn first_line(text: &[u8]) -> (&[u8], &[u8])
+    requires { 0 < length text.now }
+    ensures { raw_lines_of text.now ≡ result.0.now ∷ raw_lines_of result.1.now }
+{
+    let end = length_of_line(text);
+    if end < text.len() {
+        text.split_at(end + 1)
+    } else {
+        (text, &[])
+    }
+}
+
+/// How many bytes stand before the first line feed.
+fn length_of_line(text: &[u8]) -> usize
+    ensures { result ≡ position_or_len (λ b. b == 10) text.now }
+{
+    text.iter().take_while(|byte| **byte != b'\n').count()
+}
+
+/// What a line says: without its line feed and one carriage return just before that.
+/// A last line without line feed keeps its carriage return.
+pub fn content(line: &[u8]) -> &[u8]
+    ensures { result.now ≡ content_of line.now }
+{
+    match line {
+        [content @ .., b'\r', b'\n'] | [content @ .., b'\n'] => content,
+        _ => line,
+    }
+}

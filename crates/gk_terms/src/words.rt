@@ -1,0 +1,79 @@
+//! The words of a line.
+
+ghost use Rattle.std.specs.Prelude.{◌≡◌, ℕ, ◌<◌, List, [], ◌∷◌, ◌++◌, drop, length, false, slice_get, IfSome, MatchOption};
+ghost use Rattle.std.specs.List.{prefix_len, position_or_len};
+ghost use Rattle.std.specs.Iterator.{YieldsFirstBy, item_count};
+ghost use Rattle.gk_terms.specs.Text.{is_blank as is_blank_code, words_of, raw_lines_of, content_of};
+
+use std::marker::Model;
+
+/// The words of a line, from the left: its parts between spaces and tabs. A contract sees the bytes that are left.
+#[derive(Drop)]
+pub struct Words<'a> {
+    rest: &'a [u8],
+}
+
+impl<'a> Model for Words<'a> {
+    ghost use Rattle.std.specs.Prelude.{ℕ, List};
+
+    ghost Value = { List ℕ };
+
+    ghost view = { λ w. w.rest.now };
+}
+
+impl<'a> Words<'a> {
+    /// The words of a line.
+    pub fn of(line: &'a [u8]) -> Words<'a>
+        ensures { result ≡ line.now }
+    {
+        Words { rest: line }
+    }
+}
+
+impl<'a> Iterator for Words<'a> {
+    type Item = &'a [u8];
+
+    ghost next_gives = { YieldsFirstBy (λ w. w.now) words_of };
+
+    ghost remaining = { item_count words_of };
+
+    fn next(&mut self) -> Option<&'a [u8]> {
+        let (word, rest) = first_word(self.rest);
+        if word.is_empty() {
+            self.rest = &[];
+            return None;
+        }
+        self.rest = rest;
+        Some(word)
+    }
+}
+
+/// Whether a byte is a space or a tab.
+fn is_blank(byte: u8) -> bool
+    ensures { result ≡ is_blank_code byte }
+{
+    byte == b' ' || byte == b'\t'
+}
+
+/// The first word of the line, empty where there is none, and what stands behind it.
+fn first_word(line: &[u8]) -> (&[u8], &[u8])
+    ensures word { 0 < length result.0.now → words_of line.now ≡ result.0.now ∷ words_of result.1.now }
+    ensures none { length result.0.now ≡ 0 → words_of line.now ≡ [] }
+{
+    let (_, rest) = line.split_at(blanks_in_front(line));
+    rest.split_at(length_of_word(rest))
+}
+
+/// How many blanks the line begins with.
+fn blanks_in_front(line: &[u8]) -> usize
+    ensures { result ≡ prefix_len is_blank_code line.now }
+{
+    line.iter().take_while(|byte| is_blank(**byte)).count()
+}
+
+/// How many bytes stand before the first blank.
+fn length_of_word(line: &[u8]) -> usize
+    ensures { result ≡ position_or_len is_blank_code line.now }
+{
+    line.iter().take_while(|byte| !is_blank(**byte)).count()
+}

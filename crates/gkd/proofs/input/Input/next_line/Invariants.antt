@@ -1,0 +1,15 @@
+use Rattle.std.proofs.Common.{◌<◌, ◌≤◌, IsTrue}
+use Rattle.gkd.specs.Input.{work_left, left_of, AtEndIfEnded}
+use Rattle.gkd.proofs.LinesRead.{LineSoFar}
+use Rattle.gkd.proofs.input.Input.next_line.Given as goal
+
+abbrev pub invariant-loop-more : goal.invariant-loop-more
+invariant-loop-more g l = record {
+  work : work_left l.self ≤ work_left l.fn.self;
+  progress : IsTrue l.more → work_left l.self < work_left l.fn.self;
+  ended : AtEndIfEnded l.self (g.R.Read.remaining l.reader);
+  line : LineSoFar (left_of l.fn.self (g.R.Read.remaining l.fn.reader)) (left_of l.self (g.R.Read.remaining l.reader)) l.line l.more;
+}
+
+abbrev pub decreases-loop-more : goal.decreases-loop-more
+decreases-loop-more g l = work_left l.self

@@ -1,0 +1,14 @@
+pub mod Endpoint
+pub mod Faults
+pub mod Fields
+pub mod Input
+pub mod Limits
+pub mod Machine
+pub mod Registration
+pub mod Replies
+pub mod Requests
+pub mod Routing
+pub mod Run
+pub mod Session
+pub mod State
+pub mod TablesIndex

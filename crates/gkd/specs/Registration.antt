@@ -1,0 +1,51 @@
+-- A list of endpoints: who is found, who may register, and what a registration changes.
+use Rattle.std.specs.Prelude.{ℕ, ◌+◌, ◌==◌, Bool, true, false, not, ◌&&◌, List, [], ◌∷◌, ◌++◌, take, drop, find, Option, Some, None, Result, Ok, Err, codes, bytes_eq, unwrap_or, if◌then◌else◌}
+use Rattle.std.specs.List.{list_any, position_or_len}
+use Rattle.gk_terms.specs.Address.{AddressParts}
+use Rattle.command_reader.specs.declared.commands.Command.{Command}
+use Rattle.command_reader.specs.Zones.{Zone, zone_of, first_local_of, is_local_zone}
+use Rattle.gkd.specs.Endpoint.{EndpointParts, has_alias, share_alias}
+
+-- whether the name is that of a local zone
+abbrev pub is_local_option : Option Zone → Bool
+is_local_option None = false
+is_local_option (Some zone) = is_local_zone zone
+
+abbrev pub is_local : List Command → List ℕ → Bool
+is_local lines name = is_local_option (zone_of lines name)
+
+-- the endpoint with this ID
+abbrev pub has_id : List ℕ → EndpointParts → Bool
+has_id id e = bytes_eq e.id id
+
+abbrev pub endpoint_of : List EndpointParts → List ℕ → Option EndpointParts
+endpoint_of endpoints id = find (has_id id) endpoints
+
+-- the endpoint of that zone with that alias
+abbrev pub by_alias : List EndpointParts → List ℕ → List ℕ → Option EndpointParts
+by_alias endpoints zone number = find (λ e. bytes_eq e.zone zone && has_alias e number) endpoints
+
+-- the zone `-` is the first local one
+abbrev pub zone_meant : List Command → List ℕ → List ℕ
+zone_meant lines zone = if bytes_eq zone (codes "-") then unwrap_or (first_local_of lines) zone else zone
+
+-- the endpoint in the zone that it means
+abbrev pub placed : List Command → EndpointParts → EndpointParts
+placed lines e = record e { zone = zone_meant lines e.zone }
+
+abbrev pub same_address : AddressParts → AddressParts → Bool
+same_address a b = bytes_eq a.ip b.ip && (a.port == b.port)
+
+-- this ID is registered from another address
+abbrev pub id_is_taken : List EndpointParts → EndpointParts → Bool
+id_is_taken endpoints e = list_any (λ f. has_id e.id f && not (same_address f.address e.address)) endpoints
+
+-- an alias belongs to another endpoint, in whatever zone
+abbrev pub alias_is_taken : List EndpointParts → EndpointParts → Bool
+alias_is_taken endpoints e = list_any (λ f. not (has_id e.id f) && share_alias f e) endpoints
+
+-- the endpoint in the place of the one with its ID, or else at the end
+abbrev pub with_endpoint : List EndpointParts → EndpointParts → List EndpointParts
+with_endpoint endpoints e =
+    let place = position_or_len (has_id e.id) endpoints in
+    take place endpoints ++ e ∷ drop (place + 1) endpoints

@@ -1,0 +1,61 @@
+-- Replies as texts, without their line feed. Each stands as its parts, with a space between each two.
+use Rattle.std.specs.Prelude.{ℕ, List, [], ◌∷◌, codes, decimal}
+use Rattle.gk_terms.specs.Text.{spaced}
+use Rattle.gk_terms.specs.Address.{address_text}
+use Rattle.gk_terms.specs.Reason.{word_of}
+use Rattle.gk_terms.specs.declared.reasons.Reason.TheVariants.{CalledPartyNotRegistered, ResourceUnavailable, UndefinedReason, CallerNotRegistered as CallerNotRegisteredReason, DuplicateAlias as DuplicateAliasReason}
+use Rattle.gkd.specs.Faults.{fault_word}
+use Rattle.gkd.specs.declared.replies.Destination.{Destination}
+use Rattle.gkd.specs.declared.replies.Destination.TheVariants.{Gateway, Terminal, Zone}
+use Rattle.gkd.specs.declared.replies.Duplicate.{Duplicate}
+use Rattle.gkd.specs.declared.replies.Duplicate.TheVariants.{Id, E164}
+use Rattle.gkd.specs.declared.replies.RegisterRefusal.{RegisterRefusal}
+use Rattle.gkd.specs.declared.replies.RegisterRefusal.TheVariants.{UnknownZone, DuplicateAlias, NoMemory as NoMemoryToRegister}
+use Rattle.gkd.specs.declared.replies.RouteRefusal.{RouteRefusal}
+use Rattle.gkd.specs.declared.replies.RouteRefusal.TheVariants.{NoDefault}
+use Rattle.gkd.specs.declared.replies.AdmitRefusal.{AdmitRefusal}
+use Rattle.gkd.specs.declared.replies.AdmitRefusal.TheVariants.{CallerNotRegistered, NoRoute, NoMemory as NoMemoryToAdmit}
+use Rattle.gkd.specs.declared.replies.Reply.{Reply}
+use Rattle.gkd.specs.declared.replies.Reply.TheVariants.{Registered, RegisterRefused, Admitted, AdmitRefused}
+use Rattle.gkd.specs.declared.replies.Answer.{Answer}
+use Rattle.gkd.specs.declared.replies.Answer.TheVariants.{Core, Malformed}
+
+-- ---- destinations
+abbrev pub destination_text : Destination → List ℕ
+destination_text (Gateway id address) = spaced (codes "GW" ∷ id ∷ address_text address ∷ [])
+destination_text (Terminal id address) = spaced (codes "TERM" ∷ id ∷ address_text address ∷ [])
+destination_text (Zone name address) = spaced (codes "ZONE" ∷ name ∷ address_text address ∷ [])
+
+-- ---- why a registration is refused
+abbrev pub duplicate_word : Duplicate → List ℕ
+duplicate_word Id = codes "id"
+duplicate_word E164 = codes "e164"
+
+abbrev pub register_refusal_text : RegisterRefusal → List ℕ
+register_refusal_text UnknownZone = spaced (word_of UndefinedReason ∷ codes "unknown-zone" ∷ [])
+register_refusal_text (DuplicateAlias duplicate) = spaced (word_of DuplicateAliasReason ∷ duplicate_word duplicate ∷ [])
+register_refusal_text NoMemoryToRegister = spaced (word_of UndefinedReason ∷ codes "no-memory" ∷ [])
+
+-- ---- why an admission is refused
+abbrev pub route_refusal_word : RouteRefusal → List ℕ
+route_refusal_word NoDefault = codes "no-default"
+
+abbrev pub admit_refusal_text : AdmitRefusal → List ℕ
+admit_refusal_text CallerNotRegistered = word_of CallerNotRegisteredReason
+admit_refusal_text (NoRoute refusal) = spaced (word_of CalledPartyNotRegistered ∷ route_refusal_word refusal ∷ [])
+admit_refusal_text NoMemoryToAdmit = spaced (word_of ResourceUnavailable ∷ codes "no-memory" ∷ [])
+
+-- ---- replies
+abbrev pub reply_parts : ℕ → Reply → List (List ℕ)
+reply_parts sequence (Registered id zone) = codes "RCF" ∷ decimal sequence ∷ id ∷ zone ∷ []
+reply_parts sequence (RegisterRefused id reason) = codes "RRJ" ∷ decimal sequence ∷ id ∷ register_refusal_text reason ∷ []
+reply_parts sequence (Admitted call destination units) = codes "ACF" ∷ decimal sequence ∷ decimal call ∷ destination_text destination ∷ decimal units ∷ []
+reply_parts sequence (AdmitRefused call reason) = codes "ARJ" ∷ decimal sequence ∷ decimal call ∷ admit_refusal_text reason ∷ []
+
+abbrev pub answer_parts : Answer → List (List ℕ)
+answer_parts (Core sequence reply) = reply_parts sequence reply
+answer_parts (Malformed fault) = codes "ERR" ∷ fault_word fault ∷ []
+
+-- an answer's line, without its line feed
+abbrev pub text_of : Answer → List ℕ
+text_of answer = spaced (answer_parts answer)

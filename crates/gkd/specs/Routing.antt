@@ -1,0 +1,69 @@
+-- Where a call goes: what the lines say of the dialled digits, and then the endpoints of the target zone.
+use Rattle.std.specs.Prelude.{ℕ, List, [], ◌∷◌, Option, Some, None}
+use Rattle.std.specs.List.{filter_map}
+use Rattle.digit_patterns.specs.PatternParts.{PatternParts}
+use Rattle.digit_patterns.specs.Table.{best_of}
+use Rattle.command_reader.specs.declared.commands.Command.{Command}
+use Rattle.command_reader.specs.declared.commands.Command.TheVariants.{ZoneLocal, ZoneRemote, ZonePrefix}
+use Rattle.command_reader.specs.Zones.{Zone, zone_of}
+use Rattle.command_reader.specs.Zones.{Local as LocalZone, Remote as RemoteZone}
+use Rattle.gkd.specs.declared.tables.Plan.{Plan}
+use Rattle.gkd.specs.declared.tables.Plan.TheVariants.{Remote, Local, Caller}
+use Rattle.gkd.specs.declared.endpoints.EndpointKind.{EndpointKind}
+use Rattle.gkd.specs.declared.endpoints.EndpointKind.TheVariants.{Gateway, Terminal}
+use Rattle.gkd.specs.declared.replies.Destination.{Destination}
+use Rattle.gkd.specs.declared.replies.Destination.TheVariants.{Gateway as ToGateway, Terminal as ToTerminal, Zone as ToZone}
+use Rattle.gkd.specs.Endpoint.{EndpointParts}
+use Rattle.gkd.specs.Registration.{by_alias}
+
+-- a pattern with the zone of its line
+abbrev pub Row : Type 0
+Row = PatternParts × List ℕ
+
+abbrev pub row_in : Command → Option Row
+row_in (ZoneLocal name domain address) = None
+row_in (ZoneRemote name domain address) = None
+row_in (ZonePrefix zone pattern) = Some (pattern, zone)
+
+-- the rows of the `zone prefix` lines, in line order
+abbrev pub rows_of : List Command → List Row
+rows_of lines = filter_map row_in lines
+
+-- the row of the longest pattern that matches the text; of several lines for one pattern, the first
+abbrev pub row_for : List Command → List ℕ → Option Row
+row_for lines text = best_of (rows_of lines) text
+
+-- a zone as the target. In an accepted configuration no line names a zone that no line declares
+abbrev pub plan_to : List ℕ → Option Zone → Plan
+plan_to zone None = Caller
+plan_to zone (Some LocalZone) = Local zone
+plan_to zone (Some (RemoteZone address)) = Remote zone address
+
+-- the zone of a row, else the caller's zone
+abbrev pub plan_by : List Command → Option Row → Plan
+plan_by lines None = Caller
+plan_by lines (Some row) = plan_to row.1 (zone_of lines row.1)
+
+-- what the lines alone say of the dialled digits
+unfoldable pub plan_of : List Command → List ℕ → Plan
+plan_of lines text = plan_by lines (row_for lines text)
+
+-- an endpoint as the destination, by its registered kind
+abbrev pub to_kind : EndpointKind → EndpointParts → Destination
+to_kind Gateway e = ToGateway e.id e.address
+to_kind Terminal e = ToTerminal e.id e.address
+
+-- the endpoint of the target zone that has the digits as an alias, or none
+abbrev pub to_alias : Option EndpointParts → Option Destination
+to_alias None = None
+to_alias (Some e) = Some (to_kind e.kind e)
+
+-- where the plan leads a caller of this zone
+abbrev pub route_to : List EndpointParts → List ℕ → List ℕ → Plan → Option Destination
+route_to endpoints caller text (Remote zone address) = Some (ToZone zone address)
+route_to endpoints caller text (Local zone) = to_alias (by_alias endpoints zone text)
+route_to endpoints caller text Caller = to_alias (by_alias endpoints caller text)
+
+-- where a call of a caller of this zone goes; nothing where no endpoint has the digits
+unfoldable pub route_of : List Command → List EndpointParts → List ℕ → List ℕ → Option Destination
+route_of lines endpoints caller text = route_to endpoints caller text (plan_of lines text)

@@ -1,0 +1,61 @@
+//! Why a run ends early.
+
+use command_reader::LineFault;
+use std::alloc::AllocError;
+use thiserror::Error;
+
+/// Why a session ended before the end of its input.
+#[derive(Clone, Copy, Debug, PartialEq, Eq, Error)]
+pub enum SessionFault {
+    /// The reader failed.
+    #[error("session fault")]
+    ReadFault,
+    /// The writer failed, or took no byte.
+    #[error("session fault")]
+    WriteFault,
+    /// Memory was refused for the session's buffers.
+    #[error("no memory")]
+    NoMemory,
+    /// The session has called its reader as often as it may.
+    #[error("session fault")]
+    TurnsSpent,
+}
+
+/// Why a run ended before the end of its input.
+#[derive(Clone, Copy, Debug, PartialEq, Eq, Error)]
+pub enum RunFault {
+    /// A limit is 0 or above the stated one. The reader was not touched.
+    #[error("bad limits")]
+    BadLimits,
+    /// The configuration is refused. Nothing was written.
+    #[error("{0}")]
+    Config(LineFault),
+    /// The session ended at a fault.
+    #[error("{0}")]
+    Session(SessionFault),
+    /// Memory was refused between the configuration and the requests. Nothing was written.
+    #[error("no memory")]
+    NoMemory,
+}
+
+impl From<SessionFault> for RunFault {
+    ghost use Rattle.std.specs.Prelude.{◌≡◌};
+    ghost use Rattle.gkd.specs.declared.faults.RunFault.TheVariants.{Session};
+
+    ghost from_gives = { λ fault run. run ≡ Session fault };
+
+    fn from(fault: SessionFault) -> RunFault {
+        RunFault::Session(fault)
+    }
+}
+
+impl From<AllocError> for RunFault {
+    ghost use Rattle.std.specs.Prelude.{◌≡◌};
+    ghost use Rattle.gkd.specs.declared.faults.RunFault.TheVariants.{NoMemory};
+
+    ghost from_gives = { λ _ run. run ≡ NoMemory };
+
+    fn from(_refused: AllocError) -> RunFault {
+        RunFault::NoMemory
+    }
+}

@@ -1,0 +1,49 @@
+//! `gkd`: the gatekeeper. It reads a configuration and then requests from standard input, and writes a reply to each
+//! request on standard output.
+#![tactic(auto)]
+
+pub mod endpoints;
+pub mod faults;
+pub mod input;
+pub mod limits;
+pub mod line;
+pub mod machine;
+pub mod registry;
+pub mod replies;
+#[cfg(test)]
+mod reply_tests;
+pub mod request_faults;
+mod request_fields;
+pub mod request_lines;
+#[cfg(test)]
+mod request_tests;
+pub mod requests;
+pub mod run;
+#[cfg(test)]
+mod run_tests;
+pub mod session;
+pub mod tables;
+
+use faults::RunFault;
+use std::process::ExitCode;
+use std::{env, io};
+
+fn main(rt: HostRuntime) -> io::Result<ExitCode> {
+    if env::args(&rt)?.count() > 1 {
+        eprintln!(rt; "usage: gkd < INPUT, without words")?;
+        return Ok(ExitCode::from(2));
+    }
+    let mut reader = rt.reader();
+    let mut writer = io::writer(&rt);
+    match run::run_over(rt.alloc(), limits::STATED, &mut reader, &mut writer) {
+        Ok(_) => Ok(ExitCode::SUCCESS),
+        Err(RunFault::Config(fault)) => {
+            println!(rt; "{fault}")?;
+            Ok(ExitCode::from(1))
+        }
+        Err(fault) => {
+            eprintln!(rt; "gkd: {fault}")?;
+            Ok(ExitCode::from(1))
+        }
+    }
+}

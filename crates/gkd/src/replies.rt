@@ -1,0 +1,198 @@
+//! Replies, and how they are printed.
+
+use crate::request_faults::RequestFault;
+use gk_terms::{Address, Name, Reason, Units};
+use std::fmt;
+
+/// Where an admitted call leads.
+#[derive(Clone, Copy, Debug, PartialEq, Eq)]
+pub enum Destination {
+    /// A registered gateway, at its call signalling address.
+    Gateway { id: Name, address: Address },
+    /// A registered terminal, at its call signalling address.
+    Terminal { id: Name, address: Address },
+    /// A zone of another gatekeeper, at that gatekeeper's RAS address.
+    Zone { name: Name, address: Address },
+}
+
+/// What another endpoint has already.
+#[derive(Clone, Copy, Debug, PartialEq, Eq)]
+pub enum Duplicate {
+    /// The ID.
+    Id,
+    /// An E.164 alias.
+    E164,
+}
+
+/// Why a registration is refused. Which case has which of H.225.0's reasons is this project's profile.
+#[derive(Clone, Copy, Debug, PartialEq, Eq)]
+pub enum RegisterRefusal {
+    /// The zone is no local zone: undefinedReason.
+    UnknownZone,
+    /// Another endpoint has the ID or an alias: duplicateAlias.
+    DuplicateAlias(Duplicate),
+    /// Memory was refused: undefinedReason.
+    NoMemory,
+}
+
+/// Why dialled digits lead nowhere.
+#[derive(Clone, Copy, Debug, PartialEq, Eq)]
+pub enum RouteRefusal {
+    /// No endpoint has them, and no zone or gateway takes what matches nothing.
+    NoDefault,
+}
+
+/// Why an admission is refused. Which case has which of H.225.0's reasons is this project's profile.
+#[derive(Clone, Copy, Debug, PartialEq, Eq)]
+pub enum AdmitRefusal {
+    /// The caller is no registered endpoint: callerNotRegistered.
+    CallerNotRegistered,
+    /// The dialled digits lead nowhere: calledPartyNotRegistered.
+    NoRoute(RouteRefusal),
+    /// Memory was refused: resourceUnavailable.
+    NoMemory,
+}
+
+/// What is replied to a request.
+#[derive(Clone, Copy, Debug, PartialEq, Eq)]
+pub enum Reply {
+    /// `RCF`, H.225.0's registration confirm, with the zone in which the endpoint is registered.
+    Registered {
+        id: Name,
+        zone: Name,
+    },
+    /// `RRJ`, H.225.0's registration reject.
+    RegisterRefused {
+        id: Name,
+        reason: RegisterRefusal,
+    },
+    /// `ACF`, H.225.0's admission confirm, with the bandwidth in units of 100 bit/s.
+    Admitted {
+        call: u32,
+        destination: Destination,
+        units: Units,
+    },
+    /// `ARJ`, H.225.0's admission reject.
+    AdmitRefused {
+        call: u32,
+        reason: AdmitRefusal,
+    },
+}
+
+/// What is answered to a line. It prints as that line's reply, without a line feed:
+/// words with one space between each two, the second, but for `ERR`, being the request's sequence number.
+#[derive(Clone, Copy, Debug, PartialEq, Eq)]
+pub enum Answer {
+    /// The reply to a request.
+    Core {
+        /// The sequence number of the request, 1 to 65535.
+        sequence: u32,
+        /// What is replied.
+        reply: Reply,
+    },
+    /// `ERR` and the word of the fault, of this project: the line is no request.
+    Malformed(RequestFault),
+}
+
+impl fmt::Display for Destination {
+    ghost use Rattle.std.specs.Prelude.{Some};
+    ghost use Rattle.gkd.specs.Replies.{destination_text};
+
+    ghost output = { λ destination. Some (destination_text destination) };
+
+    fn fmt<W: fmt::Write>(&self, f: &mut fmt::Formatter<W>) -> fmt::Result {
+        match self {
+            Destination::Gateway { id, address } => write!(f, "GW {id} {address}"),
+            Destination::Terminal { id, address } => write!(f, "TERM {id} {address}"),
+            Destination::Zone { name, address } => write!(f, "ZONE {name} {address}"),
+        }
+    }
+}
+
+impl fmt::Display for Duplicate {
+    ghost use Rattle.std.specs.Prelude.{Some};
+    ghost use Rattle.gkd.specs.Replies.{duplicate_word};
+
+    ghost output = { λ duplicate. Some (duplicate_word duplicate) };
+
+    fn fmt<W: fmt::Write>(&self, f: &mut fmt::Formatter<W>) -> fmt::Result {
+        match self {
+            Duplicate::Id => f.write_str("id"),
+            Duplicate::E164 => f.write_str("e164"),
+        }
+    }
+}
+
+impl fmt::Display for RegisterRefusal {
+    ghost use Rattle.std.specs.Prelude.{Some};
+    ghost use Rattle.gkd.specs.Replies.{register_refusal_text};
+
+    ghost output = { λ refusal. Some (register_refusal_text refusal) };
+
+    fn fmt<W: fmt::Write>(&self, f: &mut fmt::Formatter<W>) -> fmt::Result {
+        match self {
+            RegisterRefusal::UnknownZone => {
+                write!(f, "{} unknown-zone", Reason::UndefinedReason)
+            }
+            RegisterRefusal::DuplicateAlias(duplicate) => {
+                write!(f, "{} {duplicate}", Reason::DuplicateAlias)
+            }
+            RegisterRefusal::NoMemory => write!(f, "{} no-memory", Reason::UndefinedReason),
+        }
+    }
+}
+
+impl fmt::Display for RouteRefusal {
+    ghost use Rattle.std.specs.Prelude.{Some};
+    ghost use Rattle.gkd.specs.Replies.{route_refusal_word};
+
+    ghost output = { λ refusal. Some (route_refusal_word refusal) };
+
+    fn fmt<W: fmt::Write>(&self, f: &mut fmt::Formatter<W>) -> fmt::Result {
+        match self {
+            RouteRefusal::NoDefault => f.write_str("no-default"),
+        }
+    }
+}
+
+impl fmt::Display for AdmitRefusal {
+    ghost use Rattle.std.specs.Prelude.{Some};
+    ghost use Rattle.gkd.specs.Replies.{admit_refusal_text};
+
+    ghost output = { λ refusal. Some (admit_refusal_text refusal) };
+
+    fn fmt<W: fmt::Write>(&self, f: &mut fmt::Formatter<W>) -> fmt::Result {
+        match self {
+            AdmitRefusal::CallerNotRegistered => write!(f, "{}", Reason::CallerNotRegistered),
+            AdmitRefusal::NoRoute(refusal) => {
+                write!(f, "{} {refusal}", Reason::CalledPartyNotRegistered)
+            }
+            AdmitRefusal::NoMemory => write!(f, "{} no-memory", Reason::ResourceUnavailable),
+        }
+    }
+}
+
+impl fmt::Display for Answer {
+    ghost use Rattle.std.specs.Prelude.{Some};
+    ghost use Rattle.gkd.specs.Replies.{text_of};
+
+    ghost output = { λ answer. Some (text_of answer) };
+
+    fn fmt<W: fmt::Write>(&self, f: &mut fmt::Formatter<W>) -> fmt::Result {
+        match self {
+            Answer::Core { sequence, reply } => match reply {
+                Reply::Registered { id, zone } => write!(f, "RCF {sequence} {id} {zone}"),
+                Reply::RegisterRefused { id, reason } => write!(f, "RRJ {sequence} {id} {reason}"),
+                Reply::Admitted {
+                    call,
+                    destination,
+                    units,
+                } => write!(f, "ACF {sequence} {call} {destination} {units}"),
+                Reply::AdmitRefused { call, reason } => {
+                    write!(f, "ARJ {sequence} {call} {reason}")
+                }
+            },
+            Answer::Malformed(fault) => write!(f, "ERR {}", fault.word()),
+        }
+    }
+}

@@ -1,0 +1,130 @@
+//! A run: a configuration, and then requests.
+
+ghost use Rattle.std.specs.Prelude.{◌≡◌, ◌≤◌, ◌↔◌, false, Err, IfOk, OnOk, IsErrOf};
+ghost use Rattle.std.specs.Io.KnownBytes.{IsAtEnd};
+ghost use Rattle.gk_terms.specs.Text.{words_of};
+ghost use Rattle.gkd.specs.Input.{work_left, left_of, AtEndIfEnded};
+ghost use Rattle.gkd.specs.Limits.{are_limits};
+ghost use Rattle.gkd.specs.Run.{ends_configuration, is_end_alone as is_end_alone_of, ContinuesWith, ReadsOut, ReadsConfiguration, WritesRun, IsRefusedBy};
+
+use crate::faults::{RunFault, SessionFault};
+use crate::input::Input;
+use crate::limits::Limits;
+use crate::line::Line;
+use crate::machine::Machine;
+use crate::session::session;
+use crate::tables::Tables;
+use command_reader::{Commands, Draft, LineFault};
+use gk_terms::limits::MOST_LINE_BYTES;
+use gk_terms::words::Words;
+use std::alloc::Global;
+use std::io::{Read, Write};
+
+/// How often a run may call its reader.
+const MOST_TURNS: u32 = u32::MAX;
+
+/// Reads a configuration up to the first line whose only word is `end`, or to the end of the input, and then answers
+/// the requests that follow to the end of the input. The answer is how many replies were written.
+///
+/// `BadLimits` comes before the reader is touched. `Config` comes once the configuration's last line was read; a
+/// fault of reading before that is `Session`. Nothing is written before the configuration is accepted.
+pub fn run_over<R: Read, W: Write>(
+    alloc: Global,
+    limits: Limits,
+    reader: &mut R,
+    writer: &mut W,
+) -> Result<u64, RunFault>
+    // Ok comes only at the end of the input. Then the configuration was accepted, and what was written is the replies
+    // of a run of the machine to the requests behind it, each in its order, and nothing else, however the reader cut
+    // the bytes into pieces. The number is that of the replies.
+    ensures end { OnOk result (IsAtEnd (R.remaining reader.new)) }
+    ensures written { IfOk result (λ count. WritesRun (R.remaining reader.old) (W.contents writer.old) (W.contents writer.new) count) }
+
+    // `Config` names the configuration's first fault, or want of memory, and nothing was written.
+    ensures config { (fault : _) → result ≡ Err (RunFault.Config fault) → IsRefusedBy (R.remaining reader.old) fault }
+    ensures unwritten { (fault : _) → result ≡ Err (RunFault.Config fault) → writer.new ≡ writer.old }
+
+    // `BadLimits` comes exactly for limits outside their ranges, and then the reader and the writer are as they were.
+    ensures limits { IsErrOf result RunFault.BadLimits ↔ (are_limits limits ≡ false) }
+    ensures untouched { are_limits limits ≡ false → (reader.new ≡ reader.old) × (writer.new ≡ writer.old) }
+{
+    if !limits.are_good() {
+        return Err(RunFault::BadLimits);
+    }
+    let mut input = Input::new(MOST_TURNS);
+    let commands = match configuration(alloc, &mut input, reader)? {
+        Ok(commands) => commands,
+        Err(fault) => return Err(RunFault::Config(fault)),
+    };
+    let tables = Tables::compile(alloc, commands)?;
+    let mut machine = Machine::new(alloc, tables);
+    let replies = session(alloc, &mut input, reader, writer, &mut machine)?;
+    Ok(replies)
+}
+
+/// The configuration at the front of the input, or its first fault. All its lines are read in both cases.
+fn configuration<R: Read>(
+    alloc: Global,
+    input: &mut Input,
+    reader: &mut R,
+) -> Result<Result<Commands, LineFault>, SessionFault>
+    requires { AtEndIfEnded input.old (R.remaining reader.old) }
+    ensures read { IfOk result (λ answer. ReadsConfiguration (left_of input.old (R.remaining reader.old)) (left_of input.new (R.remaining reader.new)) answer) }
+    ensures work { work_left input.new ≤ work_left input.old }
+    ensures ended { AtEndIfEnded input.new (R.remaining reader.new) }
+{
+    match configuration_lines(alloc, input, reader)? {
+        Ok(draft) => Ok(draft.finish()),
+        Err(fault) => Ok(Err(fault)),
+    }
+}
+
+/// The lines of the configuration, or the first fault that a line has for itself. All its lines are read in both cases.
+fn configuration_lines<R: Read>(
+    alloc: Global,
+    input: &mut Input,
+    reader: &mut R,
+) -> Result<Result<Draft, LineFault>, SessionFault>
+    requires { AtEndIfEnded input.old (R.remaining reader.old) }
+    ensures read { IfOk result (λ read. ReadsOut (left_of input.old (R.remaining reader.old)) (left_of input.new (R.remaining reader.new)) read) }
+    ensures work { work_left input.new ≤ work_left input.old }
+    ensures ended { AtEndIfEnded input.new (R.remaining reader.new) }
+{
+    let mut line = Line::new();
+    let mut read = Ok(Draft::new(alloc));
+    while input.next_line(reader, &mut line)? {
+        read = with_line(read, line.content());
+        if is_end(line.content()) {
+            return Ok(read);
+        }
+    }
+    Ok(read)
+}
+
+#[tactic(auto, using(crate::proofs::RunLemmas::continues_with))]
+/// What was read, with one more line; the first fault stays.
+fn with_line(read: Result<Draft, LineFault>, line: &[u8]) -> Result<Draft, LineFault>
+    ensures { ContinuesWith read line.now result }
+{
+    match read {
+        Ok(draft) => draft.with_line(line),
+        Err(fault) => Err(fault),
+    }
+}
+
+/// Whether a line ends the configuration: it has at most 512 bytes, and its only word is `end`.
+fn is_end(line: &[u8]) -> bool
+    ensures { result ≡ ends_configuration line.now }
+{
+    line.len() <= MOST_LINE_BYTES && is_end_alone(&mut Words::of(line))
+}
+
+/// Whether the only word is `end`.
+fn is_end_alone(words: &mut Words<'_>) -> bool
+    ensures { result ≡ is_end_alone_of (words_of words.old) }
+{
+    match words.next() {
+        Some(b"end") => words.next().is_none(),
+        _ => false,
+    }
+}

@@ -1,0 +1,97 @@
+//! A session: requests in, replies out.
+
+ghost use Rattle.std.specs.Prelude.{◌≡◌, ◌^◌, ◌<◌, IfOk, OnOk};
+ghost use Rattle.std.specs.Io.KnownBytes.{Appends, IsAtEnd};
+ghost use Rattle.gkd.specs.Input.{work_left, left_of, AtEndIfEnded};
+ghost use Rattle.gkd.specs.Session.{line_of_answer, asked_in, AnswersLine, IsAnswerTo, WritesSession};
+
+use crate::faults::SessionFault;
+use crate::input::Input;
+use crate::line::Line;
+use crate::machine::Machine;
+use crate::replies::{Answer, RegisterRefusal, Reply};
+use crate::request_faults::Unread;
+use crate::request_lines::request_in;
+use std::alloc::Global;
+use std::io::{Read, Write};
+
+/// How many bytes the longest reply has room for without growing the buffer.
+const REPLY_BYTES: usize = 1_024;
+
+/// Answers the requests of the input to its end, and says how many replies were written.
+pub fn session<R: Read, W: Write>(
+    alloc: Global,
+    input: &mut Input,
+    reader: &mut R,
+    writer: &mut W,
+    machine: &mut Machine,
+) -> Result<u64, SessionFault>
+    requires counted { work_left input.old < 2 ^ 63 }
+    requires ended { AtEndIfEnded input.old (R.remaining reader.old) }
+    ensures end { OnOk result (IsAtEnd (R.remaining reader.new)) }
+    ensures written { IfOk result (λ count. WritesSession (left_of input.old (R.remaining reader.old))
+        machine.old machine.new (W.contents writer.old) (W.contents writer.new) count) }
+{
+    let mut line = Line::new();
+    let Ok(mut reply) = Vec::with_capacity(alloc, REPLY_BYTES) else {
+        return Err(SessionFault::NoMemory);
+    };
+    let mut replies = 0u64;
+    while input.next_line(reader, &mut line)? {
+        match answer_to(alloc, line.content(), machine) {
+            None => {}
+            Some(answer) => {
+                send(&mut reply, writer, answer)?;
+                replies += 1;
+            }
+        }
+    }
+    Ok(replies)
+}
+
+/// The answer to a line; nothing to a blank one.
+fn answer_to(alloc: Global, line: &[u8], machine: &mut Machine) -> Option<Answer>
+    ensures { AnswersLine machine.old (asked_in line.now) result machine.new }
+{
+    match request_in(alloc, line) {
+        Ok(None) => None,
+        Ok(Some(request)) => Some(machine.answer(request)),
+        Err(unread) => Some(answer_to_unread(unread)),
+    }
+}
+
+/// The answer to a line that could not be read.
+fn answer_to_unread(unread: Unread) -> Answer
+    ensures { IsAnswerTo unread result }
+{
+    match unread {
+        Unread::Fault(fault) => Answer::Malformed(fault),
+        Unread::NoMemory { sequence, id } => {
+            let reason = RegisterRefusal::NoMemory;
+            let reply = Reply::RegisterRefused { id, reason };
+            Answer::Core { sequence, reply }
+        }
+    }
+}
+
+/// Writes an answer as one line, in one call of the writer where it takes the whole.
+fn send<W: Write>(reply: &mut Vec<u8>, writer: &mut W, answer: Answer) -> Result<(), SessionFault>
+    ensures { OnOk result (Appends (W.contents writer.old) (W.contents writer.new) (line_of_answer answer)) }
+{
+    render(reply, answer)?;
+    match writer.write_all(reply) {
+        Ok(()) => Ok(()),
+        Err(_) => Err(SessionFault::WriteFault),
+    }
+}
+
+/// Makes the line of an answer in place of what the buffer held.
+fn render(reply: &mut Vec<u8>, answer: Answer) -> Result<(), SessionFault>
+    ensures { OnOk result (reply.new.items ≡ line_of_answer answer) }
+{
+    reply.clear();
+    match writeln!(reply, "{answer}") {
+        Ok(()) => Ok(()),
+        Err(_) => Err(SessionFault::WriteFault),
+    }
+}
