@@ -17,7 +17,7 @@ use std::alloc::Global;
 /// then its fields from the left; then a zone that an earlier line declared is `DuplicateZone`, and the 1,025th
 /// zone `TooMany`. Only where no line has such a fault, the first line that names a zone which no line declares is
 /// `UnknownZone`. Only where there is none, a configuration without a local zone is `NoLocalZone`, one behind its
-/// last line. Where memory is refused, the answer is `NoMemory` at the line that was read then.
+/// last line. Where memory is refused, the answer is `NoMemory`; the contract leaves open which line it names.
 #[tactic(auto, unfolding(crate::specs::Reading::reading_of))]
 pub fn read(alloc: Global, bytes: &[u8]) -> Result<Commands, LineFault>
     ensures { ReadsAs bytes.now result }
