@@ -1,3 +1,4 @@
 pub mod IndexLemmas
 pub mod LocalZones
+pub mod MemoryLemmas
 pub mod PlainLemmas

@@ -1,9 +1,10 @@
 -- The names of declared zones, kept for look-ups.
-use Rattle.std.specs.Prelude.{◌≡◌, ℕ, List, ◌∷◌, length, Option, bytes_eq, option_and_then, MatchOption}
+use Rattle.std.specs.Prelude.{◌≡◌, ◌⊎◌, ℕ, List, ◌∷◌, length, Option, Some, None, bytes_eq, option_and_then, MatchOption}
 use Rattle.std.specs.List.{list_any}
 use Rattle.std.specs.List.Sorted.{IsPermutation}
 use Rattle.command_reader.specs.declared.commands.Command.{Command}
 use Rattle.command_reader.specs.declared.faults.FaultKind.{FaultKind}
+use Rattle.command_reader.specs.declared.faults.FaultKind.TheVariants.{NoMemory}
 use Rattle.command_reader.specs.Zones.{zones_of, declared_by, is_declared}
 use Rattle.command_reader.specs.Reading.{fault_of_name}
 
@@ -16,6 +17,10 @@ pub record AreDeclared (names : List (List ℕ)) (lines : List Command) : Type 0
 abbrev pub fault_by_names : List (List ℕ) → Command → Option FaultKind
 fault_by_names names command =
     option_and_then (λ zone. fault_of_name (list_any (bytes_eq zone.0) names) (length names)) (declared_by command)
+
+-- why a command is not added: its fault, or want of memory where it has none
+abbrev pub IsRefusedFor : Option FaultKind → FaultKind → Type 0
+IsRefusedFor fault kind = (fault ≡ Some kind) ⊎ ((kind ≡ NoMemory) × (fault ≡ None))
 
 -- new has the name that the command declares, if it declares one, beside those of old
 abbrev pub AddsDeclared : List (List ℕ) → List (List ℕ) → Command → Type 0

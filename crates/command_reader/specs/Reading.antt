@@ -99,6 +99,29 @@ nothing_read = record { kept = []; passed = 0 }
 unfoldable pub reading_of : List ℕ → Result Configuration LineFault
 reading_of bytes = whole_of (lines_after nothing_read (lines_of bytes))
 
--- what a reader of these bytes may answer: what they say; or want of memory, at some line
+-- ---- want of memory
+-- the line says a command that is kept, and want of memory is answered in its place
+abbrev pub LacksMemoryFor : Progress → List ℕ → FaultKind → Type 0
+LacksMemoryFor before line kind = (kind ≡ NoMemory) × ((command : Command) × (line_after before line ≡ Ok (with_command before command)))
+
+-- memory was refused at one of these lines: those before it were read without a fault, it says a command that is
+-- kept, and it is the one that is named
+pub record LacksMemory (before : Progress) (lines : List (List ℕ)) (fault : LineFault) : Type 0 where
+  pub front : List (List ℕ)
+  pub line : List ℕ
+  pub rest : List (List ℕ)
+  pub split : lines ≡ front ++ line ∷ rest
+  pub read : Progress
+  pub well : lines_after before front ≡ Ok read
+  pub named : fault.line ≡ line_count read + 1
+  pub lacks : LacksMemoryFor read line fault.kind
+
+-- why these lines are not read to their end: their first fault, or want of memory at one of them
+abbrev pub AreRefusedWith : Progress → List (List ℕ) → LineFault → Type 0
+AreRefusedWith before lines fault = (lines_after before lines ≡ Err fault) ⊎ LacksMemory before lines fault
+
+-- what a reader of these bytes may answer: what they say; or want of memory, named with the line at which it was
+-- refused
 abbrev pub ReadsAs : List ℕ → Result Configuration LineFault → Type 0
-ReadsAs bytes result = (result ≡ reading_of bytes) ⊎ ((line : ℕ) × (result ≡ Err (fault_at line NoMemory)))
+ReadsAs bytes result =
+    (result ≡ reading_of bytes) ⊎ ((fault : LineFault) × (result ≡ Err fault) × LacksMemory nothing_read (lines_of bytes) fault)

@@ -4,10 +4,10 @@ ghost use Rattle.std.specs.Prelude.{◌≡◌, ◌⊎◌, ◌+◌, ◌<◌, ◌�
 ghost use Rattle.std.specs.List.{list_any};
 ghost use Rattle.std.specs.List.Sorted.{IsPermutation};
 ghost use Rattle.std.specs.HashSet.{keys};
-ghost use Rattle.command_reader.specs.Index.{AddsDeclared, fault_by_names};
+ghost use Rattle.command_reader.specs.Index.{AddsDeclared, IsRefusedFor, fault_by_names};
 ghost use Rattle.command_reader.specs.Progress.{Progress, line_count, commands_in};
 ghost use Rattle.command_reader.specs.Zones.{first_local_of, is_local_command};
-ghost use Rattle.command_reader.specs.Reading.{nothing_read, line_after, said_after, fault_of_name, with_passed, finished, names_unknown, unknown_zone};
+ghost use Rattle.command_reader.specs.Reading.{nothing_read, line_after, said_after, fault_of_name, with_command, with_passed, finished, names_unknown, unknown_zone, LacksMemoryFor};
 
 use crate::commands::{Command, Commands, NumberedCommand};
 use crate::faults::{FaultKind, LineFault};
@@ -60,13 +60,13 @@ impl Draft {
         self.kept.len() + self.passed as usize
     }
 
-    /// With the next line, or the line's first fault. Where memory is refused, the fault is `NoMemory` in place of
-    /// what the line may say.
+    /// With the next line, or the line's first fault. Where memory is refused for the command of a line without a
+    /// fault, the fault is `NoMemory` in its place.
     pub fn with_line(self, line: &[u8]) -> Result<Draft, LineFault>
         ensures { MatchResult result
             (λ read. line_after self line.now ≡ Ok read)
             (λ fault. (fault.line ≡ line_count self + 1)
-            × ((line_after self line.now ≡ Err fault.kind) ⊎ (fault.kind ≡ FaultKind.NoMemory))) }
+            × ((line_after self line.now ≡ Err fault.kind) ⊎ LacksMemoryFor self line.now fault.kind)) }
     {
         let number = self.line_count() as u32 + 1;
         match self.with_text(line) {
@@ -80,7 +80,7 @@ impl Draft {
     fn with_text(self, line: &[u8]) -> Result<Draft, FaultKind>
         ensures { MatchResult result
             (λ read. line_after self line.now ≡ Ok read)
-            (λ kind. (line_after self line.now ≡ Err kind) ⊎ (kind ≡ FaultKind.NoMemory)) }
+            (λ kind. (line_after self line.now ≡ Err kind) ⊎ LacksMemoryFor self line.now kind) }
     {
         if self.line_count() >= MOST_LINES {
             return Err(FaultKind::TooMany);
@@ -161,7 +161,8 @@ impl Draft {
         requires { line_count self < MOST_LINES }
         ensures { MatchResult result
             (λ read. said_after self (Ok (Some command)) ≡ Ok read)
-            (λ kind. (said_after self (Ok (Some command)) ≡ Err kind) ⊎ (kind ≡ FaultKind.NoMemory)) }
+            (λ kind. (said_after self (Ok (Some command)) ≡ Err kind)
+            ⊎ ((kind ≡ FaultKind.NoMemory) × (said_after self (Ok (Some command)) ≡ Ok (with_command self command)))) }
     {
         let line = self.line_count() as u32 + 1;
         index(&mut self.declared, &command)?;
@@ -181,7 +182,7 @@ fn has_local(kept: &[NumberedCommand]) -> bool
 fn index(declared: &mut HashSet<Name>, command: &Command) -> Result<(), FaultKind>
     ensures { MatchResult result
         (λ _. (fault_by_names (keys declared.old) command.now ≡ None) × AddsDeclared (keys declared.old) (keys declared.new) command.now)
-        (λ kind. (fault_by_names (keys declared.old) command.now ≡ Some kind) ⊎ (kind ≡ FaultKind.NoMemory)) }
+        (λ kind. IsRefusedFor (fault_by_names (keys declared.old) command.now) kind) }
 {
     match command.declares() {
         None => Ok(()),
@@ -194,8 +195,7 @@ fn declare(declared: &mut HashSet<Name>, name: Name) -> Result<(), FaultKind>
     ensures { MatchResult result
         (λ _. (fault_of_name (list_any (bytes_eq name) (keys declared.old)) (length (keys declared.old)) ≡ None)
         × IsPermutation (name ∷ keys declared.old) (keys declared.new))
-        (λ kind. (fault_of_name (list_any (bytes_eq name) (keys declared.old)) (length (keys declared.old)) ≡ Some kind)
-        ⊎ (kind ≡ FaultKind.NoMemory)) }
+        (λ kind. IsRefusedFor (fault_of_name (list_any (bytes_eq name) (keys declared.old)) (length (keys declared.old))) kind) }
 {
     if declared.contains(&name) {
         return Err(FaultKind::DuplicateZone);

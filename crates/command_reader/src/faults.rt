@@ -12,7 +12,7 @@ pub enum FaultKind {
     /// The line begins with no known command word.
     #[error("UnknownCommand")]
     UnknownCommand,
-    /// The line is a command, or has an option, that this project leaves out.
+    /// The line is a command, or has an option, that this project leaves out or does not read yet.
     #[error("Unsupported")]
     Unsupported,
     /// A field is absent.

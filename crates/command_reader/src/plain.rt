@@ -7,7 +7,7 @@ ghost use Rattle.gk_terms.specs.Text.{lines_of};
 ghost use Rattle.command_reader.specs.Plain.{declares_name, declares_zone};
 ghost use Rattle.command_reader.specs.Progress.{Progress, line_count, commands_in};
 ghost use Rattle.command_reader.specs.Zones.{first_local_of, is_declared, is_local_command, zones_of};
-ghost use Rattle.command_reader.specs.Reading.{nothing_read, line_after, lines_after, command_fault, with_command, with_passed, finished, names_unknown, unknown_zone, ReadsAs};
+ghost use Rattle.command_reader.specs.Reading.{nothing_read, line_after, lines_after, command_fault, with_command, with_passed, finished, names_unknown, unknown_zone, LacksMemoryFor, AreRefusedWith, ReadsAs};
 
 use crate::commands::{Command, Commands, NumberedCommand};
 use crate::faults::{FaultKind, LineFault};
@@ -30,7 +30,7 @@ pub fn read_plainly(alloc: Global, bytes: &[u8]) -> Result<Commands, LineFault>
 fn plain_lines(alloc: Global, bytes: &[u8]) -> Result<PlainDraft, LineFault>
     ensures { MatchResult result
         (λ read. lines_after nothing_read (lines_of bytes.now) ≡ Ok read)
-        (λ fault. (lines_after nothing_read (lines_of bytes.now) ≡ Err fault) ⊎ (fault.kind ≡ FaultKind.NoMemory)) }
+        (λ fault. AreRefusedWith nothing_read (lines_of bytes.now) fault) }
 {
     let mut draft = PlainDraft {
         kept: Vec::new(alloc),
@@ -75,7 +75,7 @@ impl PlainDraft {
         ensures { MatchResult result
             (λ read. line_after self line.now ≡ Ok read)
             (λ fault. (fault.line ≡ line_count self + 1)
-            × ((line_after self line.now ≡ Err fault.kind) ⊎ (fault.kind ≡ FaultKind.NoMemory))) }
+            × ((line_after self line.now ≡ Err fault.kind) ⊎ LacksMemoryFor self line.now fault.kind)) }
     {
         let number = self.line_count() as u32 + 1;
         match self.with_text(line) {
@@ -89,7 +89,7 @@ impl PlainDraft {
     fn with_text(self, line: &[u8]) -> Result<PlainDraft, FaultKind>
         ensures { MatchResult result
             (λ read. line_after self line.now ≡ Ok read)
-            (λ kind. (line_after self line.now ≡ Err kind) ⊎ (kind ≡ FaultKind.NoMemory)) }
+            (λ kind. (line_after self line.now ≡ Err kind) ⊎ LacksMemoryFor self line.now kind) }
     {
         if self.line_count() >= MOST_LINES {
             return Err(FaultKind::TooMany);

@@ -1,6 +1,6 @@
 -- What a line asks, and what may be answered to it.
-use Rattle.std.proofs.Common.{◌≡◌, ℕ, Bool, true, false, List, [], ◌∷◌, refl, sym, ap, ◌∙◌, inl, inr, cond, ⊎_elim}
-use Rattle.std.specs.Prelude.{◌⊎◌, Option, Some, None, Result, Ok, Err, option_map, codes, bytes_eq}
+use Rattle.std.proofs.Common.{◌≡◌, ℕ, true, false, List, [], ◌∷◌, refl, sym, ap, ◌∙◌, inl, inr, cond, ⊎_elim}
+use Rattle.std.specs.Prelude.{Option, Some, None, Result, Ok, Err, option_map, codes, bytes_eq}
 use Rattle.std.proofs.lemmas.Bool.{cases_Bool}
 use Rattle.gk_terms.specs.Text.{words_of, is_too_long}
 use Rattle.gkd.specs.declared.request_faults.RequestFault.{RequestFault}
@@ -9,7 +9,6 @@ use Rattle.gkd.specs.declared.request_faults.Unread.{Unread}
 use Rattle.gkd.specs.declared.request_faults.Unread.TheVariants.{Fault, NoMemory}
 use Rattle.gkd.specs.declared.requests.Request.{Request}
 use Rattle.gkd.specs.declared.replies.Answer.{Answer}
-use Rattle.gkd.specs.declared.replies.Answer.TheVariants.{Malformed}
 use Rattle.gkd.specs.State.{State}
 use Rattle.gkd.specs.Machine.{MayAnswer}
 use Rattle.gkd.specs.Requests.{asking_of, registering_of, asked_by, registering_by, registering_at, register_at, admit_at, asked, IsUnread}

@@ -1,3 +1,4 @@
+pub mod EndsLemmas
 pub mod InputLemmas
 pub mod FirstRows
 pub mod TableLemmas
@@ -6,3 +7,4 @@ pub mod KeptLines
 pub mod AskedLemmas
 pub mod SessionLemmas
 pub mod RunLemmas
+pub mod RouteLaws

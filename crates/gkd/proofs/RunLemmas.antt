@@ -1,18 +1,20 @@
 -- A configuration, line by line, and the requests behind it.
-use Rattle.std.proofs.Common.{◌≡◌, ℕ, ◌+◌, Bool, true, false, cond, List, [], ◌∷◌, length, take, map, refl, sym, ap, subst, ◌∙◌, ⊎_elim, inl, inr}
+use Rattle.std.proofs.Common.{◌≡◌, ℕ, ◌+◌, true, false, cond, List, [], ◌∷◌, length, map, refl, sym, ap, subst, ◌∙◌, ⊎_elim, inl, inr}
 use Rattle.std.specs.Prelude.{◌⊎◌, Option, Some, None, Result, Ok, Err, not, ◌&&◌, MatchResult}
 use Rattle.std.specs.Io.KnownBytes.{IsAtEnd, prepend_known}
 use Rattle.std.proofs.lemmas.Bool.{cases_Bool}
-use Rattle.gk_terms.specs.Text.{raw_lines_of, lines_of, content_of, words_of, is_too_long}
+use Rattle.gk_terms.specs.Text.{lines_of, content_of, words_of, is_too_long}
 use Rattle.command_reader.specs.declared.faults.LineFault.{LineFault}
 use Rattle.command_reader.specs.declared.faults.FaultKind.{FaultKind}
-use Rattle.command_reader.specs.declared.faults.FaultKind.TheVariants.{NoMemory, TooLong, TooMany}
+use Rattle.command_reader.specs.declared.faults.FaultKind.TheVariants.{NoMemory, TooLong}
+use Rattle.command_reader.specs.declared.commands.Command.{Command}
 use Rattle.command_reader.specs.Line.{line_of, said_by}
 use Rattle.command_reader.specs.Configuration.{Configuration}
 use Rattle.command_reader.specs.Progress.{Progress, line_count}
-use Rattle.command_reader.specs.Reading.{nothing_read, line_after, lines_after, line_then, said_after, fault_at, finished, whole_of}
-use Rattle.gkd.specs.Input.{KEPT_BYTES, TakesLine, TakesKnownLine}
-use Rattle.gkd.specs.Run.{ends_configuration, is_end_alone, configuration_in, behind_configuration, SaysSoFar, ContinuesWith, said_behind, IsReading, ReadingUnderWay, IsReadOut, ReadsOut, SaysConfiguration, ReadsConfiguration, reading_in, IsRun, WritesRun, IsRefusedBy, opening_of}
+use Rattle.command_reader.specs.Reading.{nothing_read, line_after, lines_after, with_command, finished, whole_of}
+use Rattle.command_reader.proofs.MemoryLemmas.{read_on, refused_here, refused_later}
+use Rattle.gkd.specs.Input.{TakesLine, TakesKnownLine}
+use Rattle.gkd.specs.Run.{ends_configuration, is_end_alone, configuration_in, behind_configuration, Says, ReadsLine, ContinuesWith, SaysBehind, IsReading, ReadingUnderWay, IsReadOut, ReadsOut, SaysConfiguration, ReadsConfiguration, reading_in, IsRun, WritesRun, IsRefusedBy, opening_of}
 use Rattle.gkd.specs.Run.{IsConfiguration}
 use Rattle.gkd.specs.State.{State}
 use Rattle.gkd.specs.Session.{requests_in, Runs, IsSession, WritesSession}
@@ -43,39 +45,38 @@ kept_ends bytes rest kept t = same_of_kept ends_configuration false long_does_no
 lines_of-line : (bytes rest kept : List ℕ) (t : TakesLine bytes rest kept) → lines_of bytes ≡ content_of t.0 ∷ lines_of rest
 lines_of-line bytes rest kept t = ap (map content_of) t.1
 
-same_after : (read : Progress) (line other : List ℕ) → line_of line ≡ line_of other → lines_after read (line ∷ []) ≡ lines_after read (other ∷ [])
+same_after : (before : Progress) (line other : List ℕ) → line_of line ≡ line_of other → line_after before line ≡ line_after before other
 unfolding line_after
-same_after read line other e = rw e refl
+same_after before line other e = rw e refl
+
+-- lines that say the same are read the same
+reads_same : (before : Progress) (line other : List ℕ) (after : Result Progress LineFault) → line_of line ≡ line_of other → ReadsLine before line after → ReadsLine before other after
+reads_same before line other after e r =
+    subst
+    (λ (x : Result Progress FaultKind). MatchResult after
+    (λ read. x ≡ Ok read)
+    (λ fault. (fault.line ≡ line_count before + 1)
+    × ((x ≡ Err fault.kind) ⊎ ((fault.kind ≡ NoMemory) × ((command : Command) × (x ≡ Ok (with_command before command)))))))
+    (same_after before line other e) r
 
 -- ---- before the first line
 pub reading_begins : (known : Option (List ℕ)) → ReadingUnderWay known known (Ok nothing_read)
 reading_begins None = tt
 reading_begins (Some bytes) = record { said = λ end says. says; behind = refl }
 
--- a fault that stays, or want of memory
-stays : (whole : Result Progress LineFault) (fault : LineFault) (end : Result Progress LineFault) → (whole ≡ Err fault) ⊎ (fault.kind ≡ NoMemory) → SaysSoFar (Err fault) end → SaysSoFar whole end
-stays whole fault (Ok read) h e = cc
-stays whole fault (Err other) (inl h) (inl e) = inl (h ∙ e)
-stays whole fault (Err other) (inr memory) (inl e) = inr (let same : fault ≡ other = cc in ap (λ f. f.kind) (sym same) ∙ memory)
-stays whole fault (Err other) h (inr memory) = inr memory
-
-joined_by : (n : ℕ) (lines : List (List ℕ)) (r : Result Progress FaultKind) (after end : Result Progress LineFault) → SaysSoFar (line_then n (λ read. Ok read) r) after → SaysSoFar (said_behind after lines) end → SaysSoFar (line_then n (λ read. lines_after read lines) r) end
-joined_by n lines (Ok read) (Ok other) end one others = let same : other ≡ read = cc in subst (λ (p : Progress). SaysSoFar (lines_after p lines) end) same others
-joined_by n lines (Ok read) (Err fault) end (inl h) others = cc
-joined_by n lines (Ok read) (Err fault) end (inr memory) others = stays (lines_after read lines) fault end (inr memory) others
-joined_by n lines (Err kind) (Ok other) end one others = cc
-joined_by n lines (Err kind) (Err fault) end one others = stays (Err (fault_at n kind)) fault end one others
-
 -- a line, and then others
-joined : (before : Progress) (line : List ℕ) (lines : List (List ℕ)) (after end : Result Progress LineFault) → SaysSoFar (lines_after before (line ∷ [])) after → SaysSoFar (said_behind after lines) end → SaysSoFar (lines_after before (line ∷ lines)) end
-joined before line lines after end one others = joined_by (line_count before + 1) lines (line_after before line) after end one others
+joined : (before : Progress) (line : List ℕ) (lines : List (List ℕ)) (after end : Result Progress LineFault) → ReadsLine before line after → SaysBehind after lines end → Says before (line ∷ lines) end
+joined before line lines (Ok read) (Ok last) r says = read_on before read line lines r ∙ says
+joined before line lines (Ok read) (Err fault) r says = refused_later before read line lines fault r says
+joined before line lines (Err fault) (Ok last) r says = cc
+joined before line lines (Err fault) (Err other) r says =
+    let same : fault ≡ other = cc in
+    subst (λ (f : LineFault). Says before (line ∷ lines) (Err f)) same (refused_here before line lines fault r.0 r.1)
 
 -- ---- a line that does not end the configuration
-continued : (read after end : Result Progress LineFault) (kept raw : List ℕ) (lines : List (List ℕ)) → line_of kept ≡ line_of raw → ContinuesWith read kept after → SaysSoFar (said_behind after lines) end → SaysSoFar (said_behind read (raw ∷ lines)) end
-continued (Ok before) after end kept raw lines same c says =
-    joined before raw lines after end (subst (λ (whole : Result Progress LineFault). SaysSoFar whole after) (same_after before kept raw same) c) says
-continued (Err fault) after end kept raw lines same c says =
-    subst (λ (a : Result Progress LineFault). SaysSoFar (said_behind a lines) end) c says
+continued : (read after end : Result Progress LineFault) (kept raw : List ℕ) (lines : List (List ℕ)) → line_of kept ≡ line_of raw → ContinuesWith read kept after → SaysBehind after lines end → SaysBehind read (raw ∷ lines) end
+continued (Ok before) after end kept raw lines same c says = joined before raw lines after end (reads_same before kept raw after same c) says
+continued (Err fault) after end kept raw lines same c says = subst (λ (a : Result Progress LineFault). SaysBehind a lines end) c says
 
 line_read : (bytes rest next kept : List ℕ) (read after : Result Progress LineFault) (t : TakesLine rest next kept) → ends_configuration (content_of kept) ≡ false → ContinuesWith read (content_of kept) after → IsReading bytes rest read → IsReading bytes next after
 line_read bytes rest next kept read after t goes_on c r =
@@ -87,15 +88,19 @@ line_read bytes rest next kept read after t goes_on c r =
     ap behind_configuration (lines_of-line rest next kept t) ∙ ap (λ e. cond e (lines_of next) (behind_configuration (lines_of next))) opened in
     record {
       said = λ end says. r.said end
-          (subst (λ (lines : List (List ℕ)). SaysSoFar (said_behind read lines) end) (sym whole)
+          (subst (λ (lines : List (List ℕ)). SaysBehind read lines end) (sym whole)
           (continued read after end (content_of kept) line (configuration_in (lines_of next)) (kept_says rest next kept t) c says));
       behind = r.behind ∙ behind;
     }
 
 -- ---- the line that ends it
-ended : (read after : Result Progress LineFault) (kept raw : List ℕ) → line_of kept ≡ line_of raw → ContinuesWith read kept after → SaysSoFar (said_behind read (raw ∷ [])) after
-ended (Ok before) after kept raw same c = subst (λ (whole : Result Progress LineFault). SaysSoFar whole after) (same_after before kept raw same) c
-ended (Err fault) after kept raw same c = subst (λ (a : Result Progress LineFault). SaysSoFar (Err fault) a) (sym c) (inl refl)
+-- nothing is left
+says_itself : (read : Result Progress LineFault) → SaysBehind read [] read
+says_itself (Ok read) = refl
+says_itself (Err fault) = refl
+
+ended : (read after : Result Progress LineFault) (kept raw : List ℕ) → line_of kept ≡ line_of raw → ContinuesWith read kept after → SaysBehind read (raw ∷ []) after
+ended read after kept raw same c = continued read after after kept raw [] same c (says_itself after)
 
 last_line_read : (bytes rest next kept : List ℕ) (read after : Result Progress LineFault) (t : TakesLine rest next kept) → ends_configuration (content_of kept) ≡ true → ContinuesWith read (content_of kept) after → IsReading bytes rest read → IsReadOut bytes next after
 last_line_read bytes rest next kept read after t ends c r =
@@ -107,21 +112,17 @@ last_line_read bytes rest next kept read after t ends c r =
     ap behind_configuration (lines_of-line rest next kept t) ∙ ap (λ e. cond e (lines_of next) (behind_configuration (lines_of next))) closed in
     record {
       said = r.said after
-          (subst (λ (lines : List (List ℕ)). SaysSoFar (said_behind read lines) after) (sym whole)
+          (subst (λ (lines : List (List ℕ)). SaysBehind read lines after) (sym whole)
           (ended read after (content_of kept) line (kept_says rest next kept t) c));
       behind = r.behind ∙ behind;
     }
 
 -- ---- the end of the input
-says_itself : (read : Result Progress LineFault) → SaysSoFar (said_behind read []) read
-says_itself (Ok read) = refl
-says_itself (Err fault) = inl refl
-
 input_read : (bytes rest : List ℕ) (read : Result Progress LineFault) → rest ≡ [] → IsReading bytes rest read → IsReadOut bytes rest read
 input_read bytes rest read none r =
     let nothing : lines_of rest ≡ [] = ap lines_of none in
     record {
-      said = r.said read (subst (λ (lines : List (List ℕ)). SaysSoFar (said_behind read (configuration_in lines)) read) (sym nothing) (says_itself read));
+      said = r.said read (subst (λ (lines : List (List ℕ)). SaysBehind read (configuration_in lines) read) (sym nothing) (says_itself read));
       behind = r.behind ∙ ap behind_configuration nothing ∙ sym nothing;
     }
 
@@ -144,39 +145,33 @@ reading_runs_out (Some bytes) None read e r = absurd r
 reading_runs_out (Some bytes) (Some rest) read e r = input_read bytes rest read e r
 
 -- ---- what a reader of lines answers
-continues_by : (before : Progress) (line : List ℕ) (after : Result Progress LineFault) → MatchResult after (λ read. line_after before line ≡ Ok read) (λ fault. (fault.line ≡ line_count before + 1) × ((line_after before line ≡ Err fault.kind) ⊎ (fault.kind ≡ NoMemory))) → SaysSoFar (lines_after before (line ∷ [])) after
-continues_by before line (Ok read) h = ap (line_then (line_count before + 1) (λ read. Ok read)) h
-continues_by before line (Err fault) (number, inl h) =
-    inl (ap (line_then (line_count before + 1) (λ read. Ok read)) h ∙ ap (λ n. Err (fault_at n fault.kind)) (sym number))
-continues_by before line (Err fault) (number, inr memory) = inr memory
-
 -- a draft with one more line
-pub continues_with : (before : Progress) (line : List ℕ) (after : Result Progress LineFault) → MatchResult after (λ read. line_after before line ≡ Ok read) (λ fault. (fault.line ≡ line_count before + 1) × ((line_after before line ≡ Err fault.kind) ⊎ (fault.kind ≡ NoMemory))) → ContinuesWith (Ok before) line after
-continues_with before line after h = continues_by before line after h
+pub continues_with : (before : Progress) (line : List ℕ) (after : Result Progress LineFault) → ReadsLine before line after → ContinuesWith (Ok before) line after
+continues_with before line after h = h
 
 -- ---- the configuration that was read
-says_same : (whole answer : Result Configuration LineFault) → whole ≡ answer → SaysConfiguration whole answer
-says_same whole (Ok configuration) h = h
-says_same whole (Err fault) h = inl h
+says_same : (lines : List (List ℕ)) (answer : Result Configuration LineFault) → reading_in lines ≡ answer → SaysConfiguration lines answer
+says_same lines (Ok configuration) h = h
+says_same lines (Err fault) h = inl h
 
-says_finished : (whole : Result Progress LineFault) (read : Progress) → whole ≡ Ok read → SaysConfiguration (whole_of whole) (finished read)
-says_finished whole read h = says_same (whole_of whole) (finished read) (ap whole_of h)
+says_finished : (lines : List (List ℕ)) (read : Progress) → lines_after nothing_read lines ≡ Ok read → SaysConfiguration lines (finished read)
+says_finished lines read h = says_same lines (finished read) (ap whole_of h)
 
-says_fault : (whole : Result Progress LineFault) (fault : LineFault) → (whole ≡ Err fault) ⊎ (fault.kind ≡ NoMemory) → SaysConfiguration (whole_of whole) (Err fault)
-says_fault whole fault (inl h) = inl (ap whole_of h)
-says_fault whole fault (inr memory) = inr memory
+says_fault : (lines : List (List ℕ)) (fault : LineFault) → Says nothing_read lines (Err fault) → SaysConfiguration lines (Err fault)
+says_fault lines fault (inl h) = inl (ap whole_of h)
+says_fault lines fault (inr memory) = inr memory
 
 -- what was read, and what is made of it
 pub finishes : (known rest : Option (List ℕ)) (read : Progress) (answer : Result Configuration LineFault) → ReadsOut known rest (Ok read) → answer ≡ finished read → ReadsConfiguration known rest answer
 finishes None rest read answer r e = tt
 finishes (Some bytes) None read answer r e = absurd r
 finishes (Some bytes) (Some rest) read answer r e =
-    record { said = subst (λ (a : Result Configuration LineFault). SaysConfiguration (reading_in (configuration_in (lines_of bytes))) a) (sym e) (says_finished (lines_after nothing_read (configuration_in (lines_of bytes))) read r.said); behind = r.behind }
+    record { said = subst (λ (a : Result Configuration LineFault). SaysConfiguration (configuration_in (lines_of bytes)) a) (sym e) (says_finished (configuration_in (lines_of bytes)) read r.said); behind = r.behind }
 
 pub refuses : (known rest : Option (List ℕ)) (fault : LineFault) → ReadsOut known rest (Err fault) → ReadsConfiguration known rest (Err fault)
 refuses None rest fault r = tt
 refuses (Some bytes) None fault r = absurd r
-refuses (Some bytes) (Some rest) fault r = record { said = says_fault (lines_after nothing_read (configuration_in (lines_of bytes))) fault r.said; behind = r.behind }
+refuses (Some bytes) (Some rest) fault r = record { said = says_fault (configuration_in (lines_of bytes)) fault r.said; behind = r.behind }
 
 -- ---- the whole run
 run_written : (bytes rest text : List ℕ) (configuration : Configuration) (last : State) (count : ℕ) → IsConfiguration bytes rest (Ok configuration) → IsSession rest (opening_of configuration.lines) last text count → IsRun bytes text count

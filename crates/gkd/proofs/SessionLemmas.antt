@@ -1,19 +1,20 @@
 -- A session, line by line.
-use Rattle.std.proofs.Common.{◌≡◌, ℕ, ◌+◌, List, [], ◌∷◌, ◌++◌, length, take, length-append, append_assoc, append-nil, map, refl, sym, ap, subst, ◌∙◌, arith}
-use Rattle.std.specs.Prelude.{◌⊎◌, Option, Some, None, ⊤, flat_map}
+use Rattle.std.proofs.Common.{◌≡◌, ℕ, ◌+◌, List, [], ◌∷◌, ◌++◌, length, take, append_assoc, append-nil, map, refl, sym, ap, subst, ◌∙◌, arith}
+use Rattle.std.specs.Prelude.{Option, Some, None}
 use Rattle.std.specs.Io.KnownBytes.{Appends, IsAtEnd}
 use Rattle.std.specs.Prelude.{Err}
 use Rattle.std.proofs.Common.{true, false, cond, ⊎_elim}
 use Rattle.std.specs.Prelude.{option_map}
 use Rattle.std.proofs.lemmas.Bool.{cases_Bool}
-use Rattle.gk_terms.specs.Text.{raw_lines_of, lines_of, content_of, words_of, is_too_long}
+use Rattle.gk_terms.specs.Text.{raw_lines_of, content_of, words_of, is_too_long}
 use Rattle.gkd.specs.declared.request_faults.RequestFault.TheVariants.{LineTooLong}
 use Rattle.gkd.specs.Requests.{asking_of, registering_of, asked_by, registering_by}
+use Rattle.gkd.proofs.EndsLemmas.{appends_nothing, appends_more}
 use Rattle.gkd.proofs.KeptLines.{kept_content}
 use Rattle.gkd.specs.Input.{KEPT_BYTES, TakesLine, TakesKnownLine}
 use Rattle.gkd.specs.declared.replies.Answer.{Answer}
 use Rattle.gkd.specs.State.{State}
-use Rattle.gkd.specs.Session.{Asked, asked_in, asked_so, no_memory_to, requests_in, requests_of, Runs, Replies, AnswersLine, line_of_answer, IsSession, WritesSession, IsUnderWay, SessionUnderWay}
+use Rattle.gkd.specs.Session.{Asked, asked_in, asked_so, no_memory_to, requests_in, requests_of, Runs, AnswersLine, line_of_answer, WritesSession, IsUnderWay, SessionUnderWay}
 
 -- too long lines ask the same
 long_asks : (line : List ℕ) → is_too_long line ≡ true → asked_in line ≡ (record { request = Err LineTooLong; no_memory = None }) ∷ []
@@ -38,16 +39,6 @@ requests_of-line : (bytes rest kept : List ℕ) → TakesLine bytes rest kept �
 requests_of-line bytes rest kept t =
     ap (λ raws. requests_in (map content_of raws)) t.1
     ∙ ap (λ asked. asked ++ requests_of rest) (sym (kept_asks bytes rest t.0 t.1) ∙ ap (λ line. asked_in (content_of line)) (sym t.2))
-
-appends_nothing : (known : Option (List ℕ)) → Appends known known []
-appends_nothing None = tt
-appends_nothing (Some bytes) = sym (append-nil bytes)
-
-appends_more : (a b c : Option (List ℕ)) (first second : List ℕ) → Appends a b first → Appends b c second → Appends a c (first ++ second)
-appends_more None b c first second h k = tt
-appends_more (Some x) None c first second h k = absurd h
-appends_more (Some x) (Some y) None first second h k = absurd k
-appends_more (Some x) (Some y) (Some z) first second h k = k ∙ ap (λ front. front ++ second) h ∙ append_assoc x first second
 
 -- before the first line
 pub session_begins : (known : Option (List ℕ)) (old : State) (before : Option (List ℕ)) → SessionUnderWay known known old old before before 0

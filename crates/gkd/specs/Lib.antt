@@ -1,3 +1,4 @@
+pub mod Ends
 pub mod Endpoint
 pub mod Faults
 pub mod Fields
@@ -7,6 +8,7 @@ pub mod Machine
 pub mod Registration
 pub mod Replies
 pub mod Requests
+pub mod RouteLaws
 pub mod Routing
 pub mod Run
 pub mod Session

@@ -1,5 +1,5 @@
 -- The machine: what stands while a session runs, and one step of it.
-use Rattle.std.specs.Prelude.{◌≡◌, ◌⊎◌, ℕ, Bool, List, Option, Some, None, if◌then◌else◌}
+use Rattle.std.specs.Prelude.{◌≡◌, ◌⊎◌, ℕ, List, Option, Some, None, if◌then◌else◌}
 use Rattle.gkd.specs.Endpoint.{EndpointParts}
 use Rattle.gkd.specs.State.{State}
 use Rattle.gkd.specs.Registration.{is_local, zone_meant, placed, id_is_taken, alias_is_taken, with_endpoint, endpoint_of}

@@ -1,5 +1,5 @@
 -- A list of endpoints: who is found, who may register, and what a registration changes.
-use Rattle.std.specs.Prelude.{ℕ, ◌+◌, ◌==◌, Bool, true, false, not, ◌&&◌, List, [], ◌∷◌, ◌++◌, take, drop, find, Option, Some, None, Result, Ok, Err, codes, bytes_eq, unwrap_or, if◌then◌else◌}
+use Rattle.std.specs.Prelude.{ℕ, ◌+◌, ◌==◌, Bool, false, not, ◌&&◌, List, ◌∷◌, ◌++◌, take, drop, find, Option, Some, None, codes, bytes_eq, unwrap_or, if◌then◌else◌}
 use Rattle.std.specs.List.{list_any, position_or_len}
 use Rattle.gk_terms.specs.Address.{AddressParts}
 use Rattle.command_reader.specs.declared.commands.Command.{Command}

@@ -1,13 +1,14 @@
 -- A run: a configuration, and then requests.
-use Rattle.std.specs.Prelude.{◌≡◌, ◌⊎◌, ℕ, Bool, false, not, ◌&&◌, ⊤, List, [], ◌∷◌, length, Option, Some, None, Result, Ok, Err, MatchResult, codes, bytes_eq, if◌then◌else◌}
+use Rattle.std.specs.Prelude.{◌≡◌, ◌⊎◌, ℕ, ◌+◌, Bool, true, false, not, ◌&&◌, ⊤, List, [], ◌∷◌, length, Option, Some, None, Result, Ok, Err, MatchResult, codes, bytes_eq, if◌then◌else◌, ◌++◌}
 use Rattle.std.specs.Io.KnownBytes.{Appends}
 use Rattle.gk_terms.specs.Text.{lines_of, words_of, is_too_long, is_empty}
 use Rattle.command_reader.specs.declared.commands.Command.{Command}
 use Rattle.command_reader.specs.declared.faults.LineFault.{LineFault}
-use Rattle.command_reader.specs.declared.faults.FaultKind.TheVariants.{NoMemory}
 use Rattle.command_reader.specs.Configuration.{Configuration}
-use Rattle.command_reader.specs.Progress.{Progress}
-use Rattle.command_reader.specs.Reading.{nothing_read, line_after, lines_after, whole_of}
+use Rattle.command_reader.specs.Progress.{Progress, line_count}
+use Rattle.command_reader.specs.Reading.{nothing_read, line_after, lines_after, whole_of, LacksMemoryFor, LacksMemory, AreRefusedWith}
+use Rattle.gkd.specs.declared.faults.RunFault.{RunFault}
+use Rattle.gkd.specs.declared.faults.RunFault.TheVariants.{BadLimits, Config, Session, NoMemory as NoMemoryForTables}
 use Rattle.gkd.specs.State.{State}
 use Rattle.gkd.specs.Session.{requests_in, Runs}
 
@@ -54,30 +55,55 @@ abbrev pub WritesRun : Option (List ℕ) → Option (List ℕ) → Option (List 
 WritesRun None before after count = ⊤
 WritesRun (Some bytes) before after count = (text : List ℕ) × IsRun bytes text count × Appends before after text
 
--- the fault of the configuration, or want of memory
+-- whether a fault always comes before the first request is read
+abbrev pub is_before_requests : RunFault → Bool
+is_before_requests BadLimits = true
+is_before_requests (Config fault) = true
+is_before_requests (Session fault) = false
+is_before_requests NoMemoryForTables = true
+
+-- what the reader has left stands behind the last line of the configuration: some bytes that were read ahead go before it
+abbrev pub IsBehindConfiguration : Option (List ℕ) → Option (List ℕ) → Type 0
+IsBehindConfiguration None new = ⊤
+IsBehindConfiguration (Some bytes) None = ⊥
+IsBehindConfiguration (Some bytes) (Some rest) =
+    (ahead : List ℕ) × (behind_configuration (lines_of bytes) ≡ lines_of (ahead ++ rest))
+
+-- the fault of the configuration, or want of memory at one of its lines, which is the one that is named
+abbrev pub IsRefusedAs : List (List ℕ) → LineFault → Type 0
+IsRefusedAs lines fault = (reading_in lines ≡ Err fault) ⊎ LacksMemory nothing_read lines fault
+
 abbrev pub IsRefusedBy : Option (List ℕ) → LineFault → Type 0
 IsRefusedBy None fault = ⊤
-IsRefusedBy (Some bytes) fault = (reading_in (configuration_in (lines_of bytes)) ≡ Err fault) ⊎ (fault.kind ≡ NoMemory)
+IsRefusedBy (Some bytes) fault = IsRefusedAs (configuration_in (lines_of bytes)) fault
 
 -- ---- a configuration that is read line by line
--- what these lines say, or want of memory
-abbrev pub SaysSoFar : Result Progress LineFault → Result Progress LineFault → Type 0
-SaysSoFar whole (Ok read) = whole ≡ Ok read
-SaysSoFar whole (Err fault) = (whole ≡ Err fault) ⊎ (fault.kind ≡ NoMemory)
+-- what these lines say behind those before them, or want of memory at one of them
+abbrev pub Says : Progress → List (List ℕ) → Result Progress LineFault → Type 0
+Says before lines (Ok read) = lines_after before lines ≡ Ok read
+Says before lines (Err fault) = AreRefusedWith before lines fault
+
+-- a line is read, or its fault is named, or want of memory for its command
+abbrev pub ReadsLine : Progress → List ℕ → Result Progress LineFault → Type 0
+ReadsLine before line after =
+    MatchResult after
+    (λ read. line_after before line ≡ Ok read)
+    (λ fault. (fault.line ≡ line_count before + 1)
+    × ((line_after before line ≡ Err fault.kind) ⊎ LacksMemoryFor before line fault.kind))
 
 -- what was read, with one more line; a fault stays
 abbrev pub ContinuesWith : Result Progress LineFault → List ℕ → Result Progress LineFault → Type 0
-ContinuesWith (Ok before) line after = SaysSoFar (lines_after before (line ∷ [])) after
+ContinuesWith (Ok before) line after = ReadsLine before line after
 ContinuesWith (Err fault) line after = after ≡ Err fault
 
--- behind some lines, those that are left are said by what was read so far
-abbrev pub said_behind : Result Progress LineFault → List (List ℕ) → Result Progress LineFault
-said_behind (Ok read) lines = lines_after read lines
-said_behind (Err fault) lines = Err fault
+-- what was read, and then the lines that are left; a fault stays
+abbrev pub SaysBehind : Result Progress LineFault → List (List ℕ) → Result Progress LineFault → Type 0
+SaysBehind (Ok read) lines end = Says read lines end
+SaysBehind (Err fault) lines end = end ≡ Err fault
 
 -- the whole configuration is what was read, and then the lines that are left; so are the lines behind it
 pub record IsReading (bytes rest : List ℕ) (read : Result Progress LineFault) : Type 0 where
-  pub said : (end : Result Progress LineFault) → SaysSoFar (said_behind read (configuration_in (lines_of rest))) end → SaysSoFar (lines_after nothing_read (configuration_in (lines_of bytes))) end
+  pub said : (end : Result Progress LineFault) → SaysBehind read (configuration_in (lines_of rest)) end → Says nothing_read (configuration_in (lines_of bytes)) end
   pub behind : behind_configuration (lines_of bytes) ≡ behind_configuration (lines_of rest)
 
 abbrev pub ReadingUnderWay : Option (List ℕ) → Option (List ℕ) → Result Progress LineFault → Type 0
@@ -87,7 +113,7 @@ ReadingUnderWay (Some bytes) (Some rest) read = IsReading bytes rest read
 
 -- the configuration was read, and the lines behind it are left
 pub record IsReadOut (bytes rest : List ℕ) (read : Result Progress LineFault) : Type 0 where
-  pub said : SaysSoFar (lines_after nothing_read (configuration_in (lines_of bytes))) read
+  pub said : Says nothing_read (configuration_in (lines_of bytes)) read
   pub behind : behind_configuration (lines_of bytes) ≡ lines_of rest
 
 abbrev pub ReadsOut : Option (List ℕ) → Option (List ℕ) → Result Progress LineFault → Type 0
@@ -96,12 +122,12 @@ ReadsOut (Some bytes) None read = ⊥
 ReadsOut (Some bytes) (Some rest) read = IsReadOut bytes rest read
 
 -- the answer to a whole configuration: what it says, or want of memory
-abbrev pub SaysConfiguration : Result Configuration LineFault → Result Configuration LineFault → Type 0
-SaysConfiguration whole (Ok configuration) = whole ≡ Ok configuration
-SaysConfiguration whole (Err fault) = (whole ≡ Err fault) ⊎ (fault.kind ≡ NoMemory)
+abbrev pub SaysConfiguration : List (List ℕ) → Result Configuration LineFault → Type 0
+SaysConfiguration lines (Ok configuration) = reading_in lines ≡ Ok configuration
+SaysConfiguration lines (Err fault) = IsRefusedAs lines fault
 
 pub record IsConfiguration (bytes rest : List ℕ) (answer : Result Configuration LineFault) : Type 0 where
-  pub said : SaysConfiguration (reading_in (configuration_in (lines_of bytes))) answer
+  pub said : SaysConfiguration (configuration_in (lines_of bytes)) answer
   pub behind : behind_configuration (lines_of bytes) ≡ lines_of rest
 
 abbrev pub ReadsConfiguration : Option (List ℕ) → Option (List ℕ) → Result Configuration LineFault → Type 0

@@ -1,5 +1,5 @@
 -- What a session writes for the bytes that it reads.
-use Rattle.std.specs.Prelude.{◌≡◌, ◌⊎◌, ℕ, ◌+◌, length, ⊤, List, [], ◌∷◌, ◌++◌, Option, Some, None, Result, Ok, Err, map, option_map, flat_map}
+use Rattle.std.specs.Prelude.{◌≡◌, ◌⊎◌, ℕ, ◌+◌, length, ⊤, List, [], ◌∷◌, ◌++◌, Option, Some, None, Result, Ok, Err, option_map, flat_map}
 use Rattle.std.specs.Io.KnownBytes.{Appends}
 use Rattle.gk_terms.specs.Text.{lines_of}
 use Rattle.gkd.specs.declared.request_faults.RequestFault.{RequestFault}

@@ -1,13 +1,14 @@
 //! The lines of an input that is read in pieces.
 
-ghost use Rattle.std.specs.Prelude.{◌≡◌, ◌<◌, ◌≤◌, ◌==◌, [], IsTrue, IfOk, false, length, take, drop, nat_lt};
+ghost use Rattle.std.specs.Prelude.{◌≡◌, ◌≢◌, IfErr, ◌<◌, ◌≤◌, ◌==◌, [], IsTrue, IfOk, false, length, take, drop, nat_lt};
 ghost use Rattle.std.specs.List.{position_or_len};
 ghost use Rattle.std.specs.Io.KnownBytes.{Keeps, IsAtEnd};
+ghost use Rattle.gkd.specs.Ends.{NotesRead};
 ghost use Rattle.gkd.specs.Input.{work_left, length_in_line, extended, left_of, AtEndIfEnded, TakesKnownLine, TakesKnownFront};
 
+use crate::ends::Source;
 use crate::faults::SessionFault;
 use crate::line::Line;
-use std::io::Read;
 use std::marker::Model;
 
 /// How many bytes the reader is asked for at once.
@@ -24,7 +25,8 @@ pub struct Input {
 }
 
 impl Model for Input {
-    ghost use Rattle.std.specs.Prelude.{◌≡◌, ◌-◌, ◌≤◌, length, take, drop};
+    ghost use Rattle.std.specs.Prelude.{◌≡◌, ◌≢◌, IfErr, ◌-◌, ◌≤◌, length, take, drop};
+    ghost use Rattle.gkd.specs.Ends.{NotesRead};
     ghost use Rattle.gkd.specs.Input.{InputParts, PIECE_BYTES};
 
     ghost Value = { InputParts };
@@ -49,7 +51,7 @@ impl Input {
     }
 
     /// The next line, with its line feed where it has one, as far as it is kept; false at the end of the input.
-    pub fn next_line<R: Read>(
+    pub fn next_line<R: Source>(
         &mut self,
         reader: &mut R,
         line: &mut Line,
@@ -68,6 +70,8 @@ impl Input {
         ensures ended { AtEndIfEnded self.new (R.remaining reader.new) }
         ensures progress { IfOk result (λ more. IsTrue more → work_left self.new < work_left self.old) }
         ensures work { work_left self.new ≤ work_left self.old }
+        ensures noted { NotesRead (R.has_failed reader.old) (R.has_failed reader.new) result }
+        ensures reader_alone { IfErr result (λ fault. fault ≢ SessionFault.WriteFault) }
     {
         line.clear();
         let mut more = false;
@@ -81,7 +85,7 @@ impl Input {
     }
 
     /// Whether a byte of the input is left; the reader is called where none is pending.
-    fn fill<R: Read>(&mut self, reader: &mut R) -> Result<bool, SessionFault>
+    fn fill<R: Source>(&mut self, reader: &mut R) -> Result<bool, SessionFault>
         requires { AtEndIfEnded self.old (R.remaining reader.old) }
         ensures more { IfOk result (λ more. IsTrue more → 0 < length self.new.pending) }
         ensures none_pending { IfOk result (λ more. more ≡ false → self.new.pending ≡ []) }
@@ -89,6 +93,8 @@ impl Input {
         ensures left { Keeps (left_of self.old (R.remaining reader.old)) (left_of self.new (R.remaining reader.new)) }
         ensures ended { AtEndIfEnded self.new (R.remaining reader.new) }
         ensures work { work_left self.new ≤ work_left self.old }
+        ensures noted { NotesRead (R.has_failed reader.old) (R.has_failed reader.new) result }
+        ensures reader_alone { IfErr result (λ fault. fault ≢ SessionFault.WriteFault) }
     {
         if self.start < self.end {
             return Ok(true);

@@ -3,8 +3,10 @@
 #![tactic(auto)]
 
 pub mod endpoints;
+pub mod ends;
 pub mod faults;
 pub mod input;
+pub mod laws;
 pub mod limits;
 pub mod line;
 pub mod machine;
@@ -24,6 +26,7 @@ mod run_tests;
 pub mod session;
 pub mod tables;
 
+use ends::Noted;
 use faults::RunFault;
 use std::process::ExitCode;
 use std::{env, io};
@@ -33,8 +36,8 @@ fn main(rt: HostRuntime) -> io::Result<ExitCode> {
         eprintln!(rt; "usage: gkd < INPUT, without words")?;
         return Ok(ExitCode::from(2));
     }
-    let mut reader = rt.reader();
-    let mut writer = io::writer(&rt);
+    let mut reader = Noted::new(rt.reader());
+    let mut writer = Noted::new(io::writer(&rt));
     match run::run_over(rt.alloc(), limits::STATED, &mut reader, &mut writer) {
         Ok(_) => Ok(ExitCode::SUCCESS),
         Err(RunFault::Config(fault)) => {

@@ -38,7 +38,7 @@ pub enum RegisterRefusal {
 /// Why dialled digits lead nowhere.
 #[derive(Clone, Copy, Debug, PartialEq, Eq)]
 pub enum RouteRefusal {
-    /// No endpoint has them, and no zone or gateway takes what matches nothing.
+    /// No endpoint of the target zone has them, and no default technology is set.
     NoDefault,
 }
 

@@ -1,12 +1,14 @@
 //! A run: a configuration, and then requests.
 
-ghost use Rattle.std.specs.Prelude.{◌≡◌, ◌≤◌, ◌↔◌, false, Err, IfOk, OnOk, IsErrOf};
+ghost use Rattle.std.specs.Prelude.{◌≡◌, ◌≢◌, IfErr, ◌≤◌, ◌↔◌, true, false, Err, IfOk, OnOk, IsErrOf};
 ghost use Rattle.std.specs.Io.KnownBytes.{IsAtEnd};
 ghost use Rattle.gk_terms.specs.Text.{words_of};
+ghost use Rattle.gkd.specs.Ends.{NotesRead, RunNotesRead, RunNotesWrite};
 ghost use Rattle.gkd.specs.Input.{work_left, left_of, AtEndIfEnded};
 ghost use Rattle.gkd.specs.Limits.{are_limits};
-ghost use Rattle.gkd.specs.Run.{ends_configuration, is_end_alone as is_end_alone_of, ContinuesWith, ReadsOut, ReadsConfiguration, WritesRun, IsRefusedBy};
+ghost use Rattle.gkd.specs.Run.{ends_configuration, is_end_alone as is_end_alone_of, ContinuesWith, ReadsOut, ReadsConfiguration, WritesRun, IsRefusedBy, IsBehindConfiguration, is_before_requests};
 
+use crate::ends::{Sink, Source};
 use crate::faults::{RunFault, SessionFault};
 use crate::input::Input;
 use crate::limits::Limits;
@@ -18,7 +20,6 @@ use command_reader::{Commands, Draft, LineFault};
 use gk_terms::limits::MOST_LINE_BYTES;
 use gk_terms::words::Words;
 use std::alloc::Global;
-use std::io::{Read, Write};
 
 /// How often a run may call its reader.
 const MOST_TURNS: u32 = u32::MAX;
@@ -27,8 +28,9 @@ const MOST_TURNS: u32 = u32::MAX;
 /// the requests that follow to the end of the input. The answer is how many replies were written.
 ///
 /// `BadLimits` comes before the reader is touched. `Config` comes once the configuration's last line was read; a
-/// fault of reading before that is `Session`. Nothing is written before the configuration is accepted.
-pub fn run_over<R: Read, W: Write>(
+/// fault of reading before that is `Session`. Where the answer is one of these two or `NoMemory`, nothing was written.
+/// The configuration ends with the first line of at most 512 bytes whose only word is `end`, or with the input.
+pub fn run_over<R: Source, W: Sink>(
     alloc: Global,
     limits: Limits,
     reader: &mut R,
@@ -40,9 +42,16 @@ pub fn run_over<R: Read, W: Write>(
     ensures end { OnOk result (IsAtEnd (R.remaining reader.new)) }
     ensures written { IfOk result (λ count. WritesRun (R.remaining reader.old) (W.contents writer.old) (W.contents writer.new) count) }
 
-    // `Config` names the configuration's first fault, or want of memory, and nothing was written.
+    // `Config` names the configuration's first fault, or want of memory, once its last line was read. Nothing was
+    // written then, nor where the limits are bad or memory was refused between the configuration and the requests.
     ensures config { (fault : _) → result ≡ Err (RunFault.Config fault) → IsRefusedBy (R.remaining reader.old) fault }
-    ensures unwritten { (fault : _) → result ≡ Err (RunFault.Config fault) → writer.new ≡ writer.old }
+    ensures config_read { (fault : _) → result ≡ Err (RunFault.Config fault) → IsBehindConfiguration (R.remaining reader.old) (R.remaining reader.new) }
+    ensures unwritten { (fault : _) → result ≡ Err fault → is_before_requests fault ≡ true → writer.new ≡ writer.old }
+
+    // For ends that had not failed before, ReadFault comes exactly where the reader failed in this run, and WriteFault
+    // exactly where the writer did.
+    ensures reader_noted { RunNotesRead (R.has_failed reader.old) (R.has_failed reader.new) result }
+    ensures writer_noted { RunNotesWrite (W.has_failed writer.old) (W.has_failed writer.new) result }
 
     // `BadLimits` comes exactly for limits outside their ranges, and then the reader and the writer are as they were.
     ensures limits { IsErrOf result RunFault.BadLimits ↔ (are_limits limits ≡ false) }
@@ -63,7 +72,7 @@ pub fn run_over<R: Read, W: Write>(
 }
 
 /// The configuration at the front of the input, or its first fault. All its lines are read in both cases.
-fn configuration<R: Read>(
+fn configuration<R: Source>(
     alloc: Global,
     input: &mut Input,
     reader: &mut R,
@@ -72,6 +81,8 @@ fn configuration<R: Read>(
     ensures read { IfOk result (λ answer. ReadsConfiguration (left_of input.old (R.remaining reader.old)) (left_of input.new (R.remaining reader.new)) answer) }
     ensures work { work_left input.new ≤ work_left input.old }
     ensures ended { AtEndIfEnded input.new (R.remaining reader.new) }
+    ensures noted { NotesRead (R.has_failed reader.old) (R.has_failed reader.new) result }
+    ensures reader_alone { IfErr result (λ fault. fault ≢ SessionFault.WriteFault) }
 {
     match configuration_lines(alloc, input, reader)? {
         Ok(draft) => Ok(draft.finish()),
@@ -80,7 +91,7 @@ fn configuration<R: Read>(
 }
 
 /// The lines of the configuration, or the first fault that a line has for itself. All its lines are read in both cases.
-fn configuration_lines<R: Read>(
+fn configuration_lines<R: Source>(
     alloc: Global,
     input: &mut Input,
     reader: &mut R,
@@ -89,6 +100,8 @@ fn configuration_lines<R: Read>(
     ensures read { IfOk result (λ read. ReadsOut (left_of input.old (R.remaining reader.old)) (left_of input.new (R.remaining reader.new)) read) }
     ensures work { work_left input.new ≤ work_left input.old }
     ensures ended { AtEndIfEnded input.new (R.remaining reader.new) }
+    ensures noted { NotesRead (R.has_failed reader.old) (R.has_failed reader.new) result }
+    ensures reader_alone { IfErr result (λ fault. fault ≢ SessionFault.WriteFault) }
 {
     let mut line = Line::new();
     let mut read = Ok(Draft::new(alloc));

@@ -1,9 +1,11 @@
 //! Whole runs over memory.
 
+use crate::ends::{EndFailed, Noted, Sink, Source, write_whole};
 use crate::faults::{RunFault, SessionFault};
 use crate::limits::{Limits, STATED};
 use crate::run::run_over;
-use command_reader::{FaultKind, LineFault};
+use crate::tables::Tables;
+use command_reader::{FaultKind, LineFault, read};
 use std::alloc::{AllocError, Global};
 use std::io;
 use std::io::{ErrorKind, Read, Write};
@@ -19,8 +21,9 @@ const CONFIGURATION: &str = "zone local gk-a example.com\n\
 /// What a run over this input answers, and what it wrote.
 fn run_of(alloc: Global, input: &[u8]) -> (Result<u64, RunFault>, Vec<u8>) {
     let mut output = Vec::new(alloc);
-    let mut reader = input;
-    let result = run_over(alloc, STATED, &mut reader, &mut output);
+    let mut reader = Noted::new(input);
+    let mut writer = Noted::new(&mut output);
+    let result = run_over(alloc, STATED, &mut reader, &mut writer);
     (result, output)
 }
 
@@ -44,20 +47,88 @@ fn assert_replies(
     Ok(())
 }
 
+/// The requests of the stored run, and its replies.
+const REQUESTS: &str = "RRQ 1 TERM ta gk-a 10.0.1.1:1720 e164=4085551000\n\
+    ARQ 2 ta 1001 4085551000 640\n\
+    ARQ 3 ta 1002 9123 640\n\
+    ARQ 4 ta 1003 4085559999 640\n";
+
+const REPLIES: &str = "RCF 1 ta gk-a\n\
+    ACF 2 1001 TERM ta 10.0.1.1:1720 640\n\
+    ACF 3 1002 ZONE gk-x 10.9.0.1:1719 640\n\
+    ARJ 4 1003 calledPartyNotRegistered no-default\n";
+
 #[test]
 fn routes_by_prefix_and_by_alias(rt: HostRuntime) -> Result<(), Fail> {
-    assert_replies(
-        &rt,
-        rt.alloc(),
-        b"RRQ 1 TERM ta gk-a 10.0.1.1:1720 e164=4085551000\n\
-        ARQ 2 ta 1001 4085551000 640\n\
-        ARQ 3 ta 1002 9123 640\n\
-        ARQ 4 ta 1003 4085559999 640\n",
-        "RCF 1 ta gk-a\n\
-        ACF 2 1001 TERM ta 10.0.1.1:1720 640\n\
-        ACF 3 1002 ZONE gk-x 10.9.0.1:1719 640\n\
-        ARJ 4 1003 calledPartyNotRegistered no-default\n",
-    )?;
+    assert_replies(&rt, rt.alloc(), REQUESTS.as_bytes(), REPLIES)?;
+    Ok(())
+}
+
+/// Two local zones and a remote one: in the first zone `ta`, in the second `tb` and `tc`.
+const TWO_ZONES: &str =
+    "zone local gk-a e.com\nzone local gk-b e.com\nzone remote gk-x e.com 10.9.0.1\n\
+    zone prefix gk-b 408*\nzone prefix gk-x 9*\n \tend\t\r\n\
+    RRQ 1 TERM ta gk-a 10.0.1.1 e164=4085551000 e164=7\n\
+    RRQ 2 GW tb gk-b 10.0.2.1 e164=4085552000 e164=8\n\
+    RRQ 3 TERM tc gk-b 10.0.2.2 e164=7\n\
+    RRQ 4 TERM tb gk-q 10.0.2.9\n\
+    RRQ 5 TERM tb gk-b 10.0.2.9 e164=7\n\
+    ARQ 6 ta 1 4085552000 0\n\
+    ARQ 7 ta 2 4085551000 0\n\
+    ARQ 8 tb 3 8 0\n\
+    ARQ 9 tb 4 7 0\n\
+    ARQ 10 ta 5 8 0\n\
+    ARQ 11 tb 6 9 4294967295\n";
+
+#[test]
+fn looks_in_the_target_zone_alone(rt: HostRuntime) -> Result<(), Fail> {
+    let (result, output) = run_of(rt.alloc(), TWO_ZONES.as_bytes());
+    let replies = "RCF 1 ta gk-a\n\
+        RCF 2 tb gk-b\n\
+        RRJ 3 tc duplicateAlias e164\n\
+        RRJ 4 tb undefinedReason unknown-zone\n\
+        RRJ 5 tb duplicateAlias id\n\
+        ACF 6 1 GW tb 10.0.2.1:1720 0\n\
+        ARJ 7 2 calledPartyNotRegistered no-default\n\
+        ACF 8 3 GW tb 10.0.2.1:1720 0\n\
+        ARJ 9 4 calledPartyNotRegistered no-default\n\
+        ARJ 10 5 calledPartyNotRegistered no-default\n\
+        ACF 11 6 ZONE gk-x 10.9.0.1:1719 4294967295\n";
+    assert_eq!(rt; output.as_slice(), replies.as_bytes());
+    assert_eq!(rt; result, Ok(11));
+    Ok(())
+}
+
+#[test]
+fn a_configuration_may_end_with_the_input(rt: HostRuntime) -> Result<(), Fail> {
+    let mut long = [b' '; 513];
+    long[..3].copy_from_slice(b"end");
+    let mut input = Vec::from_slice(rt.alloc(), b"zone local a b\n")?;
+    assert_eq!(rt; run_of(rt.alloc(), &input).0, Ok(0));
+    input.extend_from_slice(&long)?;
+    let (line, kind) = (2, FaultKind::TooLong);
+    let refused = Err(RunFault::Config(LineFault { line, kind }));
+    assert_eq!(rt; run_of(rt.alloc(), &input).0, refused);
+    Ok(())
+}
+
+#[test]
+fn faults_are_printed(rt: HostRuntime) -> Result<(), Fail> {
+    let (line, kind) = (7, FaultKind::TooMany);
+    for (fault, text) in [
+        (RunFault::BadLimits, "bad limits"),
+        (
+            RunFault::Config(LineFault { line, kind }),
+            "line 7: TooMany",
+        ),
+        (RunFault::Session(SessionFault::ReadFault), "session fault"),
+        (RunFault::Session(SessionFault::WriteFault), "session fault"),
+        (RunFault::Session(SessionFault::TurnsSpent), "session fault"),
+        (RunFault::Session(SessionFault::NoMemory), "no memory"),
+        (RunFault::NoMemory, "no memory"),
+    ] {
+        assert_eq!(rt; format!(in rt.alloc(); "{fault}")?.as_str(), text);
+    }
     Ok(())
 }
 
@@ -92,8 +163,6 @@ fn registers_in_order_of_refusals(rt: HostRuntime) -> Result<(), Fail> {
 
 #[test]
 fn answers_malformed_requests(rt: HostRuntime) -> Result<(), Fail> {
-    let mut long = [b'a'; 514];
-    long[513] = b'\n';
     for (request, reply) in [
         (b"\n".as_slice(), ""),
         (b" \t\r\n", ""),
@@ -107,7 +176,6 @@ fn answers_malformed_requests(rt: HostRuntime) -> Result<(), Fail> {
         (b"RRQ 5 TERM t\x80 gk-a 10.0.0.3\n", "ERR name\n"),
         (b"RRQ 5 TERM t\0 gk-a 10.0.0.3\n", "ERR name\n"),
         (b"RRQ 5 TERM tb gk-a 10.0.0.3 tech=1#\n", "ERR option\n"),
-        (long.as_slice(), "ERR line\n"),
         (b"RRQ\t5  TERM tb\tgk-a 10.0.0.3\r\n", "RCF 5 tb gk-a\n"),
         (b"RRQ 5 TERM tb gk-a 10.0.0.3", "RCF 5 tb gk-a\n"),
         (b"RRQ 5 TERM tb gk-a 10.0.0.3\r", "ERR address\n"),
@@ -119,9 +187,11 @@ fn answers_malformed_requests(rt: HostRuntime) -> Result<(), Fail> {
 
 #[test]
 fn reads_on_behind_a_line_of_any_length(rt: HostRuntime) -> Result<(), Fail> {
-    let mut requests = vec![in rt.alloc(); b'a'; 1_048_576]?;
-    requests.extend_from_slice(b"\nXYZ 1\n")?;
-    assert_replies(&rt, rt.alloc(), &requests, "ERR line\nERR word\n")?;
+    for length in [513, 514, 515, 1_048_576] {
+        let mut requests = vec![in rt.alloc(); b'a'; length]?;
+        requests.extend_from_slice(b"\nXYZ 1\n")?;
+        assert_replies(&rt, rt.alloc(), &requests, "ERR line\nERR word\n")?;
+    }
     Ok(())
 }
 
@@ -136,6 +206,18 @@ fn takes_the_first_line_of_a_pattern_and_the_longest_pattern(rt: HostRuntime) ->
     let replies = "RCF 1 ta a\nACF 2 1 ZONE x 10.9.0.1:1719 0\n\
         ACF 3 2 ZONE y 10.9.0.2:1800 0\nACF 4 3 ZONE x 10.9.0.1:1719 0\n";
     assert_eq!(rt; output.as_slice(), replies.as_bytes());
+    Ok(())
+}
+
+#[test]
+fn tables_keep_their_configuration(rt: HostRuntime) -> Result<(), Fail> {
+    let configuration = b"zone local a b\n! a remark\nzone prefix a 9*\n";
+    let Ok(commands) = read(rt.alloc(), configuration) else {
+        panic!(rt; "refused");
+    };
+    let tables = Tables::compile(rt.alloc(), commands)?;
+    assert_eq!(rt; tables.commands().len(), 2);
+    assert_eq!(rt; tables.commands().passed(), 1);
     Ok(())
 }
 
@@ -168,30 +250,73 @@ fn refuses_a_faulty_configuration(rt: HostRuntime) -> Result<(), Fail> {
     Ok(())
 }
 
-/// A reader that gives one byte a call and then fails.
+/// A source that gives these bytes, one a call, and then fails.
 #[derive(Drop)]
-struct FailingReader {
-    calls_left: u32,
+struct FailingSource<'a> {
+    bytes: &'a [u8],
+    failed: bool,
 }
 
-impl Read for FailingReader {
-    fn read(&mut self, buf: &mut [u8]) -> io::Result<usize> {
-        if self.calls_left == 0 || buf.is_empty() {
-            return Err(io::Error::from(ErrorKind::Other));
+impl Source for FailingSource<'_> {
+    ghost use Rattle.std.specs.Prelude.{None};
+
+    ghost remaining = { λ _. None };
+
+    ghost has_failed = { λ source. source.failed };
+
+    fn read(&mut self, piece: &mut [u8]) -> Result<usize, EndFailed> {
+        match self.bytes {
+            [byte, rest @ ..] if !piece.is_empty() => {
+                piece[0] = *byte;
+                self.bytes = rest;
+                Ok(1)
+            }
+            _ => {
+                self.failed = true;
+                Err(EndFailed)
+            }
         }
-        self.calls_left -= 1;
-        buf[0] = b'\n';
-        Ok(1)
     }
 }
 
-/// A writer that fails.
+/// A sink that fails.
 #[derive(Drop)]
-struct FailingWriter;
+struct FailingSink {
+    failed: bool,
+}
 
-impl Write for FailingWriter {
-    fn write(&mut self, _buf: &[u8]) -> io::Result<usize> {
-        Err(io::Error::from(ErrorKind::Other))
+impl Sink for FailingSink {
+    ghost use Rattle.std.specs.Prelude.{None};
+
+    ghost contents = { λ _. None };
+
+    ghost has_failed = { λ sink. sink.failed };
+
+    fn write(&mut self, _bytes: &[u8]) -> Result<usize, EndFailed> {
+        self.failed = true;
+        Err(EndFailed)
+    }
+}
+
+/// A reader and writer of the library that fails where its result is none.
+#[derive(Drop)]
+struct Answering(Option<usize>);
+
+impl Read for Answering {
+    fn read(&mut self, buf: &mut [u8]) -> io::Result<usize> {
+        match self.0 {
+            Some(count) => Ok(count.min(buf.len())),
+            None => Err(io::Error::from(ErrorKind::Other)),
+        }
+    }
+}
+
+impl Write for Answering {
+    fn write(&mut self, buf: &[u8]) -> io::Result<usize> {
+        match self.0 {
+            Some(count) => Ok(count.min(buf.len())),
+            None => Err(io::Error::from(ErrorKind::Other)),
+        }
     }
 
     fn flush(&mut self) -> io::Result<()> {
@@ -201,13 +326,49 @@ impl Write for FailingWriter {
 
 #[test]
 fn names_the_side_that_failed(rt: HostRuntime) -> Result<(), Fail> {
-    let mut output = Vec::new(rt.alloc());
-    let mut reader = FailingReader { calls_left: 3 };
-    let read = run_over(rt.alloc(), STATED, &mut reader, &mut output);
-    assert_eq!(rt; read, Err(RunFault::Session(SessionFault::ReadFault)));
-    let mut input = b"zone local a b\nend\nXYZ 1\n".as_slice();
-    let written = run_over(rt.alloc(), STATED, &mut input, &mut FailingWriter);
+    for bytes in [
+        b"\n\n\n".as_slice(),
+        b"host\nzone local a b\nend",
+        b"zone local a b\nend\nXYZ 1\n",
+    ] {
+        let mut output = Vec::new(rt.alloc());
+        let mut source = FailingSource {
+            bytes,
+            failed: false,
+        };
+        let mut sink = Noted::new(&mut output);
+        let read = run_over(rt.alloc(), STATED, &mut source, &mut sink);
+        assert_eq!(rt; read, Err(RunFault::Session(SessionFault::ReadFault)));
+        assert!(rt; source.failed);
+        assert!(rt; !sink.has_failed());
+    }
+    let mut source = Noted::new(b"zone local a b\nend\nXYZ 1\n".as_slice());
+    let mut sink = FailingSink { failed: false };
+    let written = run_over(rt.alloc(), STATED, &mut source, &mut sink);
     assert_eq!(rt; written, Err(RunFault::Session(SessionFault::WriteFault)));
+    assert!(rt; sink.failed);
+    assert!(rt; !source.has_failed());
+    Ok(())
+}
+
+#[test]
+fn notes_what_fails(rt: HostRuntime) -> Result<(), Fail> {
+    let mut piece = [0; 4];
+    for (answer, read, read_fails, written, write_fails) in [
+        (Some(3), Ok(3), false, Ok(3), false),
+        (Some(0), Ok(0), false, Err(EndFailed), true),
+        (None, Err(EndFailed), true, Err(EndFailed), true),
+    ] {
+        let mut source = Noted::new(Answering(answer));
+        assert_eq!(rt; source.read(&mut piece), read);
+        assert_eq!(rt; source.has_failed(), read_fails);
+        let mut sink = Noted::new(Answering(answer));
+        assert_eq!(rt; sink.write(b"abcd"), written);
+        assert_eq!(rt; sink.has_failed(), write_fails);
+        let mut idle = Noted::new(Answering(answer));
+        assert_eq!(rt; write_whole(&mut idle, b""), Ok(()));
+        assert_eq!(rt; write_whole(&mut idle, b"abcd").is_ok(), !write_fails);
+    }
     Ok(())
 }
 
@@ -245,10 +406,14 @@ fn refuses_limits_before_it_reads(rt: HostRuntime) -> Result<(), Fail> {
         },
     ] {
         let mut output = Vec::new(rt.alloc());
-        let mut reader = FailingReader { calls_left: 3 };
-        let result = run_over(rt.alloc(), limits, &mut reader, &mut output);
+        let mut source = FailingSource {
+            bytes: b"end",
+            failed: false,
+        };
+        let mut sink = Noted::new(&mut output);
+        let result = run_over(rt.alloc(), limits, &mut source, &mut sink);
         assert_eq!(rt; result, Err(RunFault::BadLimits));
-        assert_eq!(rt; reader.calls_left, 3);
+        assert_eq!(rt; source.bytes, b"end".as_slice());
     }
     Ok(())
 }
@@ -295,23 +460,30 @@ impl Write for ByteByByte {
 #[test]
 fn cuts_change_nothing(rt: HostRuntime) -> Result<(), Fail> {
     let mut input = Vec::from_slice(rt.alloc(), CONFIGURATION.as_bytes())?;
+    input.extend_from_slice(REQUESTS.as_bytes())?;
     input.extend_from_slice(
-        b"RRQ 1 TERM ta gk-a 10.0.1.1:1720 e164=4085551000\r\n\nARQ 2 ta 1001 4085551000 640\n\
-        XYZ 1\nARQ 5 ta 1001 9123 640 x\nARQ 3 ta 1002 9123 640",
+        b"\r\n\nXYZ 1\nARQ 0 ta 1 9 0\nARQ 5 ta 1001 9123\nARQ 5 ta 1001 9123 640 x\nARQ 5 ta 0 9123 640\n\
+        RRQ 5 TERM tb gk-a 10.0.0.300\nRRQ 5 PBX tb gk-a 10.0.0.3\n",
     )?;
-    let replies = "RCF 1 ta gk-a\nACF 2 1001 TERM ta 10.0.1.1:1720 640\n\
-        ERR word\nERR extra\nACF 3 1002 ZONE gk-x 10.9.0.1:1719 640\n";
+    input.extend_from_slice(&[b'a'; 513])?;
+    input.extend_from_slice(b"\r\nARQ 6 ta 1002 9123 640")?;
+    let mut replies = Vec::from_slice(rt.alloc(), REPLIES.as_bytes())?;
+    replies.extend_from_slice(
+        b"ERR word\nERR seq\nERR missing\nERR extra\nERR number\nERR address\nERR option\nERR line\n\
+        ACF 6 1002 ZONE gk-x 10.9.0.1:1719 640\n",
+    )?;
     for most in [1, 2, 3, 7] {
-        let mut reader = Pieces {
-            bytes: input.as_slice(),
-            most,
-        };
         let mut writer = ByteByByte {
             bytes: Vec::new(rt.alloc()),
         };
-        let result = run_over(rt.alloc(), STATED, &mut reader, &mut writer);
-        assert_eq!(rt; result, Ok(5));
-        assert_eq!(rt; writer.bytes.as_slice(), replies.as_bytes());
+        let mut source = Noted::new(Pieces {
+            bytes: input.as_slice(),
+            most,
+        });
+        let mut sink = Noted::new(&mut writer);
+        let result = run_over(rt.alloc(), STATED, &mut source, &mut sink);
+        assert_eq!(rt; result, Ok(13));
+        assert_eq!(rt; writer.bytes.as_slice(), replies.as_slice());
     }
     Ok(())
 }

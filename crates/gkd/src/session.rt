@@ -1,10 +1,12 @@
 //! A session: requests in, replies out.
 
-ghost use Rattle.std.specs.Prelude.{◌≡◌, ◌^◌, ◌<◌, IfOk, OnOk};
+ghost use Rattle.std.specs.Prelude.{◌≡◌, ◌≢◌, ◌^◌, ◌<◌, IfOk, IfErr, OnOk};
 ghost use Rattle.std.specs.Io.KnownBytes.{Appends, IsAtEnd};
+ghost use Rattle.gkd.specs.Ends.{Notes, NotesRead, NotesWrite};
 ghost use Rattle.gkd.specs.Input.{work_left, left_of, AtEndIfEnded};
 ghost use Rattle.gkd.specs.Session.{line_of_answer, asked_in, AnswersLine, IsAnswerTo, WritesSession};
 
+use crate::ends::{Sink, Source, write_whole};
 use crate::faults::SessionFault;
 use crate::input::Input;
 use crate::line::Line;
@@ -13,13 +15,13 @@ use crate::replies::{Answer, RegisterRefusal, Reply};
 use crate::request_faults::Unread;
 use crate::request_lines::request_in;
 use std::alloc::Global;
-use std::io::{Read, Write};
+use std::io::Write;
 
 /// How many bytes the longest reply has room for without growing the buffer.
 const REPLY_BYTES: usize = 1_024;
 
 /// Answers the requests of the input to its end, and says how many replies were written.
-pub fn session<R: Read, W: Write>(
+pub fn session<R: Source, W: Sink>(
     alloc: Global,
     input: &mut Input,
     reader: &mut R,
@@ -31,6 +33,8 @@ pub fn session<R: Read, W: Write>(
     ensures end { OnOk result (IsAtEnd (R.remaining reader.new)) }
     ensures written { IfOk result (λ count. WritesSession (left_of input.old (R.remaining reader.old))
         machine.old machine.new (W.contents writer.old) (W.contents writer.new) count) }
+    ensures reader_noted { NotesRead (R.has_failed reader.old) (R.has_failed reader.new) result }
+    ensures writer_noted { NotesWrite (W.has_failed writer.old) (W.has_failed writer.new) result }
 {
     let mut line = Line::new();
     let Ok(mut reply) = Vec::with_capacity(alloc, REPLY_BYTES) else {
@@ -75,11 +79,13 @@ fn answer_to_unread(unread: Unread) -> Answer
 }
 
 /// Writes an answer as one line, in one call of the writer where it takes the whole.
-fn send<W: Write>(reply: &mut Vec<u8>, writer: &mut W, answer: Answer) -> Result<(), SessionFault>
-    ensures { OnOk result (Appends (W.contents writer.old) (W.contents writer.new) (line_of_answer answer)) }
+fn send<W: Sink>(reply: &mut Vec<u8>, writer: &mut W, answer: Answer) -> Result<(), SessionFault>
+    ensures sent { OnOk result (Appends (W.contents writer.old) (W.contents writer.new) (line_of_answer answer)) }
+    ensures noted { NotesWrite (W.has_failed writer.old) (W.has_failed writer.new) result }
+    ensures writer_alone { IfErr result (λ fault. fault ≢ SessionFault.ReadFault) }
 {
     render(reply, answer)?;
-    match writer.write_all(reply) {
+    match write_whole(writer, reply) {
         Ok(()) => Ok(()),
         Err(_) => Err(SessionFault::WriteFault),
     }
@@ -87,11 +93,12 @@ fn send<W: Write>(reply: &mut Vec<u8>, writer: &mut W, answer: Answer) -> Result
 
 /// Makes the line of an answer in place of what the buffer held.
 fn render(reply: &mut Vec<u8>, answer: Answer) -> Result<(), SessionFault>
-    ensures { OnOk result (reply.new.items ≡ line_of_answer answer) }
+    ensures ok { OnOk result (reply.new.items ≡ line_of_answer answer) }
+    ensures err { IfErr result (λ fault. fault ≡ SessionFault.NoMemory) }
 {
     reply.clear();
     match writeln!(reply, "{answer}") {
         Ok(()) => Ok(()),
-        Err(_) => Err(SessionFault::WriteFault),
+        Err(_) => Err(SessionFault::NoMemory),
     }
 }

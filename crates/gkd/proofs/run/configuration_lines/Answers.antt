@@ -1,7 +1,6 @@
-use Rattle.std.proofs.Common.{◌≡◌, ◌≤◌, true, false, sym, ap, ◌∙◌, arith}
+use Rattle.std.proofs.Common.{◌≡◌, true, false, sym, ap, ◌∙◌, arith}
 use Rattle.gk_terms.specs.Text.{content_of}
-use Rattle.gkd.specs.Input.{work_left, left_of}
-use Rattle.gkd.specs.Run.{ends_configuration, ContinuesWith, ReadingUnderWay}
+use Rattle.gkd.specs.Run.{ends_configuration}
 use Rattle.gkd.proofs.RunLemmas.{reading_goes_on, reading_ends}
 use Rattle.gkd.proofs.run.configuration_lines.Goals as goal
 
@@ -19,4 +18,5 @@ loop-read-preserved g c =
       work = omega (arith, c.loop-read.invariant.work, c.in_ok-next_line.ensures.work);
       ended = c.in_ok-next_line.ensures.ended;
       under_way = reading_goes_on _ _ _ c.next_line.new.line _ _ (c.in_ok-next_line.ensures.line c.if-branch.true) goes_on (rw c.content.ensures at c.with_line-read.ensures) c.loop-read.invariant.under_way;
+      noted = c.in_ok-next_line.ensures.noted ∙ c.loop-read.invariant.noted;
     }

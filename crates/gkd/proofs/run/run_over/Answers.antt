@@ -1,16 +1,19 @@
-use Rattle.std.proofs.Common.{◌≡◌, sym, ap, subst, ◌∙◌}
+use Rattle.std.proofs.Common.{◌≡◌, ap, subst, ◌∙◌}
 use Rattle.std.specs.Prelude.{Option, List, ℕ, Ok}
 use Rattle.gkd.specs.State.{State}
 use Rattle.gkd.specs.Input.{left_of}
 use Rattle.gkd.specs.Session.{WritesSession}
-use Rattle.gkd.specs.Run.{opening_of, ReadsConfiguration, WritesRun}
+use Rattle.gkd.specs.Run.{opening_of, ReadsConfiguration}
 use Rattle.gkd.proofs.RunLemmas.{run_writes, left_at_first}
+use Rattle.std.proofs.Common.{refl}
+use Rattle.std.proofs.lemmas.Result.{err_from_is_err_and}
+use Rattle.gkd.proofs.EndsLemmas.{not_of_writer}
 use Rattle.gkd.proofs.run.run_over.Goals as goal
 
 pub returns-clause-written : goal.returns-clause-written
 returns-clause-written g c =
-    let remaining = g.R.Read.remaining in
-    let contents = g.W.Write.contents in
+    let remaining = g.R.Source.remaining in
+    let contents = g.W.Sink.contents in
     let input = c.configuration.new.input in
     let reader = c.configuration.new.reader in
     let begun : left_of c.new-input.result (remaining c.args.reader.now) ≡ remaining c.args.reader.now =
@@ -24,3 +27,8 @@ returns-clause-written g c =
     subst (λ (s : State). WritesSession (left_of input (remaining reader)) s c.session.new.machine (contents c.args.writer.now) (contents c.session.new.writer) c.in_ok-replies.replies) opening
     c.in_ok-replies.ensures.written in
     run_writes _ _ _ _ c.in-Ok.commands _ _ read written
+
+pub returns-in_err-commands-clause-writer_noted : goal.returns-in_err-commands-clause-writer_noted
+returns-in_err-commands-clause-writer_noted g c =
+    let p = err_from_is_err_and c.from_residual.result c.from_residual.ensures.1 in
+    rw (p.1, p.2) (not_of_writer _ _ _ refl c.in_err-commands.ensures.reader_alone)

@@ -1,4 +1,4 @@
-use Rattle.std.proofs.Common.{◌≡◌, ◌+◌, ◌<◌, length, length-append, sym, ap, subst, ◌∙◌, arith}
+use Rattle.std.proofs.Common.{◌≡◌, ◌+◌, ◌<◌, length, length-append, refl, sym, ap, subst, ◌∙◌, arith, inr}
 use Rattle.std.specs.HashSet.{keys}
 use Rattle.std.proofs.lemmas.Result.{err_from_is_err_and}
 use Rattle.std.proofs.lemmas.List.{map-append}
@@ -11,6 +11,12 @@ pub returns-in_err-index : goal.returns-in_err-index
 returns-in_err-index c =
     let p = err_from_is_err_and c.from_residual.result c.from_residual.ensures.1 in
     rw (p.1, p.2, ← c.self.view_is) (faulty_line (keys c.self.inside.declared) _ c.args.command _ c.self.invariant.1 c.in_err-index.ensures)
+
+pub returns-in_err-push : goal.returns-in_err-push
+returns-in_err-push c =
+    let p = err_from_is_err_and c.from_residual-in_err-push.result c.from_residual-in_err-push.ensures.1 in
+    rw (p.1, p.2, ← c.self.view_is)
+    (inr (refl, well_line (keys c.self.inside.declared) _ c.args.command c.self.invariant.1 c.in_ok-index.ensures.0))
 
 pub invariant_of-self : goal.invariant_of-self
 invariant_of-self c =

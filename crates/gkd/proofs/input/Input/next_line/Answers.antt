@@ -28,4 +28,5 @@ loop-more-preserved g c =
       progress = λ _. rw (c.take_part.ensures.turns, c.take_part.ensures.taken) (omega (arith, some, length-drop (length_in_line c.fill.new.self.pending) c.fill.new.self.pending));
       ended = rw (c.take_part.ensures.same_end) c.fill.ensures.ended;
       line = rw (c.take_part.ensures.taken, c.take_part.ensures.kept) (line_goes_on _ _ _ _ _ _ c.loop-more.invariant.line c.fill.ensures.left some past);
+      noted = c.in_ok-fill.ensures.noted ∙ c.loop-more.invariant.noted;
     }

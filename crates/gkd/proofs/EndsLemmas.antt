@@ -1,0 +1,60 @@
+-- Bytes that are written part by part.
+use Rattle.std.proofs.Common.{◌≡◌, ◌≢◌, ℕ, Bool, List, [], ◌++◌, take, drop, refl, sym, ap, subst, ◌∙◌, append_assoc, append-nil}
+use Rattle.std.specs.Prelude.{Option, Some, None}
+use Rattle.std.specs.Io.KnownBytes.{Appends, Keeps}
+use Rattle.std.proofs.lemmas.List.{take-append-drop}
+use Rattle.gkd.specs.declared.faults.SessionFault.{SessionFault}
+use Rattle.gkd.specs.declared.faults.SessionFault.TheVariants.{ReadFault, WriteFault, NoMemory, TurnsSpent}
+use Rattle.gkd.specs.Ends.{AppendsUpTo, AppendsFront, FaultNotesRead, FaultNotesWrite}
+
+pub appends_nothing : (known : Option (List ℕ)) → Appends known known []
+appends_nothing None = tt
+appends_nothing (Some bytes) = sym (append-nil bytes)
+
+pub appends_more : (a b c : Option (List ℕ)) (first second : List ℕ) → Appends a b first → Appends b c second → Appends a c (first ++ second)
+appends_more None b c first second h k = tt
+appends_more (Some x) None c first second h k = absurd h
+appends_more (Some x) (Some y) None first second h k = absurd k
+appends_more (Some x) (Some y) (Some z) first second h k = k ∙ ap (λ front. front ++ second) h ∙ append_assoc x first second
+
+appends_kept : (a b c : Option (List ℕ)) (bytes : List ℕ) → Appends a b bytes → Keeps b c → Appends a c bytes
+appends_kept None b c bytes h k = tt
+appends_kept (Some x) None c bytes h k = absurd h
+appends_kept (Some x) (Some y) None bytes h k = absurd k
+appends_kept (Some x) (Some y) (Some z) bytes h k = k ∙ h
+
+-- before the first part
+pub write_begins : (known : Option (List ℕ)) (bytes : List ℕ) → AppendsUpTo known known bytes bytes
+write_begins known bytes = ([], refl, appends_nothing known)
+
+-- one more part
+pub write_goes_on : (old mid new : Option (List ℕ)) (bytes rest : List ℕ) (count : ℕ) → AppendsUpTo old mid bytes rest → Appends mid new (take count rest) → AppendsUpTo old new bytes (drop count rest)
+write_goes_on old mid new bytes rest count so_far more =
+    let front = so_far.0 in
+    let split : bytes ≡ (front ++ take count rest) ++ drop count rest =
+    so_far.1 ∙ ap (λ r. front ++ r) (sym (take-append-drop count rest)) ∙ sym (append_assoc front (take count rest) (drop count rest)) in
+    (front ++ take count rest, split, appends_more old mid new front (take count rest) so_far.2 more)
+
+-- nothing is left to write
+pub write_ends : (old new : Option (List ℕ)) (bytes rest : List ℕ) → AppendsUpTo old new bytes rest → rest ≡ [] → Appends old new bytes
+write_ends old new bytes rest so_far none =
+    subst (λ (whole : List ℕ). Appends old new whole) (sym (so_far.1 ∙ ap (λ r. so_far.0 ++ r) none ∙ append-nil so_far.0)) so_far.2
+
+-- the next part is refused
+pub write_fails : (old mid new : Option (List ℕ)) (bytes rest : List ℕ) → AppendsUpTo old mid bytes rest → Keeps mid new → AppendsFront old new bytes
+write_fails old mid new bytes rest so_far kept = (rest, (so_far.0, so_far.1, appends_kept old mid new so_far.0 so_far.2 kept))
+
+-- ---- notes
+-- a fault of another kind than writing says that the writer's note is as it was
+pub not_of_writer : (old new : Bool) (fault : SessionFault) → new ≡ old → fault ≢ WriteFault → FaultNotesWrite old new fault
+not_of_writer old new ReadFault same other = same
+not_of_writer old new WriteFault same other = absurd (other refl)
+not_of_writer old new NoMemory same other = same
+not_of_writer old new TurnsSpent same other = same
+
+-- and one of another kind than reading that the reader's is
+pub not_of_reader : (old new : Bool) (fault : SessionFault) → new ≡ old → fault ≢ ReadFault → FaultNotesRead old new fault
+not_of_reader old new ReadFault same other = absurd (other refl)
+not_of_reader old new WriteFault same other = same
+not_of_reader old new NoMemory same other = same
+not_of_reader old new TurnsSpent same other = same
