@@ -11,7 +11,7 @@ use Rattle.gkd.specs.declared.requests.Request.{Request}
 use Rattle.gkd.specs.declared.replies.Answer.{Answer}
 use Rattle.gkd.specs.State.{State}
 use Rattle.gkd.specs.Machine.{MayAnswer}
-use Rattle.gkd.specs.Requests.{asking_of, registering_of, asked_by, registering_by, registering_at, register_at, admit_at, asked, IsUnread}
+use Rattle.gkd.specs.Requests.{asking_of, registering_of, asked_by, registering_by, registering_at, register_at, unregister_at, admit_at, asked, IsUnread}
 use Rattle.gkd.specs.Session.{Asked, asked_in, asked_so, no_memory_to, Replies, IsAnswerTo}
 
 -- a request or a fault is no blank line
@@ -24,7 +24,7 @@ registering_asks_by [] x h k = cc
 registering_asks_by (word ∷ words) x h k =
     ⊎_elim
     (λ (yes : bytes_eq word (codes "RRQ") ≡ true).
-    asks (register_at words) (sym (ap (λ b. cond b (asked (register_at words)) (cond (bytes_eq word (codes "ARQ")) (asked (admit_at words)) (Err UnknownWord))) yes) ∙ k))
+    asks (register_at words) (sym (ap (λ b. cond b (asked (register_at words)) (cond (bytes_eq word (codes "URQ")) (asked (unregister_at words)) (cond (bytes_eq word (codes "ARQ")) (asked (admit_at words)) (Err UnknownWord)))) yes) ∙ k))
     (λ (other : bytes_eq word (codes "RRQ") ≡ false).
     let none : None ≡ Some x = sym (ap (λ b. cond b (registering_at words) None) other) ∙ h in cc)
     (cases_Bool (bytes_eq word (codes "RRQ")))

@@ -1,11 +1,11 @@
 -- Bytes that are written part by part.
-use Rattle.std.proofs.Common.{◌≡◌, ◌≢◌, ℕ, Bool, List, [], ◌++◌, take, drop, refl, sym, ap, subst, ◌∙◌, append_assoc, append-nil}
+use Rattle.std.proofs.Common.{◌≡◌, ◌≢◌, ℕ, Bool, List, [], ◌++◌, take, drop, refl, sym, ap, ◌∙◌, append_assoc, append-nil}
 use Rattle.std.specs.Prelude.{Option, Some, None}
-use Rattle.std.specs.Io.KnownBytes.{Appends, Keeps}
+use Rattle.std.specs.Io.KnownBytes.{Appends}
 use Rattle.std.proofs.lemmas.List.{take-append-drop}
 use Rattle.gkd.specs.declared.faults.SessionFault.{SessionFault}
 use Rattle.gkd.specs.declared.faults.SessionFault.TheVariants.{ReadFault, WriteFault, NoMemory, TurnsSpent}
-use Rattle.gkd.specs.Ends.{AppendsUpTo, AppendsFront, FaultNotesRead, FaultNotesWrite}
+use Rattle.gkd.specs.Ends.{AppendsUpTo, FaultNotesRead, FaultNotesWrite}
 
 pub appends_nothing : (known : Option (List ℕ)) → Appends known known []
 appends_nothing None = tt
@@ -17,16 +17,6 @@ appends_more (Some x) None c first second h k = absurd h
 appends_more (Some x) (Some y) None first second h k = absurd k
 appends_more (Some x) (Some y) (Some z) first second h k = k ∙ ap (λ front. front ++ second) h ∙ append_assoc x first second
 
-appends_kept : (a b c : Option (List ℕ)) (bytes : List ℕ) → Appends a b bytes → Keeps b c → Appends a c bytes
-appends_kept None b c bytes h k = tt
-appends_kept (Some x) None c bytes h k = absurd h
-appends_kept (Some x) (Some y) None bytes h k = absurd k
-appends_kept (Some x) (Some y) (Some z) bytes h k = k ∙ h
-
--- before the first part
-pub write_begins : (known : Option (List ℕ)) (bytes : List ℕ) → AppendsUpTo known known bytes bytes
-write_begins known bytes = ([], refl, appends_nothing known)
-
 -- one more part
 pub write_goes_on : (old mid new : Option (List ℕ)) (bytes rest : List ℕ) (count : ℕ) → AppendsUpTo old mid bytes rest → Appends mid new (take count rest) → AppendsUpTo old new bytes (drop count rest)
 write_goes_on old mid new bytes rest count so_far more =
@@ -34,15 +24,6 @@ write_goes_on old mid new bytes rest count so_far more =
     let split : bytes ≡ (front ++ take count rest) ++ drop count rest =
     so_far.1 ∙ ap (λ r. front ++ r) (sym (take-append-drop count rest)) ∙ sym (append_assoc front (take count rest) (drop count rest)) in
     (front ++ take count rest, split, appends_more old mid new front (take count rest) so_far.2 more)
-
--- nothing is left to write
-pub write_ends : (old new : Option (List ℕ)) (bytes rest : List ℕ) → AppendsUpTo old new bytes rest → rest ≡ [] → Appends old new bytes
-write_ends old new bytes rest so_far none =
-    subst (λ (whole : List ℕ). Appends old new whole) (sym (so_far.1 ∙ ap (λ r. so_far.0 ++ r) none ∙ append-nil so_far.0)) so_far.2
-
--- the next part is refused
-pub write_fails : (old mid new : Option (List ℕ)) (bytes rest : List ℕ) → AppendsUpTo old mid bytes rest → Keeps mid new → AppendsFront old new bytes
-write_fails old mid new bytes rest so_far kept = (rest, (so_far.0, so_far.1, appends_kept old mid new so_far.0 so_far.2 kept))
 
 -- ---- notes
 -- a fault of another kind than writing says that the writer's note is as it was

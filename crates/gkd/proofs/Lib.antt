@@ -7,4 +7,11 @@ pub mod KeptLines
 pub mod AskedLemmas
 pub mod SessionLemmas
 pub mod RunLemmas
+pub mod CallLemmas
+pub mod RegistryLemmas
 pub mod RouteLaws
+pub mod StepLemmas
+pub mod HistoryLaws
+pub mod MachineLemmas
+pub mod CoreLemmas
+pub mod RecordLemmas

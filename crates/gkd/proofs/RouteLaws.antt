@@ -1,5 +1,5 @@
 -- How calls are routed: each reply to an admission comes of the longest matching pattern, or of the caller's own zone.
-use Rattle.std.proofs.Common.{◌≡◌, ◌⊎◌, inl, inr, ℕ, ◌+◌, Bool, true, false, not, cond, ◌&&◌, ◌||◌, List, [], ◌∷◌, map, filter, find, Option, Some, None, Result, Ok, Err, option_map, is_some, bytes_eq, refl, sym, ap, subst, ◌∙◌, true≢false}
+use Rattle.std.proofs.Common.{◌≡◌, ◌≢◌, ◌⊎◌, inl, inr, ℕ, ◌+◌, Bool, true, false, not, cond, ◌&&◌, ◌||◌, List, [], ◌∷◌, map, filter, find, Option, Some, None, Result, Ok, Err, option_map, is_some, bytes_eq, refl, sym, ap, subst, ◌∙◌, true≢false}
 use Rattle.std.specs.List.{All, list_any}
 use Rattle.std.specs.Cmp.Lexicographic.{same_text}
 use Rattle.std.proofs.lemmas.Cmp.{nat_list_eq_equiv}
@@ -22,19 +22,22 @@ use Rattle.command_reader.specs.Configuration.{Configuration}
 use Rattle.command_reader.specs.Progress.{Progress, commands_in, line_count}
 use Rattle.command_reader.specs.Reading.{names_unknown, unknown_zone, zones_checked, finished, whole_of, fault_at, lines_after, nothing_read}
 use Rattle.command_reader.specs.declared.faults.FaultKind.TheVariants.{NoLocalZone}
-use Rattle.gkd.specs.declared.requests.Request.TheVariants.{Admit}
+use Rattle.gkd.specs.declared.events.Event.TheVariants.{Admit}
 use Rattle.gkd.specs.declared.replies.Destination.{Destination}
 use Rattle.gkd.specs.declared.replies.Destination.TheVariants.{Zone as ToZone}
+use Rattle.gkd.specs.declared.replies.Route.{Route}
+use Rattle.gkd.specs.declared.replies.Route.TheVariants.{To, Refused}
 use Rattle.gkd.specs.declared.replies.RouteRefusal.TheVariants.{NoDefault}
-use Rattle.gkd.specs.declared.replies.AdmitRefusal.TheVariants.{CallerNotRegistered, NoRoute}
+use Rattle.gkd.specs.declared.replies.AdmitRefusal.TheVariants.{CallerNotRegistered, CallOpen, NoRoute}
+use Rattle.gkd.specs.declared.replies.Reply.{Reply}
 use Rattle.gkd.specs.declared.replies.Reply.TheVariants.{Admitted, AdmitRefused}
-use Rattle.gkd.specs.declared.replies.Answer.TheVariants.{Core}
 use Rattle.gkd.specs.Endpoint.{EndpointParts, has_alias}
 use Rattle.gkd.specs.State.{State}
 use Rattle.gkd.specs.Registration.{endpoint_of, by_alias}
 use Rattle.gkd.specs.Routing.{Row, rows_of, row_for, to_kind, to_alias, plan_to, plan_by, plan_of, route_to, route_of}
 use Rattle.gkd.specs.Run.{reading_in}
-use Rattle.gkd.specs.Machine.{turn_of, admission_reply, reply_to_route}
+use Rattle.gkd.specs.Calls.{is_open}
+use Rattle.gkd.specs.Step.{verdict_of, admission_by, admission_for}
 use Rattle.gkd.specs.RouteLaws.{IsFirst, HasDigits, ReachesEndpoint, ReachesNone, IsLongestRow, NoneMatches, RoutedByPattern, RoutedByCallersZone, IsRouted, PatternFoundNone, CallersZoneFoundNone, FoundNone, AdmissionsAreRouted, RefusalsFoundNone, StrangersAreRefused}
 
 -- ---- the first of a list
@@ -117,21 +120,21 @@ module _ (zone digits : List ℕ) where
       let alias : has_alias e digits ≡ true = list_any-from_Contains nat_list_eq_equiv digits e.aliases has.1 in
       true≢false (sym (and_from (bytes_eq e.zone zone) (has_alias e digits) there alias) ∙ h)
 
-  reaches : (endpoints : List EndpointParts) (destination : Destination) → to_alias (by_alias endpoints zone digits) ≡ Some destination → ReachesEndpoint endpoints zone digits destination
+  reaches : (endpoints : List EndpointParts) (destination : Destination) → to_alias (by_alias endpoints zone digits) ≡ To destination → ReachesEndpoint endpoints zone digits destination
   reaches endpoints destination h = by (by_alias endpoints zone digits) refl h
     where
-      by : (found : Option EndpointParts) → by_alias endpoints zone digits ≡ found → to_alias found ≡ Some destination → ReachesEndpoint endpoints zone digits destination
-      by None e h = absurd (none-some destination h)
+      by : (found : Option EndpointParts) → by_alias endpoints zone digits ≡ found → to_alias found ≡ To destination → ReachesEndpoint endpoints zone digits destination
+      by None e h = let impossible : ⊥ = cc in absurd impossible
       by (Some x) e h =
           let same : to_kind x.kind x ≡ destination = cc in
           (x, found_first (λ e. bytes_eq e.zone zone && has_alias e digits) (HasDigits zone digits) digits_told digits_untold endpoints x e, sym same)
 
-  reaches_none : (endpoints : List EndpointParts) → to_alias (by_alias endpoints zone digits) ≡ None → ReachesNone endpoints zone digits
+  reaches_none : (endpoints : List EndpointParts) → to_alias (by_alias endpoints zone digits) ≡ Refused NoDefault → ReachesNone endpoints zone digits
   reaches_none endpoints h = by (by_alias endpoints zone digits) refl h
     where
-      by : (found : Option EndpointParts) → by_alias endpoints zone digits ≡ found → to_alias found ≡ None → ReachesNone endpoints zone digits
+      by : (found : Option EndpointParts) → by_alias endpoints zone digits ≡ found → to_alias found ≡ Refused NoDefault → ReachesNone endpoints zone digits
       by None e h = found_none (λ e. bytes_eq e.zone zone && has_alias e digits) (HasDigits zone digits) digits_told digits_untold endpoints e
-      by (Some x) e h = absurd (none-some (to_kind x.kind x) (sym h))
+      by (Some x) e h = let impossible : ⊥ = cc in absurd impossible
 
 -- ---- patterns
 -- the row that is found is the first of its pattern: whether a row is found depends on its pattern alone
@@ -212,86 +215,99 @@ unfolding route_of plan_of
 route_is lines endpoints zone digits = refl
 
 module _ (s : State) (caller digits : List ℕ) (declared : RowsDeclared s.lines s.lines) where
-  by_row : (destination : Destination) (row : Row) → row_for s.lines digits ≡ Some row → (zone : Option Zone) → zone_of s.lines row.1 ≡ zone → route_to s.endpoints caller digits (plan_to row.1 zone) ≡ Some destination → RoutedByPattern s digits destination
+  by_row : (destination : Destination) (row : Row) → row_for s.lines digits ≡ Some row → (zone : Option Zone) → zone_of s.lines row.1 ≡ zone → route_to s.endpoints caller digits (plan_to row.1 zone) ≡ To destination → RoutedByPattern s digits destination
   by_row destination row f None e h = absurd (zone_known s.lines digits row declared (longest_row s.lines digits row f) e)
   by_row destination row f (Some LocalZone) e h = (row, longest_row s.lines digits row f, inr (e, reaches row.1 digits s.endpoints destination h))
   by_row destination row f (Some (RemoteZone address)) e h =
       let same : ToZone row.1 address ≡ destination = cc in
       (row, longest_row s.lines digits row f, inl (address, e, sym same))
 
-  routed : (destination : Destination) (row : Option Row) → row_for s.lines digits ≡ row → route_to s.endpoints caller digits (plan_by s.lines row) ≡ Some destination → RoutedByPattern s digits destination ⊎ RoutedByCallersZone s caller digits destination
+  routed : (destination : Destination) (row : Option Row) → row_for s.lines digits ≡ row → route_to s.endpoints caller digits (plan_by s.lines row) ≡ To destination → RoutedByPattern s digits destination ⊎ RoutedByCallersZone s caller digits destination
   routed destination None f h = inr (none_matches s.lines digits f, reaches caller digits s.endpoints destination h)
   routed destination (Some row) f h = inl (by_row destination row f (zone_of s.lines row.1) refl h)
 
-  none_by_row : (row : Row) → row_for s.lines digits ≡ Some row → (zone : Option Zone) → zone_of s.lines row.1 ≡ zone → route_to s.endpoints caller digits (plan_to row.1 zone) ≡ None → PatternFoundNone s digits
+  none_by_row : (row : Row) → row_for s.lines digits ≡ Some row → (zone : Option Zone) → zone_of s.lines row.1 ≡ zone → route_to s.endpoints caller digits (plan_to row.1 zone) ≡ Refused NoDefault → PatternFoundNone s digits
   none_by_row row f None e h = absurd (zone_known s.lines digits row declared (longest_row s.lines digits row f) e)
   none_by_row row f (Some LocalZone) e h = (row, longest_row s.lines digits row f, e, reaches_none row.1 digits s.endpoints h)
-  none_by_row row f (Some (RemoteZone address)) e h = absurd (none-some (ToZone row.1 address) (sym h))
+  none_by_row row f (Some (RemoteZone address)) e h = let impossible : ⊥ = cc in absurd impossible
 
-  nowhere : (row : Option Row) → row_for s.lines digits ≡ row → route_to s.endpoints caller digits (plan_by s.lines row) ≡ None → PatternFoundNone s digits ⊎ CallersZoneFoundNone s caller digits
+  nowhere : (row : Option Row) → row_for s.lines digits ≡ row → route_to s.endpoints caller digits (plan_by s.lines row) ≡ Refused NoDefault → PatternFoundNone s digits ⊎ CallersZoneFoundNone s caller digits
   nowhere None f h = inr (none_matches s.lines digits f, reaches_none caller digits s.endpoints h)
   nowhere (Some row) f h = inl (none_by_row row f (zone_of s.lines row.1) refl h)
 
--- ---- replies
-answer_is : (s : State) (sequence call units : ℕ) (id digits : List ℕ) → (turn_of s (Admit sequence id call digits units)).answer ≡ Core sequence (admission_reply s call digits units (endpoint_of s.endpoints id))
-unfolding turn_of
-answer_is s sequence call units id digits = refl
+-- ---- verdicts
+verdict_is : (s : State) (call units : ℕ) (id digits : List ℕ) → verdict_of s (Admit id call digits units) ≡ admission_for s call digits units (endpoint_of s.endpoints id)
+unfolding verdict_of
+verdict_is s call units id digits = refl
+
+-- an admission that is not refused as call-open is the route's
+by_route : (s : State) (call units : ℕ) (digits : List ℕ) (caller : EndpointParts) (verdict : Reply) → verdict ≢ AdmitRefused call CallOpen → admission_for s call digits units (Some caller) ≡ verdict
+    → admission_by call units (route_of s.lines s.endpoints caller.zone digits) ≡ verdict
+by_route s call units digits caller verdict other h = by (is_open s.calls call) h
+  where
+    by : (open_already : Bool) → cond open_already (AdmitRefused call CallOpen) (admission_by call units (route_of s.lines s.endpoints caller.zone digits)) ≡ verdict → admission_by call units (route_of s.lines s.endpoints caller.zone digits) ≡ verdict
+    by true h = absurd (other (sym h))
+    by false h = h
 
 accepted_state : (lines : List (List ℕ)) (configuration : Configuration) (s : State) → reading_in lines ≡ Ok configuration → s.lines ≡ configuration.lines → RowsDeclared s.lines s.lines
 accepted_state lines configuration s accepted same = subst (λ (l : List Command). RowsDeclared l l) (sym same) (accepted_declares lines configuration accepted)
 
-module _ (s : State) (declared : RowsDeclared s.lines s.lines) (sequence call units : ℕ) (id digits : List ℕ) (replied_sequence replied_call : ℕ) where
-  granted_by : (granted : ℕ) (destination : Destination) (caller : EndpointParts) → endpoint_of s.endpoints id ≡ Some caller → (route : Option Destination) → route_of s.lines s.endpoints caller.zone digits ≡ route
-      → Core sequence (reply_to_route call units route) ≡ Core replied_sequence (Admitted replied_call destination granted)
-      → (replied_sequence ≡ sequence) × (replied_call ≡ call) × (granted ≡ units) × IsRouted s id digits destination
-  granted_by granted destination caller there None e h = let impossible : ⊥ = cc in absurd impossible
-  granted_by granted destination caller there (Some reached) e h =
+module _ (s : State) (declared : RowsDeclared s.lines s.lines) (call units : ℕ) (id digits : List ℕ) (replied_call : ℕ) where
+  granted_by : (granted : ℕ) (destination : Destination) (caller : EndpointParts) → endpoint_of s.endpoints id ≡ Some caller → (route : Route) → route_of s.lines s.endpoints caller.zone digits ≡ route
+      → admission_by call units route ≡ Admitted replied_call destination granted
+      → (replied_call ≡ call) × (granted ≡ units) × IsRouted s id digits destination
+  granted_by granted destination caller there (Refused reason) e h = let impossible : ⊥ = cc in absurd impossible
+  granted_by granted destination caller there (To reached) e h =
       let same : reached ≡ destination = cc in
-      let goes = sym (route_is s.lines s.endpoints caller.zone digits) ∙ e ∙ ap Some same in
-      (cc, cc, cc, record { caller = caller; registered = there; routed = routed s caller.zone digits declared destination (row_for s.lines digits) refl goes })
+      let goes = sym (route_is s.lines s.endpoints caller.zone digits) ∙ e ∙ ap To same in
+      (cc, cc, record { caller = caller; registered = there; routed = routed s caller.zone digits declared destination (row_for s.lines digits) refl goes })
 
   granted_to : (granted : ℕ) (destination : Destination) (caller : Option EndpointParts) → endpoint_of s.endpoints id ≡ caller
-      → Core sequence (admission_reply s call digits units caller) ≡ Core replied_sequence (Admitted replied_call destination granted)
-      → (replied_sequence ≡ sequence) × (replied_call ≡ call) × (granted ≡ units) × IsRouted s id digits destination
+      → admission_for s call digits units caller ≡ Admitted replied_call destination granted
+      → (replied_call ≡ call) × (granted ≡ units) × IsRouted s id digits destination
   granted_to granted destination None there h = let impossible : ⊥ = cc in absurd impossible
-  granted_to granted destination (Some caller) there h = granted_by granted destination caller there (route_of s.lines s.endpoints caller.zone digits) refl h
+  granted_to granted destination (Some caller) there h =
+      granted_by granted destination caller there (route_of s.lines s.endpoints caller.zone digits) refl
+      (by_route s call units digits caller (Admitted replied_call destination granted) (λ e. cc) h)
 
-  refused_by : (caller : EndpointParts) → endpoint_of s.endpoints id ≡ Some caller → (route : Option Destination) → route_of s.lines s.endpoints caller.zone digits ≡ route
-      → Core sequence (reply_to_route call units route) ≡ Core replied_sequence (AdmitRefused replied_call (NoRoute NoDefault))
-      → (replied_sequence ≡ sequence) × (replied_call ≡ call) × FoundNone s id digits
-  refused_by caller there None e h =
-      let goes = sym (route_is s.lines s.endpoints caller.zone digits) ∙ e in
-      (cc, cc, record { caller = caller; registered = there; nowhere = nowhere s caller.zone digits declared (row_for s.lines digits) refl goes })
-  refused_by caller there (Some reached) e h = let impossible : ⊥ = cc in absurd impossible
+  refused_by : (caller : EndpointParts) → endpoint_of s.endpoints id ≡ Some caller → (route : Route) → route_of s.lines s.endpoints caller.zone digits ≡ route
+      → admission_by call units route ≡ AdmitRefused replied_call (NoRoute NoDefault)
+      → (replied_call ≡ call) × FoundNone s id digits
+  refused_by caller there (Refused reason) e h =
+      let same : reason ≡ NoDefault = cc in
+      let goes = sym (route_is s.lines s.endpoints caller.zone digits) ∙ e ∙ ap Refused same in
+      (cc, record { caller = caller; registered = there; nowhere = nowhere s caller.zone digits declared (row_for s.lines digits) refl goes })
+  refused_by caller there (To reached) e h = let impossible : ⊥ = cc in absurd impossible
 
   refused_to : (caller : Option EndpointParts) → endpoint_of s.endpoints id ≡ caller
-      → Core sequence (admission_reply s call digits units caller) ≡ Core replied_sequence (AdmitRefused replied_call (NoRoute NoDefault))
-      → (replied_sequence ≡ sequence) × (replied_call ≡ call) × FoundNone s id digits
+      → admission_for s call digits units caller ≡ AdmitRefused replied_call (NoRoute NoDefault)
+      → (replied_call ≡ call) × FoundNone s id digits
   refused_to None there h = let impossible : ⊥ = cc in absurd impossible
-  refused_to (Some caller) there h = refused_by caller there (route_of s.lines s.endpoints caller.zone digits) refl h
+  refused_to (Some caller) there h =
+      refused_by caller there (route_of s.lines s.endpoints caller.zone digits) refl
+      (by_route s call units digits caller (AdmitRefused replied_call (NoRoute NoDefault)) (λ e. cc) h)
 
 pub admissions_are_routed : AdmissionsAreRouted
-admissions_are_routed lines configuration s accepted same sequence call units id digits replied_sequence replied_call granted destination h =
-    granted_to s (accepted_state lines configuration s accepted same) sequence call units id digits replied_sequence replied_call granted destination (endpoint_of s.endpoints id) refl
-    (sym (answer_is s sequence call units id digits) ∙ h)
+admissions_are_routed lines configuration s accepted same call units id digits replied_call granted destination h =
+    granted_to s (accepted_state lines configuration s accepted same) call units id digits replied_call granted destination (endpoint_of s.endpoints id) refl
+    (sym (verdict_is s call units id digits) ∙ h)
 
 pub refusals_found_none : RefusalsFoundNone
-refusals_found_none lines configuration s accepted same sequence call units id digits replied_sequence replied_call h =
-    refused_to s (accepted_state lines configuration s accepted same) sequence call units id digits replied_sequence replied_call (endpoint_of s.endpoints id) refl
-    (sym (answer_is s sequence call units id digits) ∙ h)
+refusals_found_none lines configuration s accepted same call units id digits replied_call h =
+    refused_to s (accepted_state lines configuration s accepted same) call units id digits replied_call (endpoint_of s.endpoints id) refl
+    (sym (verdict_is s call units id digits) ∙ h)
 
-not_a_stranger : (call units : ℕ) (route : Option Destination) → reply_to_route call units route ≡ AdmitRefused call CallerNotRegistered → ⊥
-not_a_stranger call units None h = cc
-not_a_stranger call units (Some destination) h = cc
+not_a_stranger : (call units : ℕ) (route : Route) → admission_by call units route ≡ AdmitRefused call CallerNotRegistered → ⊥
+not_a_stranger call units (Refused reason) h = cc
+not_a_stranger call units (To destination) h = cc
 
-stranger : (s : State) (sequence call units : ℕ) (digits : List ℕ) (caller : Option EndpointParts) → Core sequence (admission_reply s call digits units caller) ≡ Core sequence (AdmitRefused call CallerNotRegistered) → caller ≡ None
-stranger s sequence call units digits None h = refl
-stranger s sequence call units digits (Some caller) h =
-    let same : reply_to_route call units (route_of s.lines s.endpoints caller.zone digits) ≡ AdmitRefused call CallerNotRegistered = cc in
-    absurd (not_a_stranger call units (route_of s.lines s.endpoints caller.zone digits) same)
+stranger : (s : State) (call units : ℕ) (digits : List ℕ) (caller : Option EndpointParts) → admission_for s call digits units caller ≡ AdmitRefused call CallerNotRegistered → caller ≡ None
+stranger s call units digits None h = refl
+stranger s call units digits (Some caller) h =
+    absurd (not_a_stranger call units (route_of s.lines s.endpoints caller.zone digits) (by_route s call units digits caller (AdmitRefused call CallerNotRegistered) (λ e. cc) h))
 
 pub strangers_are_refused : StrangersAreRefused
-strangers_are_refused s sequence call units id digits = (
-  (λ h. stranger s sequence call units digits (endpoint_of s.endpoints id) (sym (answer_is s sequence call units id digits) ∙ h)),
-  (λ none. answer_is s sequence call units id digits ∙ ap (λ caller. Core sequence (admission_reply s call digits units caller)) none),
+strangers_are_refused s call units id digits = (
+  (λ h. stranger s call units digits (endpoint_of s.endpoints id) (sym (verdict_is s call units id digits) ∙ h)),
+  (λ none. verdict_is s call units id digits ∙ ap (admission_for s call digits units) none),
 )

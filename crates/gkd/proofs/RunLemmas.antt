@@ -14,9 +14,10 @@ use Rattle.command_reader.specs.Progress.{Progress, line_count}
 use Rattle.command_reader.specs.Reading.{nothing_read, line_after, lines_after, with_command, finished, whole_of}
 use Rattle.command_reader.proofs.MemoryLemmas.{read_on, refused_here, refused_later}
 use Rattle.gkd.specs.Input.{TakesLine, TakesKnownLine}
-use Rattle.gkd.specs.Run.{ends_configuration, is_end_alone, configuration_in, behind_configuration, Says, ReadsLine, ContinuesWith, SaysBehind, IsReading, ReadingUnderWay, IsReadOut, ReadsOut, SaysConfiguration, ReadsConfiguration, reading_in, IsRun, WritesRun, IsRefusedBy, opening_of}
+use Rattle.gkd.specs.Run.{ends_configuration, is_end_alone, configuration_in, behind_configuration, Says, ReadsLine, ContinuesWith, SaysBehind, IsReading, ReadingUnderWay, IsReadOut, ReadsOut, SaysConfiguration, ReadsConfiguration, reading_in, IsRun, WritesRun, IsRefusedBy}
 use Rattle.gkd.specs.Run.{IsConfiguration}
-use Rattle.gkd.specs.State.{State}
+use Rattle.gkd.specs.declared.limits.Limits.{Limits}
+use Rattle.gkd.specs.State.{State, opening_of}
 use Rattle.gkd.specs.Session.{requests_in, Runs, IsSession, WritesSession}
 use Rattle.gkd.proofs.KeptLines.{SaysSame, TakesLine-says_same}
 
@@ -174,19 +175,20 @@ refuses (Some bytes) None fault r = absurd r
 refuses (Some bytes) (Some rest) fault r = record { said = says_fault (configuration_in (lines_of bytes)) fault r.said; behind = r.behind }
 
 -- ---- the whole run
-run_written : (bytes rest text : List ℕ) (configuration : Configuration) (last : State) (count : ℕ) → IsConfiguration bytes rest (Ok configuration) → IsSession rest (opening_of configuration.lines) last text count → IsRun bytes text count
-run_written bytes rest text configuration last count c s = record {
-  configuration = configuration;
-  accepted = c.said;
-  last = last;
-  runs = subst (λ (lines : List (List ℕ)). Runs (opening_of configuration.lines) (requests_in lines) text last) (sym c.behind) s.runs;
-  counted = s.counted ∙ ap (λ lines. length (requests_in lines)) (sym c.behind);
-}
+module _ (limits : Limits) where
+  run_written : (bytes rest text : List ℕ) (configuration : Configuration) (last : State) (count : ℕ) → IsConfiguration bytes rest (Ok configuration) → IsSession rest (opening_of configuration.lines limits) last text count → IsRun limits bytes text count
+  run_written bytes rest text configuration last count c s = record {
+    configuration = configuration;
+    accepted = c.said;
+    last = last;
+    runs = subst (λ (lines : List (List ℕ)). Runs (opening_of configuration.lines limits) (requests_in lines) text last) (sym c.behind) s.runs;
+    counted = s.counted ∙ ap (λ lines. length (requests_in lines)) (sym c.behind);
+  }
 
-pub run_writes : (known rest before after : Option (List ℕ)) (configuration : Configuration) (last : State) (count : ℕ) → ReadsConfiguration known rest (Ok configuration) → WritesSession rest (opening_of configuration.lines) last before after count → WritesRun known before after count
-run_writes None rest before after configuration last count c s = tt
-run_writes (Some bytes) None before after configuration last count c s = absurd c
-run_writes (Some bytes) (Some rest) before after configuration last count c s = (s.0, run_written bytes rest s.0 configuration last count c s.1, s.2)
+  pub run_writes : (known rest before after : Option (List ℕ)) (configuration : Configuration) (last : State) (count : ℕ) → ReadsConfiguration known rest (Ok configuration) → WritesSession rest (opening_of configuration.lines limits) last before after count → WritesRun limits known before after count
+  run_writes None rest before after configuration last count c s = tt
+  run_writes (Some bytes) None before after configuration last count c s = absurd c
+  run_writes (Some bytes) (Some rest) before after configuration last count c s = (s.0, run_written bytes rest s.0 configuration last count c s.1, s.2)
 
 -- a refused configuration
 pub run_refuses : (known rest : Option (List ℕ)) (fault : LineFault) → ReadsConfiguration known rest (Err fault) → IsRefusedBy known fault

@@ -1,5 +1,5 @@
 -- A list of endpoints: who is found, who may register, and what a registration changes.
-use Rattle.std.specs.Prelude.{ℕ, ◌+◌, ◌==◌, Bool, false, not, ◌&&◌, List, ◌∷◌, ◌++◌, take, drop, find, Option, Some, None, codes, bytes_eq, unwrap_or, if◌then◌else◌}
+use Rattle.std.specs.Prelude.{ℕ, ◌+◌, ◌==◌, Bool, false, not, ◌&&◌, List, ◌∷◌, ◌++◌, take, drop, find, filter, Option, Some, None, codes, bytes_eq, unwrap_or, if◌then◌else◌}
 use Rattle.std.specs.List.{list_any, position_or_len}
 use Rattle.gk_terms.specs.Address.{AddressParts}
 use Rattle.command_reader.specs.declared.commands.Command.{Command}
@@ -20,6 +20,10 @@ has_id id e = bytes_eq e.id id
 
 abbrev pub endpoint_of : List EndpointParts → List ℕ → Option EndpointParts
 endpoint_of endpoints id = find (has_id id) endpoints
+
+-- whether an endpoint has this ID
+abbrev pub is_registered : List EndpointParts → List ℕ → Bool
+is_registered endpoints id = list_any (has_id id) endpoints
 
 -- the endpoint of that zone with that alias
 abbrev pub by_alias : List EndpointParts → List ℕ → List ℕ → Option EndpointParts
@@ -49,3 +53,7 @@ abbrev pub with_endpoint : List EndpointParts → EndpointParts → List Endpoin
 with_endpoint endpoints e =
     let place = position_or_len (has_id e.id) endpoints in
     take place endpoints ++ e ∷ drop (place + 1) endpoints
+
+-- without the endpoint of this ID
+abbrev pub without_endpoint : List EndpointParts → List ℕ → List EndpointParts
+without_endpoint endpoints id = filter (λ e. not (has_id id e)) endpoints

@@ -3,20 +3,22 @@ use Rattle.std.specs.Prelude.{ℕ, List, [], ◌∷◌, codes, decimal}
 use Rattle.gk_terms.specs.Text.{spaced}
 use Rattle.gk_terms.specs.Address.{address_text}
 use Rattle.gk_terms.specs.Reason.{word_of}
-use Rattle.gk_terms.specs.declared.reasons.Reason.TheVariants.{CalledPartyNotRegistered, ResourceUnavailable, UndefinedReason, CallerNotRegistered as CallerNotRegisteredReason, DuplicateAlias as DuplicateAliasReason}
+use Rattle.gk_terms.specs.declared.reasons.Reason.TheVariants.{CalledPartyNotRegistered, ResourceUnavailable, UndefinedReason, NotCurrentlyRegistered, CallerNotRegistered as CallerNotRegisteredReason, DuplicateAlias as DuplicateAliasReason, CallInProgress as CallInProgressReason}
 use Rattle.gkd.specs.Faults.{fault_word}
 use Rattle.gkd.specs.declared.replies.Destination.{Destination}
 use Rattle.gkd.specs.declared.replies.Destination.TheVariants.{Gateway, Terminal, Zone}
 use Rattle.gkd.specs.declared.replies.Duplicate.{Duplicate}
 use Rattle.gkd.specs.declared.replies.Duplicate.TheVariants.{Id, E164}
 use Rattle.gkd.specs.declared.replies.RegisterRefusal.{RegisterRefusal}
-use Rattle.gkd.specs.declared.replies.RegisterRefusal.TheVariants.{UnknownZone, DuplicateAlias, NoMemory as NoMemoryToRegister}
+use Rattle.gkd.specs.declared.replies.RegisterRefusal.TheVariants.{UnknownZone, DuplicateAlias, EndpointsFull, RecordFull as RecordFullToRegister, NoMemory as NoMemoryToRegister}
+use Rattle.gkd.specs.declared.replies.UnregisterRefusal.{UnregisterRefusal}
+use Rattle.gkd.specs.declared.replies.UnregisterRefusal.TheVariants.{NotRegistered, CallInProgress, RecordFull as RecordFullToUnregister, NoMemory as NoMemoryToUnregister}
 use Rattle.gkd.specs.declared.replies.RouteRefusal.{RouteRefusal}
 use Rattle.gkd.specs.declared.replies.RouteRefusal.TheVariants.{NoDefault}
 use Rattle.gkd.specs.declared.replies.AdmitRefusal.{AdmitRefusal}
-use Rattle.gkd.specs.declared.replies.AdmitRefusal.TheVariants.{CallerNotRegistered, NoRoute, NoMemory as NoMemoryToAdmit}
+use Rattle.gkd.specs.declared.replies.AdmitRefusal.TheVariants.{CallerNotRegistered, CallOpen, NoRoute, CallsFull, RecordFull as RecordFullToAdmit, NoMemory as NoMemoryToAdmit}
 use Rattle.gkd.specs.declared.replies.Reply.{Reply}
-use Rattle.gkd.specs.declared.replies.Reply.TheVariants.{Registered, RegisterRefused, Admitted, AdmitRefused}
+use Rattle.gkd.specs.declared.replies.Reply.TheVariants.{Registered, RegisterRefused, Unregistered, UnregisterRefused, Admitted, AdmitRefused}
 use Rattle.gkd.specs.declared.replies.Answer.{Answer}
 use Rattle.gkd.specs.declared.replies.Answer.TheVariants.{Core, Malformed}
 
@@ -34,7 +36,16 @@ duplicate_word E164 = codes "e164"
 abbrev pub register_refusal_text : RegisterRefusal → List ℕ
 register_refusal_text UnknownZone = spaced (word_of UndefinedReason ∷ codes "unknown-zone" ∷ [])
 register_refusal_text (DuplicateAlias duplicate) = spaced (word_of DuplicateAliasReason ∷ duplicate_word duplicate ∷ [])
+register_refusal_text EndpointsFull = spaced (word_of UndefinedReason ∷ codes "endpoints-full" ∷ [])
+register_refusal_text RecordFullToRegister = spaced (word_of UndefinedReason ∷ codes "record-full" ∷ [])
 register_refusal_text NoMemoryToRegister = spaced (word_of UndefinedReason ∷ codes "no-memory" ∷ [])
+
+-- ---- why an unregistration is refused
+abbrev pub unregister_refusal_text : UnregisterRefusal → List ℕ
+unregister_refusal_text NotRegistered = word_of NotCurrentlyRegistered
+unregister_refusal_text CallInProgress = word_of CallInProgressReason
+unregister_refusal_text RecordFullToUnregister = spaced (word_of UndefinedReason ∷ codes "record-full" ∷ [])
+unregister_refusal_text NoMemoryToUnregister = spaced (word_of UndefinedReason ∷ codes "no-memory" ∷ [])
 
 -- ---- why an admission is refused
 abbrev pub route_refusal_word : RouteRefusal → List ℕ
@@ -42,13 +53,18 @@ route_refusal_word NoDefault = codes "no-default"
 
 abbrev pub admit_refusal_text : AdmitRefusal → List ℕ
 admit_refusal_text CallerNotRegistered = word_of CallerNotRegisteredReason
+admit_refusal_text CallOpen = spaced (word_of UndefinedReason ∷ codes "call-open" ∷ [])
 admit_refusal_text (NoRoute refusal) = spaced (word_of CalledPartyNotRegistered ∷ route_refusal_word refusal ∷ [])
+admit_refusal_text CallsFull = spaced (word_of ResourceUnavailable ∷ codes "calls-full" ∷ [])
+admit_refusal_text RecordFullToAdmit = spaced (word_of ResourceUnavailable ∷ codes "record-full" ∷ [])
 admit_refusal_text NoMemoryToAdmit = spaced (word_of ResourceUnavailable ∷ codes "no-memory" ∷ [])
 
 -- ---- replies
 abbrev pub reply_parts : ℕ → Reply → List (List ℕ)
 reply_parts sequence (Registered id zone) = codes "RCF" ∷ decimal sequence ∷ id ∷ zone ∷ []
 reply_parts sequence (RegisterRefused id reason) = codes "RRJ" ∷ decimal sequence ∷ id ∷ register_refusal_text reason ∷ []
+reply_parts sequence (Unregistered id) = codes "UCF" ∷ decimal sequence ∷ id ∷ []
+reply_parts sequence (UnregisterRefused id reason) = codes "URJ" ∷ decimal sequence ∷ id ∷ unregister_refusal_text reason ∷ []
 reply_parts sequence (Admitted call destination units) = codes "ACF" ∷ decimal sequence ∷ decimal call ∷ destination_text destination ∷ decimal units ∷ []
 reply_parts sequence (AdmitRefused call reason) = codes "ARJ" ∷ decimal sequence ∷ decimal call ∷ admit_refusal_text reason ∷ []
 

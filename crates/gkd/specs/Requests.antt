@@ -12,7 +12,7 @@ use Rattle.gkd.specs.declared.request_faults.RequestFault.TheVariants.{LineTooLo
 use Rattle.gkd.specs.declared.request_faults.Unread.{Unread}
 use Rattle.gkd.specs.declared.request_faults.Unread.TheVariants.{Fault, NoMemory}
 use Rattle.gkd.specs.declared.requests.Request.{Request}
-use Rattle.gkd.specs.declared.requests.Request.TheVariants.{Register, Admit}
+use Rattle.gkd.specs.declared.requests.Request.TheVariants.{Register, Unregister, Admit}
 use Rattle.gkd.specs.Fields.{◌>>=◌, field, ended, sequence_of, kind_of, signalling_address_of, call_of, units_of}
 
 -- ---- RRQ seq KIND id zone addr [e164=D] ..
@@ -49,6 +49,13 @@ register_at words = do
   endpoint ← options_at MOST_ALIASES bare.0 bare.1
   Ok (Register sequence.0 endpoint)
 
+-- ---- URQ seq id
+abbrev pub unregister_at : List (List ℕ) → Result Request RequestFault
+unregister_at words = do
+  sequence ← field sequence_of BadSequence words
+  id ← field name_of BadName sequence.1
+  ended (Unregister sequence.0 id.0) id.1
+
 -- ---- ARQ seq id call digits units
 abbrev pub admit_at : List (List ℕ) → Result Request RequestFault
 admit_at words = do
@@ -69,7 +76,8 @@ abbrev pub asked_by : List (List ℕ) → Result (Option Request) RequestFault
 asked_by [] = Ok None
 asked_by (word ∷ words) =
     if bytes_eq word (codes "RRQ") then asked (register_at words)
-    else (if bytes_eq word (codes "ARQ") then asked (admit_at words) else Err UnknownWord)
+    else (if bytes_eq word (codes "URQ") then asked (unregister_at words)
+    else (if bytes_eq word (codes "ARQ") then asked (admit_at words) else Err UnknownWord))
 
 -- what a line asks
 unfoldable pub asking_of : List ℕ → Result (Option Request) RequestFault

@@ -8,19 +8,18 @@ use Rattle.digit_patterns.specs.Table.{IsBest}
 use Rattle.command_reader.specs.declared.commands.Command.{Command}
 use Rattle.command_reader.specs.Configuration.{Configuration}
 use Rattle.command_reader.specs.Zones.{zone_of, Local, Remote}
-use Rattle.gkd.specs.declared.requests.Request.TheVariants.{Admit}
+use Rattle.gkd.specs.declared.events.Event.TheVariants.{Admit}
 use Rattle.gkd.specs.declared.replies.Destination.{Destination}
 use Rattle.gkd.specs.declared.replies.Destination.TheVariants.{Zone as ToZone}
 use Rattle.gkd.specs.declared.replies.RouteRefusal.TheVariants.{NoDefault}
 use Rattle.gkd.specs.declared.replies.AdmitRefusal.TheVariants.{CallerNotRegistered, NoRoute}
 use Rattle.gkd.specs.declared.replies.Reply.TheVariants.{Admitted, AdmitRefused}
-use Rattle.gkd.specs.declared.replies.Answer.TheVariants.{Core}
 use Rattle.gkd.specs.Endpoint.{EndpointParts}
 use Rattle.gkd.specs.State.{State}
 use Rattle.gkd.specs.Registration.{endpoint_of}
 use Rattle.gkd.specs.Routing.{Row, rows_of, to_kind}
 use Rattle.gkd.specs.Run.{reading_in}
-use Rattle.gkd.specs.Machine.{turn_of}
+use Rattle.gkd.specs.Step.{verdict_of}
 
 -- x is the first of the list that has the property
 pub record IsFirst {X : Type 0} (Has : X → Type 0) (xs : List X) (x : X) : Type 0 where
@@ -106,24 +105,21 @@ abbrev pub AdmissionsAreRouted : Type 0
 AdmissionsAreRouted =
     (lines : List (List ℕ)) (configuration : Configuration) (s : State)
     → reading_in lines ≡ Ok configuration → s.lines ≡ configuration.lines
-    → (sequence call units : ℕ) (id digits : List ℕ)
-    → (replied_sequence replied_call granted : ℕ) (destination : Destination)
-    → (turn_of s (Admit sequence id call digits units)).answer ≡ Core replied_sequence (Admitted replied_call destination granted)
-    → (replied_sequence ≡ sequence) × (replied_call ≡ call) × (granted ≡ units) × IsRouted s id digits destination
+    → (call units : ℕ) (id digits : List ℕ) (replied_call granted : ℕ) (destination : Destination)
+    → verdict_of s (Admit id call digits units) ≡ Admitted replied_call destination granted
+    → (replied_call ≡ call) × (granted ≡ units) × IsRouted s id digits destination
 
 -- a caller is refused as not registered exactly where it is not
 abbrev pub StrangersAreRefused : Type 0
 StrangersAreRefused =
-    (s : State) (sequence call units : ℕ) (id digits : List ℕ)
-    → ((turn_of s (Admit sequence id call digits units)).answer ≡ Core sequence (AdmitRefused call CallerNotRegistered))
-    ↔ (endpoint_of s.endpoints id ≡ None)
+    (s : State) (call units : ℕ) (id digits : List ℕ)
+    → (verdict_of s (Admit id call digits units) ≡ AdmitRefused call CallerNotRegistered) ↔ (endpoint_of s.endpoints id ≡ None)
 
 -- and one that is refused as no-default found no endpoint there
 abbrev pub RefusalsFoundNone : Type 0
 RefusalsFoundNone =
     (lines : List (List ℕ)) (configuration : Configuration) (s : State)
     → reading_in lines ≡ Ok configuration → s.lines ≡ configuration.lines
-    → (sequence call units : ℕ) (id digits : List ℕ)
-    → (replied_sequence replied_call : ℕ)
-    → (turn_of s (Admit sequence id call digits units)).answer ≡ Core replied_sequence (AdmitRefused replied_call (NoRoute NoDefault))
-    → (replied_sequence ≡ sequence) × (replied_call ≡ call) × FoundNone s id digits
+    → (call units : ℕ) (id digits : List ℕ) (replied_call : ℕ)
+    → verdict_of s (Admit id call digits units) ≡ AdmitRefused replied_call (NoRoute NoDefault)
+    → (replied_call ≡ call) × FoundNone s id digits

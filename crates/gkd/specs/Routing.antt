@@ -1,5 +1,5 @@
 -- Where a call goes: what the lines say of the dialled digits, and then the endpoints of the target zone.
-use Rattle.std.specs.Prelude.{ℕ, List, Option, Some, None}
+use Rattle.std.specs.Prelude.{ℕ, Bool, true, false, List, Option, Some, None}
 use Rattle.std.specs.List.{filter_map}
 use Rattle.digit_patterns.specs.PatternParts.{PatternParts}
 use Rattle.digit_patterns.specs.Table.{best_of}
@@ -13,6 +13,9 @@ use Rattle.gkd.specs.declared.endpoints.EndpointKind.{EndpointKind}
 use Rattle.gkd.specs.declared.endpoints.EndpointKind.TheVariants.{Gateway, Terminal}
 use Rattle.gkd.specs.declared.replies.Destination.{Destination}
 use Rattle.gkd.specs.declared.replies.Destination.TheVariants.{Gateway as ToGateway, Terminal as ToTerminal, Zone as ToZone}
+use Rattle.gkd.specs.declared.replies.Route.{Route}
+use Rattle.gkd.specs.declared.replies.Route.TheVariants.{To, Refused}
+use Rattle.gkd.specs.declared.replies.RouteRefusal.TheVariants.{NoDefault}
 use Rattle.gkd.specs.Endpoint.{EndpointParts}
 use Rattle.gkd.specs.Registration.{by_alias}
 
@@ -53,17 +56,31 @@ abbrev pub to_kind : EndpointKind → EndpointParts → Destination
 to_kind Gateway e = ToGateway e.id e.address
 to_kind Terminal e = ToTerminal e.id e.address
 
--- the endpoint of the target zone that has the digits as an alias, or none
-abbrev pub to_alias : Option EndpointParts → Option Destination
-to_alias None = None
-to_alias (Some e) = Some (to_kind e.kind e)
+-- the endpoint of the target zone that has the digits as an alias. No default technology can be set yet, so without
+-- such an endpoint the call goes nowhere
+abbrev pub to_alias : Option EndpointParts → Route
+to_alias None = Refused NoDefault
+to_alias (Some e) = To (to_kind e.kind e)
 
 -- where the plan leads a caller of this zone
-abbrev pub route_to : List EndpointParts → List ℕ → List ℕ → Plan → Option Destination
-route_to endpoints caller text (Remote zone address) = Some (ToZone zone address)
+abbrev pub route_to : List EndpointParts → List ℕ → List ℕ → Plan → Route
+route_to endpoints caller text (Remote zone address) = To (ToZone zone address)
 route_to endpoints caller text (Local zone) = to_alias (by_alias endpoints zone text)
 route_to endpoints caller text Caller = to_alias (by_alias endpoints caller text)
 
--- where a call of a caller of this zone goes; nothing where no endpoint has the digits
-unfoldable pub route_of : List Command → List EndpointParts → List ℕ → List ℕ → Option Destination
+-- where a call of a caller of this zone goes
+unfoldable pub route_of : List Command → List EndpointParts → List ℕ → List ℕ → Route
 route_of lines endpoints caller text = route_to endpoints caller text (plan_of lines text)
+
+-- ---- the target zone
+-- the zone to which the plan leads a caller of this zone
+abbrev pub target_of : List ℕ → Plan → List ℕ
+target_of caller (Remote zone address) = zone
+target_of caller (Local zone) = zone
+target_of caller Caller = caller
+
+-- whether it is a zone of another gatekeeper
+abbrev pub is_remote : Plan → Bool
+is_remote (Remote zone address) = true
+is_remote (Local zone) = false
+is_remote Caller = false

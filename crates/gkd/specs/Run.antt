@@ -2,14 +2,16 @@
 use Rattle.std.specs.Prelude.{◌≡◌, ◌⊎◌, ℕ, ◌+◌, Bool, true, false, not, ◌&&◌, ⊤, List, [], ◌∷◌, length, Option, Some, None, Result, Ok, Err, MatchResult, codes, bytes_eq, if◌then◌else◌, ◌++◌}
 use Rattle.std.specs.Io.KnownBytes.{Appends}
 use Rattle.gk_terms.specs.Text.{lines_of, words_of, is_too_long, is_empty}
-use Rattle.command_reader.specs.declared.commands.Command.{Command}
 use Rattle.command_reader.specs.declared.faults.LineFault.{LineFault}
 use Rattle.command_reader.specs.Configuration.{Configuration}
 use Rattle.command_reader.specs.Progress.{Progress, line_count}
 use Rattle.command_reader.specs.Reading.{nothing_read, line_after, lines_after, whole_of, LacksMemoryFor, LacksMemory, AreRefusedWith}
+use Rattle.gkd.specs.declared.admission.OpeningFault.{OpeningFault}
+use Rattle.gkd.specs.declared.admission.OpeningFault.TheVariants.{BadLimits as BadLimitsToOpen, NoMemory as NoMemoryToOpen}
 use Rattle.gkd.specs.declared.faults.RunFault.{RunFault}
 use Rattle.gkd.specs.declared.faults.RunFault.TheVariants.{BadLimits, Config, Session, NoMemory as NoMemoryForTables}
-use Rattle.gkd.specs.State.{State}
+use Rattle.gkd.specs.declared.limits.Limits.{Limits}
+use Rattle.gkd.specs.State.{State, opening_of}
 use Rattle.gkd.specs.Session.{requests_in, Runs}
 
 -- ---- where the configuration ends
@@ -37,23 +39,24 @@ abbrev pub reading_in : List (List ℕ) → Result Configuration LineFault
 reading_in lines = whole_of (lines_after nothing_read lines)
 
 -- ---- a run
--- no endpoint is registered
-abbrev pub opening_of : List Command → State
-opening_of lines = record { lines = lines; endpoints = [] }
-
 -- for these bytes this text may be written, in so many replies: the configuration is accepted, and the text is the
 -- replies to the requests behind it, from the opening state on
-pub record IsRun (bytes : List ℕ) (text : List ℕ) (count : ℕ) : Type 0 where
+pub record IsRun (limits : Limits) (bytes : List ℕ) (text : List ℕ) (count : ℕ) : Type 0 where
   pub configuration : Configuration
   pub accepted : reading_in (configuration_in (lines_of bytes)) ≡ Ok configuration
   pub last : State
-  pub runs : Runs (opening_of configuration.lines) (requests_in (behind_configuration (lines_of bytes))) text last
+  pub runs : Runs (opening_of configuration.lines limits) (requests_in (behind_configuration (lines_of bytes))) text last
   pub counted : count ≡ length (requests_in (behind_configuration (lines_of bytes)))
 
 -- a run over what the reader has, where it tells, appends such a text to what the writer holds, where it tells
-abbrev pub WritesRun : Option (List ℕ) → Option (List ℕ) → Option (List ℕ) → ℕ → Type 0
-WritesRun None before after count = ⊤
-WritesRun (Some bytes) before after count = (text : List ℕ) × IsRun bytes text count × Appends before after text
+abbrev pub WritesRun : Limits → Option (List ℕ) → Option (List ℕ) → Option (List ℕ) → ℕ → Type 0
+WritesRun limits None before after count = ⊤
+WritesRun limits (Some bytes) before after count = (text : List ℕ) × IsRun limits bytes text count × Appends before after text
+
+-- the fault of a run whose core is not opened
+abbrev pub run_fault_of : OpeningFault → RunFault
+run_fault_of BadLimitsToOpen = BadLimits
+run_fault_of NoMemoryToOpen = NoMemoryForTables
 
 -- whether a fault always comes before the first request is read
 abbrev pub is_before_requests : RunFault → Bool

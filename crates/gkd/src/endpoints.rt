@@ -57,6 +57,19 @@ impl Endpoint {
         }
     }
 
+    /// An equal endpoint. Memory may be refused.
+    pub fn copy(&self) -> Result<Endpoint, AllocError>
+        ensures { IfOk result (λ copy. copy ≡ self.now) }
+    {
+        Ok(Endpoint {
+            kind: self.kind,
+            id: self.id,
+            zone: self.zone,
+            address: self.address,
+            aliases: self.aliases.clone()?,
+        })
+    }
+
     /// Adds an alias; one that the endpoint has changes nothing. Where memory is refused, nothing changes.
     pub fn add_alias(&mut self, alias: Dialled) -> Result<(), AllocError>
         ensures ok { OnOk result (self.new ≡ with_alias self.old alias) }

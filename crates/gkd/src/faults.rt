@@ -1,5 +1,6 @@
 //! Why a run ends early.
 
+use crate::admission::OpeningFault;
 use command_reader::LineFault;
 use std::alloc::AllocError;
 use thiserror::Error;
@@ -13,7 +14,7 @@ pub enum SessionFault {
     /// The writer failed, or took no byte.
     #[error("session fault")]
     WriteFault,
-    /// Memory was refused for the session's buffers.
+    /// Memory was refused for the session's buffers, or for the text of a reply.
     #[error("no memory")]
     NoMemory,
     /// The session has called its reader as often as it may.
@@ -46,6 +47,20 @@ impl From<SessionFault> for RunFault {
 
     fn from(fault: SessionFault) -> RunFault {
         RunFault::Session(fault)
+    }
+}
+
+impl From<OpeningFault> for RunFault {
+    ghost use Rattle.std.specs.Prelude.{◌≡◌};
+    ghost use Rattle.gkd.specs.Run.{run_fault_of};
+
+    ghost from_gives = { λ fault run. run ≡ run_fault_of fault };
+
+    fn from(fault: OpeningFault) -> RunFault {
+        match fault {
+            OpeningFault::BadLimits => RunFault::BadLimits,
+            OpeningFault::NoMemory => RunFault::NoMemory,
+        }
     }
 }
 

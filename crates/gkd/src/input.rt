@@ -72,6 +72,7 @@ impl Input {
         ensures work { work_left self.new ≤ work_left self.old }
         ensures noted { NotesRead (R.has_failed reader.old) (R.has_failed reader.new) result }
         ensures reader_alone { IfErr result (λ fault. fault ≢ SessionFault.WriteFault) }
+        ensures turns_spent { IfErr result (λ fault. fault ≡ SessionFault.TurnsSpent → self.new.turns ≡ 0) }
     {
         line.clear();
         let mut more = false;
@@ -95,6 +96,7 @@ impl Input {
         ensures work { work_left self.new ≤ work_left self.old }
         ensures noted { NotesRead (R.has_failed reader.old) (R.has_failed reader.new) result }
         ensures reader_alone { IfErr result (λ fault. fault ≢ SessionFault.WriteFault) }
+        ensures turns_spent { IfErr result (λ fault. fault ≡ SessionFault.TurnsSpent → self.new.turns ≡ 0) }
     {
         if self.start < self.end {
             return Ok(true);

@@ -2,14 +2,36 @@
 //! request on standard output.
 #![tactic(auto)]
 
+pub mod admission;
+pub mod calls;
+#[cfg(test)]
+mod calls_tests;
+#[cfg(test)]
+mod configuration_tests;
+#[cfg(test)]
+mod core_tests;
+#[cfg(test)]
+mod count_tests;
+#[cfg(test)]
+mod endpoint_tests;
 pub mod endpoints;
 pub mod ends;
+#[cfg(test)]
+mod ends_tests;
+pub mod events;
 pub mod faults;
 pub mod input;
 pub mod laws;
+#[cfg(test)]
+mod laws_tests;
 pub mod limits;
 pub mod line;
 pub mod machine;
+pub mod record;
+#[cfg(test)]
+mod record_tests;
+#[cfg(test)]
+mod registration_tests;
 pub mod registry;
 pub mod replies;
 #[cfg(test)]
@@ -25,6 +47,11 @@ pub mod run;
 mod run_tests;
 pub mod session;
 pub mod tables;
+#[cfg(test)]
+mod test_cores;
+#[cfg(test)]
+mod test_runs;
+mod verdicts;
 
 use ends::Noted;
 use faults::RunFault;

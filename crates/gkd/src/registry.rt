@@ -1,28 +1,38 @@
-//! The registered endpoints, in order of registration.
+//! The registered endpoints, in order of registration, found by ID and by alias without a scan.
 
-ghost use Rattle.std.specs.Prelude.{◌≡◌, [], OnOk, OnErr};
+ghost use Rattle.std.specs.Prelude.{◌≡◌, ◌≤◌, [], false, length, slice_get, OnOk, OnErr};
 ghost use Rattle.std.specs.Option.{option_copied};
-ghost use Rattle.std.specs.List.{position_or_len};
-ghost use Rattle.gkd.specs.Registration.{endpoint_of, has_id, by_alias, id_is_taken, alias_is_taken, with_endpoint};
+ghost use Rattle.std.specs.List.{list_any};
+ghost use Rattle.std.specs.HashMap.{spare};
+ghost use Rattle.gkd.specs.Registration.{endpoint_of, by_alias, is_registered, id_is_taken, alias_is_taken, with_endpoint, without_endpoint};
+ghost use Rattle.gkd.specs.RegistryIndex.{Forgets, Notes, aliases_of, is_another, owner_of};
 
 use crate::endpoints::Endpoint;
 use gk_terms::{Dialled, Name};
+use indexmap::IndexMap;
 use std::alloc::{AllocError, Global};
+use std::collections::HashMap;
 use std::marker::Model;
 
-/// The registered endpoints, in order of registration. A contract sees the list.
+/// The registered endpoints: by ID, in order of registration, and the ID to which each E.164 alias leads.
+/// A contract sees the list of the endpoints.
 #[derive(Drop)]
 pub struct Registry {
-    endpoints: Vec<Endpoint>,
+    endpoints: IndexMap<Name, Endpoint>,
+    owners: HashMap<Dialled, Name>,
 }
 
 impl Model for Registry {
     ghost use Rattle.std.specs.Prelude.{List};
+    ghost use Rattle.std.specs.Map.{values_of};
     ghost use Rattle.gkd.specs.Endpoint.{EndpointParts};
+    ghost use Rattle.gkd.specs.RegistryIndex.{IsIndexed};
 
     ghost Value = { List EndpointParts };
 
-    ghost view = { λ r. r.endpoints.items };
+    ghost view = { λ r. values_of r.endpoints.entries };
+
+    ghost invariant = { λ r. IsIndexed r.endpoints.entries r.owners.entries };
 }
 
 impl Registry {
@@ -31,65 +41,141 @@ impl Registry {
         ensures { result ≡ [] }
     {
         Registry {
-            endpoints: Vec::new(alloc),
+            endpoints: IndexMap::new(alloc),
+            owners: HashMap::new(alloc),
         }
+    }
+
+    /// The number of endpoints.
+    pub fn len(&self) -> usize
+        ensures { result ≡ length self.now }
+    {
+        self.endpoints.len()
+    }
+
+    /// The endpoint at this place in the order of registration, from 0.
+    pub fn at(&self, place: usize) -> Option<&Endpoint>
+        ensures { option_copied result ≡ slice_get self.now place }
+    {
+        let (_, endpoint) = self.endpoints.get_index(place)?;
+        Some(endpoint)
     }
 
     /// The endpoint with this ID.
     pub fn endpoint(&self, id: &Name) -> Option<&Endpoint>
         ensures { option_copied result ≡ endpoint_of self.now id.now }
     {
-        self.endpoints.iter().find(|other| other.id() == *id)
+        self.endpoints.get(id)
+    }
+
+    /// Whether an endpoint has this ID.
+    pub fn is_registered(&self, id: &Name) -> bool
+        ensures { result ≡ is_registered self.now id.now }
+    {
+        self.endpoints.contains_key(id)
     }
 
     /// The endpoint of that zone with that E.164 alias.
     pub fn by_alias(&self, zone: &Name, number: &Dialled) -> Option<&Endpoint>
         ensures { option_copied result ≡ by_alias self.now zone.now number.now }
     {
-        self.endpoints
-            .iter()
-            .find(|other| other.zone() == *zone && other.has_alias(number))
+        let endpoint = self.endpoints.get(self.owners.get(number)?)?;
+        if endpoint.zone() == *zone {
+            Some(endpoint)
+        } else {
+            None
+        }
     }
 
     /// Whether the endpoint's ID is registered from another address.
     pub fn id_is_taken(&self, endpoint: &Endpoint) -> bool
         ensures { result ≡ id_is_taken self.now endpoint.now }
     {
-        self.endpoints.iter().any(|other| other.id() == endpoint.id()
-            && other.address() != endpoint.address())
+        match self.endpoints.get(&endpoint.id()) {
+            Some(other) => other.address() != endpoint.address(),
+            None => false,
+        }
     }
 
     /// Whether one of the endpoint's aliases is another endpoint's, in whatever zone.
     pub fn alias_is_taken(&self, endpoint: &Endpoint) -> bool
         ensures { result ≡ alias_is_taken self.now endpoint.now }
     {
-        self.endpoints.iter().any(|other| other.id() != endpoint.id()
-            && other.shares_alias(endpoint))
+        is_any_anothers(&self.owners, endpoint.aliases(), &endpoint.id())
     }
 
-    #[tactic(auto, using(std::proofs::lemmas::List::set_split))]
-    /// Puts the endpoint in the place of the one with its ID, or else at the end.
-    /// Where memory is refused, nothing changes.
+    /// Puts the endpoint in the place of the one with its ID, or else at the end. None of its aliases may be another
+    /// endpoint's, as `alias_is_taken` tells. Where memory is refused, nothing changes.
     pub fn put(&mut self, endpoint: Endpoint) -> Result<(), AllocError>
+        requires free { alias_is_taken self.old endpoint ≡ false }
         ensures ok { OnOk result (self.new ≡ with_endpoint self.old endpoint) }
         ensures err { OnErr result (self.new ≡ self.old) }
     {
-        let place = place_of(&self.endpoints, &endpoint.id());
-        if place < self.endpoints.len() {
-            self.endpoints[place] = endpoint;
-        } else {
-            self.endpoints.push(endpoint)?;
-        }
+        self.endpoints.reserve(1)?;
+        self.owners.reserve(endpoint.aliases().len())?;
+        // There is room now, so that nothing fails half-way.
+        let id = endpoint.id();
+        forget_aliases_of(&mut self.owners, self.endpoints.get(&id));
+        note(&mut self.owners, endpoint.aliases(), &id);
+        let inserted: Result<_, _> = self.endpoints.insert(id, endpoint);
+        let _ = inserted.unwrap();
         Ok(())
+    }
+
+    /// Removes the endpoint with this ID, if it is registered. Takes no memory. Its time is linear in the number of
+    /// the endpoints that registered after it: each moves up by one place, so that the order of registration is kept.
+    pub fn remove(&mut self, id: &Name)
+        ensures { self.new ≡ without_endpoint self.old id.now }
+    {
+        let removed = self.endpoints.shift_remove(id);
+        forget_aliases_of(&mut self.owners, removed.as_ref());
     }
 }
 
-/// The place of the endpoint with this ID, or the number of endpoints where there is none.
-fn place_of(endpoints: &[Endpoint], id: &Name) -> usize
-    ensures { result ≡ position_or_len (has_id id.now) endpoints.now }
+/// Whether the alias leads to another ID than this.
+fn is_anothers(owners: &HashMap<Dialled, Name>, alias: &Dialled, id: &Name) -> bool
+    ensures { result ≡ is_another id.now (owner_of owners.now.entries alias.now) }
 {
-    endpoints
-        .iter()
-        .take_while(|other| other.id() != *id)
-        .count()
+    match owners.get(alias) {
+        Some(owner) => *owner != *id,
+        None => false,
+    }
+}
+
+/// Whether one of the aliases does.
+fn is_any_anothers(owners: &HashMap<Dialled, Name>, aliases: &[Dialled], id: &Name) -> bool
+    ensures { result ≡ list_any (λ alias. is_another id.now (owner_of owners.now.entries alias)) aliases.now }
+{
+    aliases.iter().any(|alias| is_anothers(owners, alias, id))
+}
+
+/// Takes the aliases of the endpoint, if there is one, out of the map.
+fn forget_aliases_of(owners: &mut HashMap<Dialled, Name>, endpoint: Option<&Endpoint>)
+    ensures forgets { Forgets owners.old.entries owners.new.entries (aliases_of (option_copied endpoint.entry)) }
+    ensures room { spare owners.old ≤ spare owners.new }
+{
+    if let Some(endpoint) = endpoint {
+        forget(owners, endpoint.aliases());
+    }
+}
+
+/// Takes these aliases out of the map.
+fn forget(owners: &mut HashMap<Dialled, Name>, aliases: &[Dialled])
+    ensures forgets { Forgets owners.old.entries owners.new.entries aliases.now }
+    ensures room { spare owners.old ≤ spare owners.new }
+{
+    for alias in aliases {
+        let _ = owners.remove(alias);
+    }
+}
+
+/// Lets these aliases lead to this ID. The map has room for them.
+fn note(owners: &mut HashMap<Dialled, Name>, aliases: &[Dialled], id: &Name)
+    requires room { length aliases.now ≤ spare owners.old }
+    ensures { Notes owners.old.entries owners.new.entries aliases.now id.now }
+{
+    for alias in aliases {
+        let inserted: Result<_, _> = owners.insert(*alias, *id);
+        let _ = inserted.unwrap();
+    }
 }

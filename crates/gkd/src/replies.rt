@@ -31,6 +31,23 @@ pub enum RegisterRefusal {
     UnknownZone,
     /// Another endpoint has the ID or an alias: duplicateAlias.
     DuplicateAlias(Duplicate),
+    /// As many endpoints are registered as may be, and this one is not among them: undefinedReason.
+    EndpointsFull,
+    /// The record has no free place for the entry: undefinedReason.
+    RecordFull,
+    /// Memory was refused: undefinedReason.
+    NoMemory,
+}
+
+/// Why an unregistration is refused. Which case has which of H.225.0's reasons is this project's profile.
+#[derive(Clone, Copy, Debug, PartialEq, Eq)]
+pub enum UnregisterRefusal {
+    /// The ID is not registered: notCurrentlyRegistered.
+    NotRegistered,
+    /// The ID owns an open call: callInProgress.
+    CallInProgress,
+    /// The record has no free place for the entry: undefinedReason.
+    RecordFull,
     /// Memory was refused: undefinedReason.
     NoMemory,
 }
@@ -42,13 +59,29 @@ pub enum RouteRefusal {
     NoDefault,
 }
 
+/// Where dialled digits lead a caller.
+#[derive(Clone, Copy, Debug, PartialEq, Eq)]
+pub enum Route {
+    /// To this destination.
+    To(Destination),
+    /// Nowhere.
+    Refused(RouteRefusal),
+}
+
 /// Why an admission is refused. Which case has which of H.225.0's reasons is this project's profile.
 #[derive(Clone, Copy, Debug, PartialEq, Eq)]
 pub enum AdmitRefusal {
     /// The caller is no registered endpoint: callerNotRegistered.
     CallerNotRegistered,
+    /// A call of this number is open, whoever owns it: undefinedReason.
+    CallOpen,
     /// The dialled digits lead nowhere: calledPartyNotRegistered.
     NoRoute(RouteRefusal),
+    /// As many calls are open as may be: resourceUnavailable.
+    CallsFull,
+    /// The record lacks the free places for the entry and, where a call would be opened, for the entry of its
+    /// release: resourceUnavailable.
+    RecordFull,
     /// Memory was refused: resourceUnavailable.
     NoMemory,
 }
@@ -65,6 +98,15 @@ pub enum Reply {
     RegisterRefused {
         id: Name,
         reason: RegisterRefusal,
+    },
+    /// `UCF`, H.225.0's unregistration confirm.
+    Unregistered {
+        id: Name,
+    },
+    /// `URJ`, H.225.0's unregistration reject.
+    UnregisterRefused {
+        id: Name,
+        reason: UnregisterRefusal,
     },
     /// `ACF`, H.225.0's admission confirm, with the bandwidth in units of 100 bit/s.
     Admitted {
@@ -137,7 +179,27 @@ impl fmt::Display for RegisterRefusal {
             RegisterRefusal::DuplicateAlias(duplicate) => {
                 write!(f, "{} {duplicate}", Reason::DuplicateAlias)
             }
+            RegisterRefusal::EndpointsFull => {
+                write!(f, "{} endpoints-full", Reason::UndefinedReason)
+            }
+            RegisterRefusal::RecordFull => write!(f, "{} record-full", Reason::UndefinedReason),
             RegisterRefusal::NoMemory => write!(f, "{} no-memory", Reason::UndefinedReason),
+        }
+    }
+}
+
+impl fmt::Display for UnregisterRefusal {
+    ghost use Rattle.std.specs.Prelude.{Some};
+    ghost use Rattle.gkd.specs.Replies.{unregister_refusal_text};
+
+    ghost output = { λ refusal. Some (unregister_refusal_text refusal) };
+
+    fn fmt<W: fmt::Write>(&self, f: &mut fmt::Formatter<W>) -> fmt::Result {
+        match self {
+            UnregisterRefusal::NotRegistered => write!(f, "{}", Reason::NotCurrentlyRegistered),
+            UnregisterRefusal::CallInProgress => write!(f, "{}", Reason::CallInProgress),
+            UnregisterRefusal::RecordFull => write!(f, "{} record-full", Reason::UndefinedReason),
+            UnregisterRefusal::NoMemory => write!(f, "{} no-memory", Reason::UndefinedReason),
         }
     }
 }
@@ -164,9 +226,12 @@ impl fmt::Display for AdmitRefusal {
     fn fmt<W: fmt::Write>(&self, f: &mut fmt::Formatter<W>) -> fmt::Result {
         match self {
             AdmitRefusal::CallerNotRegistered => write!(f, "{}", Reason::CallerNotRegistered),
+            AdmitRefusal::CallOpen => write!(f, "{} call-open", Reason::UndefinedReason),
             AdmitRefusal::NoRoute(refusal) => {
                 write!(f, "{} {refusal}", Reason::CalledPartyNotRegistered)
             }
+            AdmitRefusal::CallsFull => write!(f, "{} calls-full", Reason::ResourceUnavailable),
+            AdmitRefusal::RecordFull => write!(f, "{} record-full", Reason::ResourceUnavailable),
             AdmitRefusal::NoMemory => write!(f, "{} no-memory", Reason::ResourceUnavailable),
         }
     }
@@ -183,6 +248,10 @@ impl fmt::Display for Answer {
             Answer::Core { sequence, reply } => match reply {
                 Reply::Registered { id, zone } => write!(f, "RCF {sequence} {id} {zone}"),
                 Reply::RegisterRefused { id, reason } => write!(f, "RRJ {sequence} {id} {reason}"),
+                Reply::Unregistered { id } => write!(f, "UCF {sequence} {id}"),
+                Reply::UnregisterRefused { id, reason } => {
+                    write!(f, "URJ {sequence} {id} {reason}")
+                }
                 Reply::Admitted {
                     call,
                     destination,

@@ -2,6 +2,7 @@
 
 use crate::replies::{
     AdmitRefusal, Answer, Destination, Duplicate, RegisterRefusal, Reply, RouteRefusal,
+    UnregisterRefusal,
 };
 use crate::request_faults::RequestFault;
 use gk_terms::{Address, Name, Units};
@@ -19,6 +20,20 @@ fn registrations(rt: HostRuntime) -> Result<(), Fail> {
                 reason: RegisterRefusal::UnknownZone,
             },
             "RRJ 1 ta undefinedReason unknown-zone",
+        ),
+        (
+            Reply::RegisterRefused {
+                id,
+                reason: RegisterRefusal::EndpointsFull,
+            },
+            "RRJ 1 ta undefinedReason endpoints-full",
+        ),
+        (
+            Reply::RegisterRefused {
+                id,
+                reason: RegisterRefusal::RecordFull,
+            },
+            "RRJ 1 ta undefinedReason record-full",
         ),
         (
             Reply::RegisterRefused {
@@ -43,6 +58,34 @@ fn registrations(rt: HostRuntime) -> Result<(), Fail> {
         ),
     ] {
         let answer = Answer::Core { sequence: 1, reply };
+        assert_eq!(rt; format!(in rt.alloc(); "{answer}")?.as_str(), text);
+    }
+    Ok(())
+}
+
+#[test]
+fn unregistrations(rt: HostRuntime) -> Result<(), Fail> {
+    let id = Name::read(b"ta")?;
+    let reply = Reply::Unregistered { id };
+    let answer = Answer::Core { sequence: 7, reply };
+    assert_eq!(rt; format!(in rt.alloc(); "{answer}")?.as_str(), "UCF 7 ta");
+    for (reason, text) in [
+        (
+            UnregisterRefusal::NotRegistered,
+            "URJ 7 ta notCurrentlyRegistered",
+        ),
+        (UnregisterRefusal::CallInProgress, "URJ 7 ta callInProgress"),
+        (
+            UnregisterRefusal::RecordFull,
+            "URJ 7 ta undefinedReason record-full",
+        ),
+        (
+            UnregisterRefusal::NoMemory,
+            "URJ 7 ta undefinedReason no-memory",
+        ),
+    ] {
+        let reply = Reply::UnregisterRefused { id, reason };
+        let answer = Answer::Core { sequence: 7, reply };
         assert_eq!(rt; format!(in rt.alloc(); "{answer}")?.as_str(), text);
     }
     Ok(())
@@ -83,6 +126,18 @@ fn admissions(rt: HostRuntime) -> Result<(), Fail> {
         (
             AdmitRefusal::NoRoute(RouteRefusal::NoDefault),
             "ARJ 5 1001 calledPartyNotRegistered no-default",
+        ),
+        (
+            AdmitRefusal::CallOpen,
+            "ARJ 5 1001 undefinedReason call-open",
+        ),
+        (
+            AdmitRefusal::CallsFull,
+            "ARJ 5 1001 resourceUnavailable calls-full",
+        ),
+        (
+            AdmitRefusal::RecordFull,
+            "ARJ 5 1001 resourceUnavailable record-full",
         ),
         (
             AdmitRefusal::NoMemory,

@@ -2,8 +2,8 @@
 
 ghost use Rattle.std.specs.Prelude.{◌≡◌, Ok, MatchResult};
 ghost use Rattle.gk_terms.specs.Text.{words_of};
-ghost use Rattle.gkd.specs.Fields.{Gives};
-ghost use Rattle.gkd.specs.Requests.{alias_in as alias_of_option, endpoint_at, options_at, register_at, admit_at, asked_by, asking_of, IsUnread, IsUnreadBy, IsUnreadRegistration, AreUnreadOptions};
+ghost use Rattle.gkd.specs.Fields.{Gives, ended};
+ghost use Rattle.gkd.specs.Requests.{alias_in as alias_of_option, endpoint_at, options_at, register_at, unregister_at, admit_at, asked_by, asking_of, IsUnread, IsUnreadBy, IsUnreadRegistration, AreUnreadOptions};
 
 use crate::endpoints::Endpoint;
 use crate::request_faults::{RequestFault, Unread};
@@ -39,6 +39,7 @@ fn asked_by_words(alloc: Global, words: &mut Words<'_>) -> Result<Option<Request
     match words.next() {
         None => Ok(None),
         Some(b"RRQ") => Ok(Some(register(alloc, words)?)),
+        Some(b"URQ") => Ok(Some(unregister(words)?)),
         Some(b"ARQ") => Ok(Some(admit(words)?)),
         Some(_) => Err(Unread::Fault(RequestFault::UnknownWord)),
     }
@@ -98,6 +99,15 @@ fn alias_in(left: usize, word: &[u8]) -> Result<Dialled, RequestFault>
     Dialled::read(digits).map_err(|_| RequestFault::BadDigits)
 }
 
+/// `URQ seq id`, behind its first word.
+fn unregister(words: &mut Words<'_>) -> Result<Request, RequestFault>
+    ensures { result ≡ unregister_at (words_of words.old) }
+{
+    let sequence = sequence_field(words)?;
+    let id = name_field(words)?;
+    whole(Request::Unregister { sequence, id }, words)
+}
+
 /// `ARQ seq id call digits units`, behind its first word.
 fn admit(words: &mut Words<'_>) -> Result<Request, RequestFault>
     ensures { result ≡ admit_at (words_of words.old) }
@@ -107,14 +117,22 @@ fn admit(words: &mut Words<'_>) -> Result<Request, RequestFault>
     let call = call_field(words)?;
     let digits = digits_field(words)?;
     let units = units_field(words)?;
+    let request = Request::Admit {
+        sequence,
+        id,
+        call,
+        digits,
+        units,
+    };
+    whole(request, words)
+}
+
+/// The request, where no word stands behind its last field.
+fn whole(request: Request, words: &mut Words<'_>) -> Result<Request, RequestFault>
+    ensures { result ≡ ended request (words_of words.old) }
+{
     match words.next() {
         Some(_) => Err(RequestFault::Extra),
-        None => Ok(Request::Admit {
-            sequence,
-            id,
-            call,
-            digits,
-            units,
-        }),
+        None => Ok(request),
     }
 }

@@ -34,7 +34,18 @@ fn faults(rt: HostRuntime) -> Result<(), Fail> {
         (long.as_slice(), "line"),
         (b"XYZ 1", "word"),
         (b"rrq 1", "word"),
-        (b"URQ 1 ta", "word"),
+        (b"UCF 1 ta", "word"),
+        (b"urq 1 ta", "word"),
+        (b"URQ 0 ta", "seq"),
+        (b"URQ 65536 ta", "seq"),
+        (b"URQ ta 1", "seq"),
+        (b"URQ x t\x7F y", "seq"),
+        (b"URQ", "missing"),
+        (b"URQ 1", "missing"),
+        (b"URQ 1 t\x7F", "name"),
+        (b"URQ 1 t\x7F y", "name"),
+        (b"URQ 1 ta x", "extra"),
+        (b"URQ 1 ta ta", "extra"),
         (b"ARQ 0 ta 1 9 0", "seq"),
         (b"ARQ 65536 ta 1 9 0", "seq"),
         (b"ARQ", "missing"),
@@ -104,6 +115,18 @@ fn sixteen_options(rt: HostRuntime) -> Result<(), Fail> {
         return Err(Fail::new("no registration"));
     };
     assert_eq!(rt; endpoint.aliases().len(), 1);
+    Ok(())
+}
+
+#[test]
+fn unregistrations(rt: HostRuntime) -> Result<(), Fail> {
+    for (line, number) in [(b"URQ 65535 ta".as_slice(), 65_535), (b"\tURQ  1\tta ", 1)] {
+        let Request::Unregister { sequence, id } = request(rt.alloc(), line)? else {
+            return Err(Fail::new("no unregistration"));
+        };
+        assert_eq!(rt; sequence, number);
+        assert_eq!(rt; id.as_str(), "ta");
+    }
     Ok(())
 }
 

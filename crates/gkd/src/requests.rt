@@ -1,6 +1,10 @@
 //! Requests, as they are read.
 
+ghost use Rattle.std.specs.Prelude.{◌≡◌};
+ghost use Rattle.gkd.specs.Events.{numbered_event};
+
 use crate::endpoints::Endpoint;
+use crate::events::Event;
 use gk_terms::{Dialled, Name, Units};
 
 /// A request of an endpoint.
@@ -12,6 +16,13 @@ pub enum Request {
         sequence: u32,
         /// The endpoint that asks to be registered, in the zone that it names.
         endpoint: Endpoint,
+    },
+    /// `URQ`, H.225.0's unregistration request.
+    Unregister {
+        /// The sequence number, 1 to 65535, which the reply repeats.
+        sequence: u32,
+        /// The ID that asks to be unregistered.
+        id: Name,
     },
     /// `ARQ`, H.225.0's admission request.
     Admit {
@@ -26,4 +37,31 @@ pub enum Request {
         /// The bandwidth that the call asks for, in units of 100 bit/s.
         units: Units,
     },
+}
+
+impl Request {
+    /// The sequence number, and the event that the core is asked for.
+    pub fn into_event(self) -> (u32, Event)
+        ensures { result ≡ numbered_event self }
+    {
+        match self {
+            Request::Register { sequence, endpoint } => (sequence, Event::Register(endpoint)),
+            Request::Unregister { sequence, id } => (sequence, Event::Unregister { id }),
+            Request::Admit {
+                sequence,
+                id,
+                call,
+                digits,
+                units,
+            } => {
+                let event = Event::Admit {
+                    id,
+                    call,
+                    digits,
+                    units,
+                };
+                (sequence, event)
+            }
+        }
+    }
 }

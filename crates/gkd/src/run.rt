@@ -8,12 +8,12 @@ ghost use Rattle.gkd.specs.Input.{work_left, left_of, AtEndIfEnded};
 ghost use Rattle.gkd.specs.Limits.{are_limits};
 ghost use Rattle.gkd.specs.Run.{ends_configuration, is_end_alone as is_end_alone_of, ContinuesWith, ReadsOut, ReadsConfiguration, WritesRun, IsRefusedBy, IsBehindConfiguration, is_before_requests};
 
+use crate::admission::Core;
 use crate::ends::{Sink, Source};
 use crate::faults::{RunFault, SessionFault};
 use crate::input::Input;
 use crate::limits::Limits;
 use crate::line::Line;
-use crate::machine::Machine;
 use crate::session::session;
 use crate::tables::Tables;
 use command_reader::{Commands, Draft, LineFault};
@@ -40,7 +40,7 @@ pub fn run_over<R: Source, W: Sink>(
     // of a run of the machine to the requests behind it, each in its order, and nothing else, however the reader cut
     // the bytes into pieces. The number is that of the replies.
     ensures end { OnOk result (IsAtEnd (R.remaining reader.new)) }
-    ensures written { IfOk result (λ count. WritesRun (R.remaining reader.old) (W.contents writer.old) (W.contents writer.new) count) }
+    ensures written { IfOk result (λ count. WritesRun limits (R.remaining reader.old) (W.contents writer.old) (W.contents writer.new) count) }
 
     // `Config` names the configuration's first fault, or want of memory, once its last line was read. Nothing was
     // written then, nor where the limits are bad or memory was refused between the configuration and the requests.
@@ -66,8 +66,8 @@ pub fn run_over<R: Source, W: Sink>(
         Err(fault) => return Err(RunFault::Config(fault)),
     };
     let tables = Tables::compile(alloc, commands)?;
-    let mut machine = Machine::new(alloc, tables);
-    let replies = session(alloc, &mut input, reader, writer, &mut machine)?;
+    let mut core = Core::new(alloc, tables, limits)?;
+    let replies = session(alloc, &mut input, reader, writer, &mut core)?;
     Ok(replies)
 }
 

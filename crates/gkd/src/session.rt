@@ -4,37 +4,42 @@ ghost use Rattle.std.specs.Prelude.{◌≡◌, ◌≢◌, ◌^◌, ◌<◌, IfOk
 ghost use Rattle.std.specs.Io.KnownBytes.{Appends, IsAtEnd};
 ghost use Rattle.gkd.specs.Ends.{Notes, NotesRead, NotesWrite};
 ghost use Rattle.gkd.specs.Input.{work_left, left_of, AtEndIfEnded};
+ghost use Rattle.gkd.specs.History.{state_of};
+ghost use Rattle.gkd.specs.Machine.{MayAnswer};
 ghost use Rattle.gkd.specs.Session.{line_of_answer, asked_in, AnswersLine, IsAnswerTo, WritesSession};
 
+use crate::admission::Core;
 use crate::ends::{Sink, Source, write_whole};
 use crate::faults::SessionFault;
 use crate::input::Input;
 use crate::line::Line;
-use crate::machine::Machine;
 use crate::replies::{Answer, RegisterRefusal, Reply};
 use crate::request_faults::Unread;
 use crate::request_lines::request_in;
+use crate::requests::Request;
 use std::alloc::Global;
 use std::io::Write;
 
 /// How many bytes the longest reply has room for without growing the buffer.
 const REPLY_BYTES: usize = 1_024;
 
-/// Answers the requests of the input to its end, and says how many replies were written.
+/// Answers the requests of the input to its end, and says how many replies were written. `TurnsSpent` comes only where
+/// the reader was called as often as it may be.
 pub fn session<R: Source, W: Sink>(
     alloc: Global,
     input: &mut Input,
     reader: &mut R,
     writer: &mut W,
-    machine: &mut Machine,
+    core: &mut Core,
 ) -> Result<u64, SessionFault>
     requires counted { work_left input.old < 2 ^ 63 }
     requires ended { AtEndIfEnded input.old (R.remaining reader.old) }
     ensures end { OnOk result (IsAtEnd (R.remaining reader.new)) }
     ensures written { IfOk result (λ count. WritesSession (left_of input.old (R.remaining reader.old))
-        machine.old machine.new (W.contents writer.old) (W.contents writer.new) count) }
+        (state_of core.old) (state_of core.new) (W.contents writer.old) (W.contents writer.new) count) }
     ensures reader_noted { NotesRead (R.has_failed reader.old) (R.has_failed reader.new) result }
     ensures writer_noted { NotesWrite (W.has_failed writer.old) (W.has_failed writer.new) result }
+    ensures turns_spent { IfErr result (λ fault. fault ≡ SessionFault.TurnsSpent → input.new.turns ≡ 0) }
 {
     let mut line = Line::new();
     let Ok(mut reply) = Vec::with_capacity(alloc, REPLY_BYTES) else {
@@ -42,7 +47,7 @@ pub fn session<R: Source, W: Sink>(
     };
     let mut replies = 0u64;
     while input.next_line(reader, &mut line)? {
-        match answer_to(alloc, line.content(), machine) {
+        match answer_to(alloc, line.content(), core) {
             None => {}
             Some(answer) => {
                 send(&mut reply, writer, answer)?;
@@ -54,13 +59,24 @@ pub fn session<R: Source, W: Sink>(
 }
 
 /// The answer to a line; nothing to a blank one.
-fn answer_to(alloc: Global, line: &[u8], machine: &mut Machine) -> Option<Answer>
-    ensures { AnswersLine machine.old (asked_in line.now) result machine.new }
+fn answer_to(alloc: Global, line: &[u8], core: &mut Core) -> Option<Answer>
+    ensures { AnswersLine (state_of core.old) (asked_in line.now) result (state_of core.new) }
 {
     match request_in(alloc, line) {
         Ok(None) => None,
-        Ok(Some(request)) => Some(machine.answer(request)),
+        Ok(Some(request)) => Some(answer_from(core, request)),
         Err(unread) => Some(answer_to_unread(unread)),
+    }
+}
+
+/// The core's answer to a request.
+fn answer_from(core: &mut Core, request: Request) -> Answer
+    ensures { MayAnswer (state_of core.old) request result (state_of core.new) }
+{
+    let (sequence, event) = request.into_event();
+    match core.answer(event) {
+        Ok((reply, _)) => Answer::Core { sequence, reply },
+        Err(reply) => Answer::Core { sequence, reply },
     }
 }
 
@@ -82,7 +98,7 @@ fn answer_to_unread(unread: Unread) -> Answer
 fn send<W: Sink>(reply: &mut Vec<u8>, writer: &mut W, answer: Answer) -> Result<(), SessionFault>
     ensures sent { OnOk result (Appends (W.contents writer.old) (W.contents writer.new) (line_of_answer answer)) }
     ensures noted { NotesWrite (W.has_failed writer.old) (W.has_failed writer.new) result }
-    ensures writer_alone { IfErr result (λ fault. fault ≢ SessionFault.ReadFault) }
+    ensures writer_alone { IfErr result (λ fault. (fault ≢ SessionFault.ReadFault) × (fault ≢ SessionFault.TurnsSpent)) }
 {
     render(reply, answer)?;
     match write_whole(writer, reply) {

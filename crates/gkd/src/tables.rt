@@ -15,7 +15,7 @@ ghost use Rattle.gkd.specs.TablesIndex.{AreZonesOf, AddsZone, kind_in, aims_by, 
 use command_reader::{Command, Commands};
 use digit_patterns::{Hit, Pattern, PlainTable, PrefixTable, TableFault};
 use gk_terms::limits::MOST_LINES;
-use gk_terms::{Address, Dialled, Name};
+use gk_terms::{Address, Dialled, Name, Version};
 use std::alloc::{AllocError, Global};
 use std::collections::{HashMap, HashSet};
 use std::marker::Model;
@@ -38,6 +38,17 @@ pub enum Plan {
     Local { zone: Name },
     /// To an endpoint of the caller's zone, since no zone prefix matches.
     Caller,
+}
+
+/// What the configuration of some version says of dialled digits.
+#[derive(Clone, Copy, Debug, PartialEq, Eq)]
+pub struct Routed {
+    /// The number of that version.
+    pub version: Version,
+    /// What was dialled.
+    pub dialled: Dialled,
+    /// Where a call to these digits is to go.
+    pub plan: Plan,
 }
 
 /// The configuration in force: its commands, its zones by name, and its zone prefixes by pattern.
@@ -122,6 +133,19 @@ impl Tables {
         ensures { result ≡ plan_of self.now digits.now }
     {
         plan_of_hit(&self.targets, self.prefixes.best(digits, 0))
+    }
+
+    /// The plan for these digits, under the number that these tables have as a version.
+    pub fn routed(&self, version: Version, digits: &Dialled) -> Routed
+        ensures version { result.version ≡ version }
+        ensures dialled { result.dialled ≡ digits.now }
+        ensures plan { result.plan ≡ plan_of self.now digits.now }
+    {
+        Routed {
+            version,
+            dialled: *digits,
+            plan: self.plan(digits),
+        }
     }
 }
 

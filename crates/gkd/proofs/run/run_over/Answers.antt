@@ -1,9 +1,11 @@
 use Rattle.std.proofs.Common.{◌≡◌, ap, subst, ◌∙◌}
 use Rattle.std.specs.Prelude.{Option, List, ℕ, Ok}
-use Rattle.gkd.specs.State.{State}
+use Rattle.gkd.specs.State.{State, opening_of}
+use Rattle.gkd.specs.History.{state_of}
 use Rattle.gkd.specs.Input.{left_of}
 use Rattle.gkd.specs.Session.{WritesSession}
-use Rattle.gkd.specs.Run.{opening_of, ReadsConfiguration}
+use Rattle.gkd.specs.Run.{ReadsConfiguration}
+use Rattle.gkd.proofs.CoreLemmas.{state_opened}
 use Rattle.gkd.proofs.RunLemmas.{run_writes, left_at_first}
 use Rattle.std.proofs.Common.{refl}
 use Rattle.std.proofs.lemmas.Result.{err_from_is_err_and}
@@ -18,15 +20,16 @@ returns-clause-written g c =
     let reader = c.configuration.new.reader in
     let begun : left_of c.new-input.result (remaining c.args.reader.now) ≡ remaining c.args.reader.now =
     ap (λ i. left_of i (remaining c.args.reader.now)) c.new-input.ensures ∙ left_at_first (remaining c.args.reader.now) in
-    let opening : c.new-machine.result ≡ opening_of c.in-Ok.commands.lines =
-    c.new-machine.ensures ∙ ap (λ lines. opening_of lines) c.in_ok-tables.ensures in
+    let limits = c.args.limits in
+    let opening : state_of c.in_ok-core.core ≡ opening_of c.in-Ok.commands.lines limits =
+    state_opened _ _ c.in_ok-core.ensures.opened ∙ ap (λ lines. opening_of lines limits) c.in_ok-tables.ensures in
     let read : ReadsConfiguration (remaining c.args.reader.now) (left_of input (remaining reader)) (Ok c.in-Ok.commands) =
     subst (λ (known : Option (List ℕ)). ReadsConfiguration known (left_of input (remaining reader)) (Ok c.in-Ok.commands)) begun
     (rw c.in-Ok.is at c.in_ok-commands.ensures.read) in
-    let written : WritesSession (left_of input (remaining reader)) (opening_of c.in-Ok.commands.lines) c.session.new.machine (contents c.args.writer.now) (contents c.session.new.writer) c.in_ok-replies.replies =
-    subst (λ (s : State). WritesSession (left_of input (remaining reader)) s c.session.new.machine (contents c.args.writer.now) (contents c.session.new.writer) c.in_ok-replies.replies) opening
+    let written : WritesSession (left_of input (remaining reader)) (opening_of c.in-Ok.commands.lines limits) (state_of c.session.new.core) (contents c.args.writer.now) (contents c.session.new.writer) c.in_ok-replies.replies =
+    subst (λ (s : State). WritesSession (left_of input (remaining reader)) s (state_of c.session.new.core) (contents c.args.writer.now) (contents c.session.new.writer) c.in_ok-replies.replies) opening
     c.in_ok-replies.ensures.written in
-    run_writes _ _ _ _ c.in-Ok.commands _ _ read written
+    run_writes limits _ _ _ _ c.in-Ok.commands _ _ read written
 
 pub returns-in_err-commands-clause-writer_noted : goal.returns-in_err-commands-clause-writer_noted
 returns-in_err-commands-clause-writer_noted g c =

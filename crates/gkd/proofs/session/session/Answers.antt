@@ -34,4 +34,4 @@ returns-in_err-next_line-clause-writer_noted g c =
 pub returns-in_err-send-in-Some-clause-reader_noted : goal.returns-in_err-send-in-Some-clause-reader_noted
 returns-in_err-send-in-Some-clause-reader_noted g c =
     let p = err_from_is_err_and c.from_residual-in_err-send-in-Some.result c.from_residual-in_err-send-in-Some.ensures.1 in
-    rw (p.1, p.2) (not_of_reader _ _ _ (c.in_ok-next_line.ensures.noted ∙ c.loop-reply.invariant.reader_noted) c.in_err-send-in-Some.ensures.writer_alone)
+    rw (p.1, p.2) (not_of_reader _ _ _ (c.in_ok-next_line.ensures.noted ∙ c.loop-reply.invariant.reader_noted) c.in_err-send-in-Some.ensures.writer_alone.0)

@@ -1,5 +1,6 @@
 use Rattle.std.proofs.Common.{◌≡◌, ◌≤◌, ◌+◌}
 use Rattle.gkd.specs.Input.{work_left, left_of, AtEndIfEnded}
+use Rattle.gkd.specs.History.{state_of}
 use Rattle.gkd.specs.Session.{SessionUnderWay}
 use Rattle.gkd.proofs.session.session.Given as goal
 
@@ -10,7 +11,7 @@ invariant-loop-reply g l =
     record {
       counted : l.replies + work_left l.input ≤ work_left l.fn.input;
       ended : AtEndIfEnded l.input (remaining l.reader);
-      under_way : SessionUnderWay (left_of l.fn.input (remaining l.fn.reader)) (left_of l.input (remaining l.reader)) l.fn.machine l.machine (contents l.fn.writer) (contents l.writer) l.replies;
+      under_way : SessionUnderWay (left_of l.fn.input (remaining l.fn.reader)) (left_of l.input (remaining l.reader)) (state_of l.fn.core) (state_of l.core) (contents l.fn.writer) (contents l.writer) l.replies;
       reader_noted : g.R.Source.has_failed l.reader ≡ g.R.Source.has_failed l.fn.reader;
       writer_noted : g.W.Sink.has_failed l.writer ≡ g.W.Sink.has_failed l.fn.writer;
     }

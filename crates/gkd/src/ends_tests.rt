@@ -1,0 +1,218 @@
+//! Readers and writers that fail, or that cut what they are given into pieces.
+
+use crate::ends::{EndFailed, Noted, Sink, Source, write_whole};
+use crate::faults::{RunFault, SessionFault};
+use crate::limits::STATED;
+use crate::run::run_over;
+use crate::test_runs::{BAD_LIMITS, CONFIGURATION, REPLIES, REQUESTS};
+use std::io;
+use std::io::{ErrorKind, Read, Write};
+use std::test::Fail;
+
+/// A source that gives these bytes, one a call, and then fails.
+#[derive(Drop)]
+struct FailingSource<'a> {
+    bytes: &'a [u8],
+    failed: bool,
+}
+
+impl Source for FailingSource<'_> {
+    ghost use Rattle.std.specs.Prelude.{None};
+
+    ghost remaining = { λ _. None };
+
+    ghost has_failed = { λ source. source.failed };
+
+    fn read(&mut self, piece: &mut [u8]) -> Result<usize, EndFailed> {
+        match self.bytes {
+            [byte, rest @ ..] if !piece.is_empty() => {
+                piece[0] = *byte;
+                self.bytes = rest;
+                Ok(1)
+            }
+            _ => {
+                self.failed = true;
+                Err(EndFailed)
+            }
+        }
+    }
+}
+
+/// A sink that fails.
+#[derive(Drop)]
+struct FailingSink {
+    failed: bool,
+}
+
+impl Sink for FailingSink {
+    ghost use Rattle.std.specs.Prelude.{None};
+
+    ghost contents = { λ _. None };
+
+    ghost has_failed = { λ sink. sink.failed };
+
+    fn write(&mut self, _bytes: &[u8]) -> Result<usize, EndFailed> {
+        self.failed = true;
+        Err(EndFailed)
+    }
+}
+
+/// A reader and writer of the library that fails where its result is none.
+#[derive(Drop)]
+struct Answering(Option<usize>);
+
+impl Read for Answering {
+    fn read(&mut self, buf: &mut [u8]) -> io::Result<usize> {
+        match self.0 {
+            Some(count) => Ok(count.min(buf.len())),
+            None => Err(io::Error::from(ErrorKind::Other)),
+        }
+    }
+}
+
+impl Write for Answering {
+    fn write(&mut self, buf: &[u8]) -> io::Result<usize> {
+        match self.0 {
+            Some(count) => Ok(count.min(buf.len())),
+            None => Err(io::Error::from(ErrorKind::Other)),
+        }
+    }
+
+    fn flush(&mut self) -> io::Result<()> {
+        Ok(())
+    }
+}
+
+#[test]
+fn names_the_side_that_failed(rt: HostRuntime) -> Result<(), Fail> {
+    for bytes in [
+        b"\n\n\n".as_slice(),
+        b"host\nzone local a b\nend",
+        b"zone local a b\nend\nXYZ 1\n",
+    ] {
+        let mut output = Vec::new(rt.alloc());
+        let mut source = FailingSource {
+            bytes,
+            failed: false,
+        };
+        let mut sink = Noted::new(&mut output);
+        let read = run_over(rt.alloc(), STATED, &mut source, &mut sink);
+        assert_eq!(rt; read, Err(RunFault::Session(SessionFault::ReadFault)));
+        assert!(rt; source.failed);
+        assert!(rt; !sink.has_failed());
+    }
+    let mut source = Noted::new(b"zone local a b\nend\nXYZ 1\n".as_slice());
+    let mut sink = FailingSink { failed: false };
+    let written = run_over(rt.alloc(), STATED, &mut source, &mut sink);
+    assert_eq!(rt; written, Err(RunFault::Session(SessionFault::WriteFault)));
+    assert!(rt; sink.failed);
+    assert!(rt; !source.has_failed());
+    Ok(())
+}
+
+#[test]
+fn notes_what_fails(rt: HostRuntime) -> Result<(), Fail> {
+    let mut piece = [0; 4];
+    for (answer, read, read_fails, written, write_fails) in [
+        (Some(3), Ok(3), false, Ok(3), false),
+        (Some(0), Ok(0), false, Err(EndFailed), true),
+        (None, Err(EndFailed), true, Err(EndFailed), true),
+    ] {
+        let mut source = Noted::new(Answering(answer));
+        assert_eq!(rt; source.read(&mut piece), read);
+        assert_eq!(rt; source.has_failed(), read_fails);
+        let mut sink = Noted::new(Answering(answer));
+        assert_eq!(rt; sink.write(b"abcd"), written);
+        assert_eq!(rt; sink.has_failed(), write_fails);
+        let mut idle = Noted::new(Answering(answer));
+        assert_eq!(rt; write_whole(&mut idle, b""), Ok(()));
+        assert_eq!(rt; write_whole(&mut idle, b"abcd").is_ok(), !write_fails);
+    }
+    Ok(())
+}
+
+#[test]
+fn refuses_limits_before_it_reads(rt: HostRuntime) -> Result<(), Fail> {
+    for limits in BAD_LIMITS {
+        let mut output = Vec::new(rt.alloc());
+        let mut source = FailingSource {
+            bytes: b"end",
+            failed: false,
+        };
+        let mut sink = Noted::new(&mut output);
+        let result = run_over(rt.alloc(), limits, &mut source, &mut sink);
+        assert_eq!(rt; result, Err(RunFault::BadLimits));
+        assert_eq!(rt; source.bytes, b"end".as_slice());
+    }
+    Ok(())
+}
+
+/// A reader that gives at most so many bytes a call.
+#[derive(Drop)]
+struct Pieces<'a> {
+    bytes: &'a [u8],
+    most: usize,
+}
+
+impl Read for Pieces<'_> {
+    fn read(&mut self, buf: &mut [u8]) -> io::Result<usize> {
+        let count = self.most.min(self.bytes.len()).min(buf.len());
+        let (piece, rest) = self.bytes.split_at(count);
+        buf[..count].copy_from_slice(piece);
+        self.bytes = rest;
+        Ok(count)
+    }
+}
+
+/// A writer that takes one byte a call.
+#[derive(Drop)]
+struct ByteByByte {
+    bytes: Vec<u8>,
+}
+
+impl Write for ByteByByte {
+    fn write(&mut self, buf: &[u8]) -> io::Result<usize> {
+        match buf.first() {
+            None => Ok(0),
+            Some(byte) => {
+                self.bytes.push(*byte)?;
+                Ok(1)
+            }
+        }
+    }
+
+    fn flush(&mut self) -> io::Result<()> {
+        Ok(())
+    }
+}
+
+#[test]
+fn cuts_change_nothing(rt: HostRuntime) -> Result<(), Fail> {
+    let mut input = Vec::from_slice(rt.alloc(), CONFIGURATION.as_bytes())?;
+    input.extend_from_slice(REQUESTS.as_bytes())?;
+    input.extend_from_slice(
+        b"\r\n\nXYZ 1\nARQ 0 ta 1 9 0\nARQ 5 ta 1001 9123\nARQ 5 ta 1001 9123 640 x\nARQ 5 ta 0 9123 640\n\
+        RRQ 5 TERM tb gk-a 10.0.0.300\nRRQ 5 PBX tb gk-a 10.0.0.3\n",
+    )?;
+    input.extend_from_slice(&[b'a'; 513])?;
+    input.extend_from_slice(b"\r\nARQ 6 ta 1005 9123 640")?;
+    let mut replies = Vec::from_slice(rt.alloc(), REPLIES.as_bytes())?;
+    replies.extend_from_slice(
+        b"ERR word\nERR seq\nERR missing\nERR extra\nERR number\nERR address\nERR option\nERR line\n\
+        ACF 6 1005 ZONE gk-x 10.9.0.1:1719 640\n",
+    )?;
+    for most in [1, 2, 3, 7] {
+        let mut writer = ByteByByte {
+            bytes: Vec::new(rt.alloc()),
+        };
+        let mut source = Noted::new(Pieces {
+            bytes: input.as_slice(),
+            most,
+        });
+        let mut sink = Noted::new(&mut writer);
+        let result = run_over(rt.alloc(), STATED, &mut source, &mut sink);
+        assert_eq!(rt; result, Ok(13));
+        assert_eq!(rt; writer.bytes.as_slice(), replies.as_slice());
+    }
+    Ok(())
+}

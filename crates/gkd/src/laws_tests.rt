@@ -1,0 +1,13 @@
+//! The laws do nothing; that they can be called shows that none of them rests on a premise.
+
+use crate::laws;
+
+#[test]
+fn laws_can_be_called(_rt: HostRuntime) {
+    laws::admissions_are_routed();
+    laws::refusals_found_none();
+    laws::strangers_are_refused();
+    laws::recorded_admissions_are_routed();
+    laws::recorded_refusals_found_none();
+    laws::records_are_sound();
+}
