@@ -18,7 +18,7 @@ pub enum EndpointKind {
     Terminal,
 }
 
-/// A registered endpoint: its kind, ID, zone, address and different E.164 aliases.
+/// A registered endpoint: its kind, ID, zone, address and E.164 aliases.
 /// A contract sees it as `EndpointParts`.
 #[derive(Drop)]
 pub struct Endpoint {
