@@ -95,6 +95,10 @@ whole_of (Ok read) = finished read
 abbrev pub nothing_read : Progress
 nothing_read = record { kept = []; passed = 0 }
 
+-- what the lines of a configuration say, or its first fault
+abbrev pub reading_in : List (List ℕ) → Result Configuration LineFault
+reading_in lines = whole_of (lines_after nothing_read lines)
+
 -- what the bytes of a configuration say
 unfoldable pub reading_of : List ℕ → Result Configuration LineFault
 reading_of bytes = whole_of (lines_after nothing_read (lines_of bytes))

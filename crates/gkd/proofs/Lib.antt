@@ -1,17 +1,1 @@
-pub mod EndsLemmas
-pub mod InputLemmas
-pub mod FirstRows
-pub mod TableLemmas
-pub mod LinesRead
-pub mod KeptLines
-pub mod AskedLemmas
-pub mod SessionLemmas
 pub mod RunLemmas
-pub mod CallLemmas
-pub mod RegistryLemmas
-pub mod RouteLaws
-pub mod StepLemmas
-pub mod HistoryLaws
-pub mod MachineLemmas
-pub mod CoreLemmas
-pub mod RecordLemmas

@@ -13,13 +13,14 @@ use Rattle.command_reader.specs.Configuration.{Configuration}
 use Rattle.command_reader.specs.Progress.{Progress, line_count}
 use Rattle.command_reader.specs.Reading.{nothing_read, line_after, lines_after, with_command, finished, whole_of}
 use Rattle.command_reader.proofs.MemoryLemmas.{read_on, refused_here, refused_later}
-use Rattle.gkd.specs.Input.{TakesLine, TakesKnownLine}
-use Rattle.gkd.specs.Run.{ends_configuration, is_end_alone, configuration_in, behind_configuration, Says, ReadsLine, ContinuesWith, SaysBehind, IsReading, ReadingUnderWay, IsReadOut, ReadsOut, SaysConfiguration, ReadsConfiguration, reading_in, IsRun, WritesRun, IsRefusedBy}
+use Rattle.gk_protocol.specs.Input.{TakesLine, TakesKnownLine}
+use Rattle.gkd.specs.Run.{ends_configuration, is_end_alone, configuration_in, behind_configuration, Says, ReadsLine, ContinuesWith, SaysBehind, IsReading, ReadingUnderWay, IsReadOut, ReadsOut, SaysConfiguration, ReadsConfiguration, IsRun, WritesRun, IsRefusedBy}
+use Rattle.command_reader.specs.Reading.{reading_in}
 use Rattle.gkd.specs.Run.{IsConfiguration}
-use Rattle.gkd.specs.declared.limits.Limits.{Limits}
-use Rattle.gkd.specs.State.{State, opening_of}
-use Rattle.gkd.specs.Session.{requests_in, Runs, IsSession, WritesSession}
-use Rattle.gkd.proofs.KeptLines.{SaysSame, TakesLine-says_same}
+use Rattle.admission.specs.declared.limits.Limits.{Limits}
+use Rattle.admission.specs.State.{State, opening_of}
+use Rattle.gk_protocol.specs.Session.{requests_in, Runs, IsSession, WritesSession}
+use Rattle.gk_protocol.proofs.KeptLines.{SaysSame, TakesLine-says_same}
 
 -- a function of lines that tells too long ones not apart says the same of what is kept
 same_of_kept : {X : Type 0} (f : List ℕ → X) (x : X) → ((line : List ℕ) → is_too_long line ≡ true → f line ≡ x) → (kept raw : List ℕ) → SaysSame kept raw → f (content_of kept) ≡ f (content_of raw)

@@ -5,14 +5,14 @@ use Rattle.gk_terms.specs.Text.{lines_of, words_of, is_too_long, is_empty}
 use Rattle.command_reader.specs.declared.faults.LineFault.{LineFault}
 use Rattle.command_reader.specs.Configuration.{Configuration}
 use Rattle.command_reader.specs.Progress.{Progress, line_count}
-use Rattle.command_reader.specs.Reading.{nothing_read, line_after, lines_after, whole_of, LacksMemoryFor, LacksMemory, AreRefusedWith}
-use Rattle.gkd.specs.declared.admission.OpeningFault.{OpeningFault}
-use Rattle.gkd.specs.declared.admission.OpeningFault.TheVariants.{BadLimits as BadLimitsToOpen, NoMemory as NoMemoryToOpen}
+use Rattle.command_reader.specs.Reading.{nothing_read, line_after, lines_after, reading_in, LacksMemoryFor, LacksMemory, AreRefusedWith}
+use Rattle.admission.specs.declared.cores.OpeningFault.{OpeningFault}
+use Rattle.admission.specs.declared.cores.OpeningFault.TheVariants.{BadLimits as BadLimitsToOpen, NoMemory as NoMemoryToOpen}
 use Rattle.gkd.specs.declared.faults.RunFault.{RunFault}
 use Rattle.gkd.specs.declared.faults.RunFault.TheVariants.{BadLimits, Config, Session, NoMemory as NoMemoryForTables}
-use Rattle.gkd.specs.declared.limits.Limits.{Limits}
-use Rattle.gkd.specs.State.{State, opening_of}
-use Rattle.gkd.specs.Session.{requests_in, Runs}
+use Rattle.admission.specs.declared.limits.Limits.{Limits}
+use Rattle.admission.specs.State.{State, opening_of}
+use Rattle.gk_protocol.specs.Session.{requests_in, Runs}
 
 -- ---- where the configuration ends
 -- `end` alone
@@ -33,10 +33,6 @@ configuration_in (line ∷ lines) = line ∷ (if ends_configuration line then []
 abbrev pub behind_configuration : List (List ℕ) → List (List ℕ)
 behind_configuration [] = []
 behind_configuration (line ∷ lines) = if ends_configuration line then lines else behind_configuration lines
-
--- what the lines of a configuration say, or its first fault
-abbrev pub reading_in : List (List ℕ) → Result Configuration LineFault
-reading_in lines = whole_of (lines_after nothing_read lines)
 
 -- ---- a run
 -- for these bytes this text may be written, in so many replies: the configuration is accepted, and the text is the

@@ -1,9 +1,9 @@
 //! Whole runs over memory: configurations, and how a run's faults are printed.
 
-use crate::faults::{RunFault, SessionFault};
-use crate::tables::Tables;
+use crate::faults::RunFault;
 use crate::test_runs::run_of;
-use command_reader::{FaultKind, LineFault, read};
+use command_reader::{FaultKind, LineFault};
+use gk_protocol::SessionFault;
 use std::test::Fail;
 
 #[test]
@@ -36,18 +36,6 @@ fn faults_are_printed(rt: HostRuntime) -> Result<(), Fail> {
     ] {
         assert_eq!(rt; format!(in rt.alloc(); "{fault}")?.as_str(), text);
     }
-    Ok(())
-}
-
-#[test]
-fn tables_keep_their_configuration(rt: HostRuntime) -> Result<(), Fail> {
-    let configuration = b"zone local a b\n! a remark\nzone prefix a 9*\n";
-    let Ok(commands) = read(rt.alloc(), configuration) else {
-        panic!(rt; "refused");
-    };
-    let tables = Tables::compile(rt.alloc(), commands)?;
-    assert_eq!(rt; tables.commands().len(), 2);
-    assert_eq!(rt; tables.commands().passed(), 1);
     Ok(())
 }
 

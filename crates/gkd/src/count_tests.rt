@@ -1,7 +1,7 @@
 //! Whole runs over memory with low limits: what is counted, and which refusal a count gives.
 
-use crate::limits::{Limits, STATED};
 use crate::test_runs::{assert_replies, assert_replies_within};
+use admission::{Limits, STATED};
 use std::test::Fail;
 
 #[test]

@@ -1,12 +1,13 @@
 //! Readers and writers that fail, or that cut what they are given into pieces.
 
-use crate::ends::{EndFailed, Noted, Sink, Source, write_whole};
-use crate::faults::{RunFault, SessionFault};
-use crate::limits::STATED;
+use crate::faults::RunFault;
 use crate::run::run_over;
 use crate::test_runs::{BAD_LIMITS, CONFIGURATION, REPLIES, REQUESTS};
+use admission::STATED;
+use gk_protocol::SessionFault;
+use gk_streams::{EndFailed, Noted, Sink, Source};
 use std::io;
-use std::io::{ErrorKind, Read, Write};
+use std::io::{Read, Write};
 use std::test::Fail;
 
 /// A source that gives these bytes, one a call, and then fails.
@@ -57,32 +58,6 @@ impl Sink for FailingSink {
     }
 }
 
-/// A reader and writer of the library that fails where its result is none.
-#[derive(Drop)]
-struct Answering(Option<usize>);
-
-impl Read for Answering {
-    fn read(&mut self, buf: &mut [u8]) -> io::Result<usize> {
-        match self.0 {
-            Some(count) => Ok(count.min(buf.len())),
-            None => Err(io::Error::from(ErrorKind::Other)),
-        }
-    }
-}
-
-impl Write for Answering {
-    fn write(&mut self, buf: &[u8]) -> io::Result<usize> {
-        match self.0 {
-            Some(count) => Ok(count.min(buf.len())),
-            None => Err(io::Error::from(ErrorKind::Other)),
-        }
-    }
-
-    fn flush(&mut self) -> io::Result<()> {
-        Ok(())
-    }
-}
-
 #[test]
 fn names_the_side_that_failed(rt: HostRuntime) -> Result<(), Fail> {
     for bytes in [
@@ -107,27 +82,6 @@ fn names_the_side_that_failed(rt: HostRuntime) -> Result<(), Fail> {
     assert_eq!(rt; written, Err(RunFault::Session(SessionFault::WriteFault)));
     assert!(rt; sink.failed);
     assert!(rt; !source.has_failed());
-    Ok(())
-}
-
-#[test]
-fn notes_what_fails(rt: HostRuntime) -> Result<(), Fail> {
-    let mut piece = [0; 4];
-    for (answer, read, read_fails, written, write_fails) in [
-        (Some(3), Ok(3), false, Ok(3), false),
-        (Some(0), Ok(0), false, Err(EndFailed), true),
-        (None, Err(EndFailed), true, Err(EndFailed), true),
-    ] {
-        let mut source = Noted::new(Answering(answer));
-        assert_eq!(rt; source.read(&mut piece), read);
-        assert_eq!(rt; source.has_failed(), read_fails);
-        let mut sink = Noted::new(Answering(answer));
-        assert_eq!(rt; sink.write(b"abcd"), written);
-        assert_eq!(rt; sink.has_failed(), write_fails);
-        let mut idle = Noted::new(Answering(answer));
-        assert_eq!(rt; write_whole(&mut idle, b""), Ok(()));
-        assert_eq!(rt; write_whole(&mut idle, b"abcd").is_ok(), !write_fails);
-    }
     Ok(())
 }
 

@@ -1,9 +1,9 @@
 //! What the tests over whole runs share.
 
-use crate::ends::Noted;
 use crate::faults::RunFault;
-use crate::limits::{Limits, STATED};
 use crate::run::run_over;
+use admission::{Limits, STATED};
+use gk_streams::Noted;
 use std::alloc::{AllocError, Global};
 use std::process::Abort;
 

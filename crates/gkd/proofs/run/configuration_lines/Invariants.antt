@@ -1,5 +1,5 @@
 use Rattle.std.proofs.Common.{◌≡◌, ◌≤◌}
-use Rattle.gkd.specs.Input.{work_left, left_of, AtEndIfEnded}
+use Rattle.gk_protocol.specs.Input.{work_left, left_of, AtEndIfEnded}
 use Rattle.gkd.specs.Run.{ReadingUnderWay}
 use Rattle.gkd.proofs.run.configuration_lines.Given as goal
 

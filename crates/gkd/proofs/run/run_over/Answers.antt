@@ -1,15 +1,15 @@
 use Rattle.std.proofs.Common.{◌≡◌, ap, subst, ◌∙◌}
 use Rattle.std.specs.Prelude.{Option, List, ℕ, Ok}
-use Rattle.gkd.specs.State.{State, opening_of}
-use Rattle.gkd.specs.History.{state_of}
-use Rattle.gkd.specs.Input.{left_of}
-use Rattle.gkd.specs.Session.{WritesSession}
+use Rattle.admission.specs.State.{State, opening_of}
+use Rattle.admission.specs.History.{state_of}
+use Rattle.gk_protocol.specs.Input.{left_of}
+use Rattle.gk_protocol.specs.Session.{WritesSession}
 use Rattle.gkd.specs.Run.{ReadsConfiguration}
-use Rattle.gkd.proofs.CoreLemmas.{state_opened}
+use Rattle.admission.proofs.CoreLemmas.{state_opened}
 use Rattle.gkd.proofs.RunLemmas.{run_writes, left_at_first}
 use Rattle.std.proofs.Common.{refl}
 use Rattle.std.proofs.lemmas.Result.{err_from_is_err_and}
-use Rattle.gkd.proofs.EndsLemmas.{not_of_writer}
+use Rattle.gk_protocol.proofs.NotesLemmas.{not_of_writer}
 use Rattle.gkd.proofs.run.run_over.Goals as goal
 
 pub returns-clause-written : goal.returns-clause-written

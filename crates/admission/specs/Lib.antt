@@ -1,0 +1,11 @@
+pub mod Events
+pub mod History
+pub mod HistoryLaws
+pub mod Limits
+pub mod Machine
+pub mod Replies
+pub mod RouteLaws
+pub mod Routing
+pub mod Ruling
+pub mod State
+pub mod Step

@@ -1,0 +1,222 @@
+//! The core: one event after another, each recorded with its reply.
+
+ghost use Rattle.std.specs.Prelude.{◌≡◌, ◌↔◌, [], false, IfOk, IsErrOf};
+ghost use Rattle.admission.specs.State.{opening_of};
+ghost use Rattle.admission.specs.Limits.{are_limits};
+ghost use Rattle.compiler.specs.Plan.{plan_of};
+ghost use Rattle.admission.specs.Ruling.{ruling_of};
+ghost use Rattle.admission.specs.History.{IsLegal, state_of, Steps};
+ghost use Rattle.admission.specs.HistoryLaws.{IsSound};
+
+use crate::events::Event;
+use crate::limits::Limits;
+use crate::machine::{Machine, Ruling};
+use crate::record::{Receipt, Record};
+use crate::replies::Reply;
+use crate::verdicts::no_memory_to;
+use bandwidth::OpenCalls;
+use compiler::{Plan, Routed, Tables};
+use gk_terms::{Dialled, Name, Units, Version};
+use registry::{Endpoint, Registry};
+use std::alloc::Global;
+use std::marker::Model;
+use thiserror::Error;
+
+/// Why a core is not opened.
+#[derive(Clone, Copy, Debug, PartialEq, Eq, Error)]
+pub enum OpeningFault {
+    /// A limit is 0 or above the stated one.
+    #[error("bad limits")]
+    BadLimits,
+    /// Memory was refused.
+    #[error("no memory")]
+    NoMemory,
+}
+
+/// A gatekeeper's core: the configuration in force, the registered endpoints, the open calls, and the record from which
+/// all of it replays. A contract sees it as `CoreParts`: its opening state and the entries of its record; the state that
+/// stands is the replay of the entries.
+#[derive(Drop)]
+pub struct Core {
+    machine: Machine,
+    entries: Record,
+}
+
+impl Model for Core {
+    ghost use Rattle.admission.specs.State.{opening_of};
+    ghost use Rattle.admission.specs.History.{CoreParts, IsKept};
+
+    ghost Value = { CoreParts };
+
+    ghost view = { λ c. record { opening = opening_of c.machine.lines c.machine.limits; entries = c.entries } };
+
+    ghost invariant = { λ c. IsKept (opening_of c.machine.lines c.machine.limits) c.entries c.machine };
+}
+
+impl Core {
+    /// A core with these tables as version 1, and nothing registered, open or recorded.
+    /// `BadLimits` comes exactly where a limit is 0 or above the stated one.
+    pub fn new(alloc: Global, tables: Tables, limits: Limits) -> Result<Core, OpeningFault>
+        ensures opened { IfOk result (λ core. core ≡ record { opening = opening_of tables limits; entries = [] }) }
+        ensures limits { IsErrOf result OpeningFault.BadLimits ↔ (are_limits limits ≡ false) }
+    {
+        if !limits.are_good() {
+            return Err(OpeningFault::BadLimits);
+        }
+        Ok(Core {
+            machine: Machine::new(alloc, tables, limits),
+            entries: Record::new(alloc),
+        })
+    }
+
+    // ---- events
+
+    /// Registers an endpoint. Ok and Err are as of `answer`.
+    pub fn register(&mut self, endpoint: Endpoint) -> Result<(Reply, Receipt), Reply>
+        ensures { Steps self.old (Event.Register endpoint) result self.new }
+    {
+        let ruling = self.machine().registration(&endpoint);
+        self.settle(Event::Register(endpoint), &ruling)
+    }
+
+    /// Takes a registration away. Ok and Err are as of `answer`.
+    pub fn unregister(&mut self, id: &Name) -> Result<(Reply, Receipt), Reply>
+        ensures { Steps self.old (Event.Unregister id.now) result self.new }
+    {
+        let ruling = self.machine().unregistration(id);
+        self.settle(Event::Unregister { id: *id }, &ruling)
+    }
+
+    /// Admits a call to where its digits were routed. Where that was done under the version in force, the plan has to be
+    /// what its tables say of the digits; a plan of another version is made anew. Ok and Err are as of `answer`.
+    pub fn admit(
+        &mut self,
+        routed: &Routed,
+        id: &Name,
+        call: u32,
+        units: Units,
+    ) -> Result<(Reply, Receipt), Reply>
+        requires planned { routed.now.version ≡ (state_of self.old).version → routed.now.plan ≡ plan_of (state_of self.old).lines routed.now.dialled }
+        ensures { Steps self.old (Event.Admit id.now call routed.now.dialled units) result self.new }
+    {
+        let digits = routed.dialled;
+        let plan = self.plan_for(routed);
+        let ruling = self.machine().admission(&plan, id, call, &digits, units);
+        let event = Event::Admit {
+            id: *id,
+            call,
+            digits,
+            units,
+        };
+        self.settle(event, &ruling)
+    }
+
+    /// Answers an event. An admission is planned by the tables in force.
+    ///
+    /// `Ok` comes exactly where the event was recorded: with the reply, granted or refused, and the receipt of the new
+    /// entry. `Err` is a refusal by a count (endpoints-full, calls-full, record-full), or no-memory where the event would
+    /// have been recorded; then nothing has changed.
+    pub fn answer(&mut self, event: Event) -> Result<(Reply, Receipt), Reply>
+        ensures { Steps self.old event result self.new }
+    {
+        match event {
+            Event::Register(endpoint) => self.register(endpoint),
+            Event::Unregister { id } => self.unregister(&id),
+            Event::Admit {
+                id,
+                call,
+                digits,
+                units,
+            } => {
+                let routed = self.route_here(&digits);
+                self.admit(&routed, &id, call, units)
+            }
+        }
+    }
+
+    /// What the tables in force say of the digits.
+    pub fn route_here(&self, digits: &Dialled) -> Routed
+        ensures version { result.version ≡ (state_of self.now).version }
+        ensures dialled { result.dialled ≡ digits.now }
+        ensures plan { result.plan ≡ plan_of (state_of self.now).lines digits.now }
+    {
+        let machine = self.machine();
+        machine.tables().routed(machine.version(), digits)
+    }
+
+    /// The plan of the tables in force for the digits: the one given where it is of the version in force, else made anew.
+    fn plan_for(&self, routed: &Routed) -> Plan
+        requires { routed.now.version ≡ (state_of self.now).version → routed.now.plan ≡ plan_of (state_of self.now).lines routed.now.dialled }
+        ensures { result ≡ plan_of (state_of self.now).lines routed.now.dialled }
+    {
+        if routed.version == self.machine().version() {
+            routed.plan
+        } else {
+            self.machine().tables().plan(&routed.dialled)
+        }
+    }
+
+    /// Refuses by a count, or records the event and carries out the ruling on it.
+    fn settle(&mut self, event: Event, ruling: &Ruling) -> Result<(Reply, Receipt), Reply>
+        requires { ruling.now ≡ ruling_of (state_of self.old) event }
+        ensures { Steps self.old event result self.new }
+    {
+        if let Some(refusal) = self.machine.count_refusal(&event, &ruling.verdict) {
+            return Err(refusal);
+        }
+        let no_memory = no_memory_to(&event);
+        match self.entries.enter(&mut self.machine, event, ruling) {
+            Ok(receipt) => Ok((ruling.verdict, receipt)),
+            Err(_) => Err(no_memory),
+        }
+    }
+
+    // ---- views
+
+    /// The number of the version in force.
+    pub fn version(&self) -> Version
+        ensures { result ≡ (state_of self.now).version }
+    {
+        self.machine().version()
+    }
+
+    /// The tables in force.
+    pub fn tables(&self) -> &Tables
+        ensures { result.now ≡ (state_of self.now).lines }
+    {
+        self.machine().tables()
+    }
+
+    /// The registered endpoints, in order of registration.
+    pub fn registry(&self) -> &Registry
+        ensures { result.now ≡ (state_of self.now).endpoints }
+    {
+        self.machine().registry()
+    }
+
+    /// The open calls, in order of admission.
+    pub fn calls(&self) -> &OpenCalls
+        ensures { result.now ≡ (state_of self.now).calls }
+    {
+        self.machine().calls()
+    }
+
+    #[tactic(auto, using(crate::proofs::CoreLemmas::is_legal, crate::proofs::CoreLemmas::is_sound))]
+    /// The record. Each entry is what the rules say of its event in the state that the entries before it leave, and with
+    /// a place for the release of each open call it stays within the limit of the record.
+    pub fn record(&self) -> &Record
+        ensures entries { result.now ≡ self.now.entries }
+        ensures legal { IsLegal self.now.opening self.now.entries }
+        ensures sound { IsSound self.now.opening.lines self.now.opening.limits self.now.entries (state_of self.now) }
+    {
+        &self.entries
+    }
+
+    #[tactic(auto, unfolding(crate::specs::History::state_of))]
+    /// What stands: the replay of the record.
+    fn machine(&self) -> &Machine
+        ensures { result.now ≡ state_of self.now }
+    {
+        &self.machine
+    }
+}

@@ -1,0 +1,74 @@
+//! Events: what a core is asked.
+
+ghost use Rattle.std.specs.Prelude.{◌≡◌};
+ghost use Rattle.admission.specs.Events.{kind_of, id_of, call_number_of};
+
+use gk_terms::{Dialled, Name, Units};
+use registry::Endpoint;
+
+/// What an endpoint asks of the core.
+#[derive(Drop)]
+pub enum Event {
+    /// To be registered, in the zone that it names.
+    Register(Endpoint),
+    /// To be unregistered.
+    Unregister {
+        /// The ID of the endpoint.
+        id: Name,
+    },
+    /// To be admitted to a call.
+    Admit {
+        /// The ID of the caller.
+        id: Name,
+        /// The number of the call, 1 to 4294967295.
+        call: u32,
+        /// What the caller dialled.
+        digits: Dialled,
+        /// The bandwidth that the call asks for, in units of 100 bit/s.
+        units: Units,
+    },
+}
+
+/// What kind of event it is.
+#[derive(Clone, Copy, Debug, PartialEq, Eq)]
+pub enum EventKind {
+    /// A registration.
+    Registration,
+    /// An unregistration.
+    Unregistration,
+    /// An admission.
+    Admission,
+}
+
+impl Event {
+    /// What kind of event it is.
+    pub fn kind(&self) -> EventKind
+        ensures { result ≡ kind_of self.now }
+    {
+        match self {
+            Event::Register(_) => EventKind::Registration,
+            Event::Unregister { .. } => EventKind::Unregistration,
+            Event::Admit { .. } => EventKind::Admission,
+        }
+    }
+
+    /// The ID of the endpoint that asks.
+    pub fn id(&self) -> Option<Name>
+        ensures { result ≡ id_of self.now }
+    {
+        match self {
+            Event::Register(endpoint) => Some(endpoint.id()),
+            Event::Unregister { id } | Event::Admit { id, .. } => Some(*id),
+        }
+    }
+
+    /// The number of the call that it is about, if it is about one.
+    pub fn call(&self) -> Option<u32>
+        ensures { result ≡ call_number_of self.now }
+    {
+        match self {
+            Event::Register(_) | Event::Unregister { .. } => None,
+            Event::Admit { call, .. } => Some(*call),
+        }
+    }
+}

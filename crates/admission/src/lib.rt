@@ -1,0 +1,28 @@
+//! The core of a gatekeeper: events in, replies and receipts out, each recorded.
+#![tactic(auto)]
+
+#[cfg(test)]
+mod core_tests;
+pub mod cores;
+pub mod events;
+pub mod laws;
+#[cfg(test)]
+mod laws_tests;
+pub mod limits;
+pub mod machine;
+pub mod record;
+#[cfg(test)]
+mod record_tests;
+pub mod replies;
+#[cfg(test)]
+mod test_cores;
+mod verdicts;
+
+pub use cores::{Core, OpeningFault};
+pub use events::{Event, EventKind};
+pub use limits::{Limits, STATED};
+pub use record::{Entry, Receipt, Record};
+pub use replies::{
+    AdmitRefusal, Destination, Duplicate, RegisterRefusal, Reply, Route, RouteRefusal,
+    UnregisterRefusal,
+};

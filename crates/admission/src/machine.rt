@@ -1,0 +1,446 @@
+//! The machine: what stands while a core runs, and what it rules of an event.
+
+ghost use Rattle.std.specs.Prelude.{◌≡◌, ◌≤◌, ◌+◌, Some, None, false, IfSome, OnOk, OnErr, MatchResult};
+ghost use Rattle.bandwidth.specs.Calls.{is_open};
+ghost use Rattle.admission.specs.State.{opening_of, free_places};
+ghost use Rattle.compiler.specs.Zones.{zone_meant};
+ghost use Rattle.registry.specs.Registration.{by_alias};
+ghost use Rattle.compiler.specs.Plan.{plan_of, target_of as target_zone_of, is_remote as leads_away};
+ghost use Rattle.admission.specs.Routing.{route_of, to_alias, to_kind};
+ghost use Rattle.admission.specs.Step.{registration_refusal, verdict_of, unless_recordable, are_endpoints_full as are_full_of_endpoints, are_calls_full as are_full_of_calls, count_refusal, changed, state_after};
+ghost use Rattle.admission.specs.Ruling.{ruling_of, opened_by as call_opened_by, with_opened};
+
+use crate::events::Event;
+use crate::limits::Limits;
+use crate::record::Entry;
+use crate::replies::{
+    AdmitRefusal, Destination, Duplicate, RegisterRefusal, Reply, Route, RouteRefusal,
+    UnregisterRefusal,
+};
+use crate::verdicts::{is_granted, places_needed, record_full, refused, reply_by};
+use bandwidth::{OpenCall, OpenCalls};
+use compiler::{Plan, Tables};
+use gk_terms::{Dialled, Name, Units, Version};
+use registry::{Endpoint, EndpointKind, Registry};
+use std::alloc::{AllocError, Global};
+use std::marker::Model;
+
+/// The tables in force, the registered endpoints, the open calls, the number of recorded verdicts and the limits.
+/// A contract sees them as a `State`.
+#[derive(Drop)]
+pub struct Machine {
+    tables: Tables,
+    version: Version,
+    registry: Registry,
+    calls: OpenCalls,
+    records: u32,
+    limits: Limits,
+}
+
+impl Model for Machine {
+    ghost use Rattle.admission.specs.State.{State};
+
+    ghost Value = { State };
+
+    ghost view = { λ m. record { lines = m.tables; version = m.version; endpoints = m.registry; calls = m.calls; records = m.records; limits = m.limits } };
+}
+
+/// What the machine rules of an event, room and memory aside.
+#[derive(Clone, Copy)]
+pub struct Ruling {
+    /// The verdict.
+    pub verdict: Reply,
+    /// Of an admission: the zone of the caller, where it is registered.
+    pub zone: Option<Name>,
+    /// Of an admission: where the digits lead, where that was looked for.
+    pub route: Option<Route>,
+    /// Of a granted admission: the call that it opens.
+    pub opens: Option<OpenCall>,
+}
+
+impl Machine {
+    /// These tables as version 1, and nothing registered, open or recorded.
+    pub fn new(alloc: Global, tables: Tables, limits: Limits) -> Machine
+        ensures { result ≡ opening_of tables limits }
+    {
+        Machine {
+            tables,
+            version: Version::new(1),
+            registry: Registry::new(alloc),
+            calls: OpenCalls::new(alloc),
+            records: 0,
+            limits,
+        }
+    }
+
+    // ---- views
+
+    /// The number of the version in force.
+    pub fn version(&self) -> Version
+        ensures { result ≡ self.now.version }
+    {
+        self.version
+    }
+
+    /// The tables in force.
+    pub fn tables(&self) -> &Tables
+        ensures { result.now ≡ self.now.lines }
+    {
+        &self.tables
+    }
+
+    /// The registered endpoints.
+    pub fn registry(&self) -> &Registry
+        ensures { result.now ≡ self.now.endpoints }
+    {
+        &self.registry
+    }
+
+    /// The open calls.
+    pub fn calls(&self) -> &OpenCalls
+        ensures { result.now ≡ self.now.calls }
+    {
+        &self.calls
+    }
+
+    // ---- rulings
+
+    #[tactic(auto, unfolding(crate::specs::Step::verdict_of))]
+    /// The ruling on a registration. The refusals are tried in this order: the zone is no local zone; the ID is
+    /// registered from another address; an alias is another endpoint's.
+    pub fn registration(&self, endpoint: &Endpoint) -> Ruling
+        ensures { result ≡ ruling_of self.now (Event.Register endpoint.now) }
+    {
+        let id = endpoint.id();
+        Ruling::without_call(match self.placement(endpoint) {
+            Ok(zone) => Reply::Registered { id, zone },
+            Err(reason) => Reply::RegisterRefused { id, reason },
+        })
+    }
+
+    /// The local zone in which the endpoint may register, or the first refusal.
+    fn placement(&self, endpoint: &Endpoint) -> Result<Name, RegisterRefusal>
+        ensures { MatchResult result
+            (λ zone. (registration_refusal self.now endpoint.now ≡ None) × (zone ≡ zone_meant self.now.lines endpoint.now.zone))
+            (λ reason. registration_refusal self.now endpoint.now ≡ Some reason) }
+    {
+        let Some(zone) = self.tables.local_zone(&endpoint.zone()) else {
+            return Err(RegisterRefusal::UnknownZone);
+        };
+        if self.registry.id_is_taken(endpoint) {
+            return Err(RegisterRefusal::DuplicateAlias(Duplicate::Id));
+        }
+        if self.registry.alias_is_taken(endpoint) {
+            return Err(RegisterRefusal::DuplicateAlias(Duplicate::E164));
+        }
+        Ok(zone)
+    }
+
+    #[tactic(auto, unfolding(crate::specs::Step::verdict_of))]
+    /// The ruling on an unregistration. The refusals are tried in this order: the ID is not registered; it owns an
+    /// open call.
+    pub fn unregistration(&self, id: &Name) -> Ruling
+        ensures { result ≡ ruling_of self.now (Event.Unregister id.now) }
+    {
+        let id = *id;
+        Ruling::without_call(if !self.registry.is_registered(&id) {
+            let reason = UnregisterRefusal::NotRegistered;
+            Reply::UnregisterRefused { id, reason }
+        } else if self.calls.owns(&id) {
+            let reason = UnregisterRefusal::CallInProgress;
+            Reply::UnregisterRefused { id, reason }
+        } else {
+            Reply::Unregistered { id }
+        })
+    }
+
+    #[tactic(auto, unfolding(crate::specs::Step::verdict_of))]
+    /// The ruling on an admission, where the plan is what the lines in force say of the digits. The refusals are
+    /// tried in this order: the caller is not registered; a call of the number is open; the digits lead nowhere.
+    pub fn admission(
+        &self,
+        plan: &Plan,
+        id: &Name,
+        call: u32,
+        digits: &Dialled,
+        units: Units,
+    ) -> Ruling
+        requires planned { plan.now ≡ plan_of self.now.lines digits.now }
+        ensures { result ≡ ruling_of self.now (Event.Admit id.now call digits.now units) }
+    {
+        let Some(caller) = self.registry.endpoint(id) else {
+            return Ruling {
+                verdict: refused(call, AdmitRefusal::CallerNotRegistered),
+                zone: None,
+                route: None,
+                opens: None,
+            };
+        };
+        let zone = caller.zone();
+        if self.calls.is_open(call) {
+            return Ruling {
+                verdict: refused(call, AdmitRefusal::CallOpen),
+                zone: Some(zone),
+                route: None,
+                opens: None,
+            };
+        }
+        let route = self.route(plan, &zone, digits);
+        Ruling {
+            verdict: reply_by(&route, call, units),
+            zone: Some(zone),
+            route: Some(route),
+            opens: opened_by(caller, call, units, plan, &route),
+        }
+    }
+
+    #[tactic(auto, unfolding(crate::specs::Routing::route_of))]
+    /// Where the digits lead a caller of this zone.
+    fn route(&self, plan: &Plan, caller: &Name, digits: &Dialled) -> Route
+        requires { plan.now ≡ plan_of self.now.lines digits.now }
+        ensures { result ≡ route_of self.now.lines self.now.endpoints caller.now digits.now }
+    {
+        match plan {
+            Plan::Remote { zone, address } => Route::To(Destination::Zone {
+                name: *zone,
+                address: *address,
+            }),
+            Plan::Local { zone } => self.by_alias(zone, digits),
+            Plan::Caller => self.by_alias(caller, digits),
+        }
+    }
+
+    /// To the endpoint of the zone that has the digits as an alias.
+    fn by_alias(&self, zone: &Name, digits: &Dialled) -> Route
+        ensures { result ≡ to_alias (by_alias self.now.endpoints zone.now digits.now) }
+    {
+        match self.registry.by_alias(zone, digits) {
+            Some(endpoint) => Route::To(destination_of(endpoint)),
+            None => Route::Refused(RouteRefusal::NoDefault),
+        }
+    }
+
+    // ---- refusals by a count
+
+    #[tactic(auto, unfolding(crate::specs::Step::count_refusal))]
+    /// What replaces a verdict: endpoints-full where a new endpoint would be registered and as many are as may be;
+    /// calls-full where a call would be opened and as many are as may be; and else record-full where the record
+    /// lacks the free places, two for a granted admission and one for another verdict.
+    pub fn count_refusal(&self, event: &Event, verdict: &Reply) -> Option<Reply>
+        ensures { result ≡ count_refusal self.now event.now verdict.now }
+    {
+        match event {
+            Event::Register(endpoint) => {
+                if self.are_endpoints_full(endpoint, verdict) {
+                    let reason = RegisterRefusal::EndpointsFull;
+                    let id = endpoint.id();
+                    return Some(Reply::RegisterRefused { id, reason });
+                }
+            }
+            Event::Unregister { .. } => {}
+            Event::Admit { call, .. } => {
+                if self.are_calls_full(verdict) {
+                    return Some(refused(*call, AdmitRefusal::CallsFull));
+                }
+            }
+        }
+        self.unless_recordable(event, verdict)
+    }
+
+    /// Whether a new endpoint would be registered, and as many are as may be.
+    fn are_endpoints_full(&self, endpoint: &Endpoint, verdict: &Reply) -> bool
+        ensures { result ≡ are_full_of_endpoints self.now endpoint.now verdict.now }
+    {
+        is_granted(verdict)
+            && !self.registry.is_registered(&endpoint.id())
+            && self.limits.endpoints as usize <= self.registry.len()
+    }
+
+    /// Whether a call would be opened, and as many are as may be.
+    fn are_calls_full(&self, verdict: &Reply) -> bool
+        ensures { result ≡ are_full_of_calls self.now verdict.now }
+    {
+        is_granted(verdict) && self.limits.calls as usize <= self.calls.len()
+    }
+
+    /// record-full, where the record lacks the free places that the verdict needs.
+    fn unless_recordable(&self, event: &Event, verdict: &Reply) -> Option<Reply>
+        ensures { result ≡ unless_recordable self.now event.now verdict.now }
+    {
+        if self.free_places() < places_needed(verdict) {
+            Some(record_full(event))
+        } else {
+            None
+        }
+    }
+
+    /// The places of the record that no entry has, and that no open call keeps for the entry of its release.
+    fn free_places(&self) -> usize
+        ensures { result ≡ free_places self.now }
+    {
+        (self.limits.records as usize)
+            .saturating_sub(self.records as usize)
+            .saturating_sub(self.calls.len())
+    }
+
+    // ---- what a ruling changes
+
+    /// The number of the entry that is recorded next.
+    pub fn next_number(&self) -> u32
+        requires { 1 ≤ free_places self.now }
+        ensures { result ≡ self.now.records + 1 }
+    {
+        // Reading the limit tells the proof that it is a u32, and so that the number is one.
+        let _most = self.limits.records;
+        self.records + 1
+    }
+
+    #[tactic(auto, unfolding(crate::specs::Step::state_after))]
+    /// Carries out a ruling that no count refuses: a granted one changes the endpoints or the calls, and each is
+    /// counted. Where memory is refused, nothing changes.
+    pub fn carry_out(&mut self, event: &Event, ruling: &Ruling) -> Result<(), AllocError>
+        requires ruled { ruling.now ≡ ruling_of self.old event.now }
+        requires recordable { count_refusal self.old event.now (verdict_of self.old event.now) ≡ None }
+        ensures ok { OnOk result (self.new ≡ state_after self.old event.now (verdict_of self.old event.now)) }
+        ensures err { OnErr result (self.new ≡ self.old) }
+    {
+        let records = self.next_number();
+        self.change(event, ruling)?;
+        self.records = records;
+        Ok(())
+    }
+
+    #[tactic(auto, using(crate::proofs::MachineLemmas::opened_changes))]
+    /// Changes what a granted ruling changes.
+    fn change(&mut self, event: &Event, ruling: &Ruling) -> Result<(), AllocError>
+        requires { ruling.now ≡ ruling_of self.old event.now }
+        ensures ok { OnOk result (self.new ≡ changed self.old event.now (verdict_of self.old event.now)) }
+        ensures err { OnErr result (self.new ≡ self.old) }
+    {
+        match event {
+            Event::Register(endpoint) => self.place(endpoint, &ruling.verdict),
+            Event::Unregister { id } => {
+                self.take_out(id, &ruling.verdict);
+                Ok(())
+            }
+            Event::Admit { .. } => self.open(ruling.opens),
+        }
+    }
+
+    #[tactic(auto, unfolding(crate::specs::Step::verdict_of))]
+    /// Puts a copy of an endpoint that is granted its registration among the endpoints, in its zone.
+    fn place(&mut self, endpoint: &Endpoint, verdict: &Reply) -> Result<(), AllocError>
+        requires { verdict.now ≡ verdict_of self.old (Event.Register endpoint.now) }
+        ensures ok { OnOk result (self.new ≡ changed self.old (Event.Register endpoint.now) verdict.now) }
+        ensures err { OnErr result (self.new ≡ self.old) }
+    {
+        if let Reply::Registered { zone, .. } = verdict {
+            self.registry.put(endpoint.copy()?.in_zone(*zone))?;
+        }
+        Ok(())
+    }
+
+    #[tactic(auto, unfolding(crate::specs::Step::verdict_of))]
+    /// Takes an endpoint that is granted its unregistration from among the endpoints.
+    fn take_out(&mut self, id: &Name, verdict: &Reply)
+        requires { verdict.now ≡ verdict_of self.old (Event.Unregister id.now) }
+        ensures { self.new ≡ changed self.old (Event.Unregister id.now) verdict.now }
+    {
+        if let Reply::Unregistered { .. } = verdict {
+            self.registry.remove(id);
+        }
+    }
+
+    /// Opens the call of a granted admission, if there is one.
+    fn open(&mut self, call: Option<OpenCall>) -> Result<(), AllocError>
+        requires { IfSome call (λ opened. is_open self.old.calls opened.number ≡ false) }
+        ensures ok { OnOk result (self.new ≡ with_opened self.old call) }
+        ensures err { OnErr result (self.new ≡ self.old) }
+    {
+        if let Some(call) = call {
+            self.calls.open(call)?;
+        }
+        Ok(())
+    }
+}
+
+impl Ruling {
+    /// The entry of the event on which this was ruled.
+    pub(crate) fn entry(&self, event: Event) -> Entry
+        ensures { result ≡ record { event = event; reply = self.now.verdict; zone = self.now.zone; route = self.now.route } }
+    {
+        Entry {
+            event,
+            reply: self.verdict,
+            zone: self.zone,
+            route: self.route,
+        }
+    }
+
+    /// A verdict on an event that is no admission.
+    fn without_call(verdict: Reply) -> Ruling
+        ensures { result ≡ record { verdict = verdict; zone = None; route = None; opens = None } }
+    {
+        Ruling {
+            verdict,
+            zone: None,
+            route: None,
+            opens: None,
+        }
+    }
+}
+
+/// An endpoint as a destination, by its registered kind.
+fn destination_of(endpoint: &Endpoint) -> Destination
+    ensures { result ≡ to_kind endpoint.now.kind endpoint.now }
+{
+    let id = endpoint.id();
+    let address = endpoint.address();
+    match endpoint.kind() {
+        EndpointKind::Gateway => Destination::Gateway { id, address },
+        EndpointKind::Terminal => Destination::Terminal { id, address },
+    }
+}
+
+/// The call that an admission to this route opens.
+fn opened_by(
+    caller: &Endpoint,
+    number: u32,
+    units: Units,
+    plan: &Plan,
+    route: &Route,
+) -> Option<OpenCall>
+    ensures { result ≡ call_opened_by caller.now number units plan.now route.now }
+{
+    match route {
+        Route::Refused(_) => None,
+        Route::To(_) => Some(OpenCall {
+            number,
+            owner: caller.id(),
+            source: caller.zone(),
+            target: target_of(&caller.zone(), plan),
+            remote: is_remote(plan),
+            units,
+        }),
+    }
+}
+
+/// The zone to which the plan leads a caller of this zone.
+fn target_of(caller: &Name, plan: &Plan) -> Name
+    ensures { result ≡ target_zone_of caller.now plan.now }
+{
+    match plan {
+        Plan::Remote { zone, .. } | Plan::Local { zone } => *zone,
+        Plan::Caller => *caller,
+    }
+}
+
+/// Whether the plan leads to a zone of another gatekeeper.
+fn is_remote(plan: &Plan) -> bool
+    ensures { result ≡ leads_away plan.now }
+{
+    match plan {
+        Plan::Remote { .. } => true,
+        Plan::Local { .. } | Plan::Caller => false,
+    }
+}

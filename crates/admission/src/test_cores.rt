@@ -1,0 +1,135 @@
+//! What the tests over a core share.
+
+use crate::cores::{Core, OpeningFault};
+use crate::events::Event;
+use crate::limits::{Limits, STATED};
+use crate::record::{Entry, Receipt, Record};
+use crate::replies::{Destination, Reply};
+use command_reader::read;
+use compiler::Tables;
+use gk_terms::{Address, Dialled, Name, Units};
+use registry::{Endpoint, EndpointKind};
+use std::alloc::Global;
+use std::test::Fail;
+
+/// Two zones: `gk-a` here, and `gk-x` of another gatekeeper.
+const ZONES: &[u8] = b"zone local gk-a example.com\n\
+    zone remote gk-x example.com 10.9.0.1\n\
+    zone prefix gk-a 408*\n\
+    zone prefix gk-x 9*\n";
+
+/// Limits of which one is 0 or above the stated one.
+pub const BAD_LIMITS: [Limits; 8] = [
+    Limits {
+        endpoints: 0,
+        ..STATED
+    },
+    Limits { calls: 0, ..STATED },
+    Limits {
+        records: 0,
+        ..STATED
+    },
+    Limits {
+        reloads: 0,
+        ..STATED
+    },
+    Limits {
+        endpoints: 10_001,
+        ..STATED
+    },
+    Limits {
+        calls: 50_001,
+        ..STATED
+    },
+    Limits {
+        records: 1_000_001,
+        ..STATED
+    },
+    Limits {
+        reloads: 4_097,
+        ..STATED
+    },
+];
+
+/// What opening a core with these limits answers.
+pub fn opening(alloc: Global, limits: Limits) -> Result<Result<Core, OpeningFault>, Fail> {
+    let tables = Tables::compile(alloc, read(alloc, ZONES)?)?;
+    Ok(Core::new(alloc, tables, limits))
+}
+
+/// A core with these limits.
+pub fn core_within(alloc: Global, limits: Limits) -> Result<Core, Fail> {
+    Ok(opening(alloc, limits)??)
+}
+
+/// A terminal of `gk-a` at 10.0.1.HOST, with these aliases.
+pub fn terminal(alloc: Global, id: &[u8], host: u8, aliases: &[&[u8]]) -> Result<Endpoint, Fail> {
+    let mut endpoint = Endpoint::new(
+        alloc,
+        EndpointKind::Terminal,
+        Name::read(id)?,
+        Name::read(b"gk-a")?,
+        Address::new([10, 0, 1, host], 1720),
+    );
+    for alias in aliases {
+        endpoint.add_alias(Dialled::read(alias)?)?;
+    }
+    Ok(endpoint)
+}
+
+/// The admission of a call of 640 units.
+pub fn admission(id: &[u8], call: u32, digits: &[u8]) -> Result<Event, Fail> {
+    Ok(Event::Admit {
+        id: Name::read(id)?,
+        call,
+        digits: Dialled::read(digits)?,
+        units: Units::new(640),
+    })
+}
+
+/// The receipt of an event that is recorded.
+pub fn receipt_of(core: &mut Core, event: Event) -> Result<Receipt, Fail> {
+    let (reply, receipt) = core.answer(event)?;
+    if reply != receipt.reply {
+        return Err(Fail::new("the receipt has another reply"));
+    }
+    Ok(receipt)
+}
+
+/// The reply to an event that is not recorded.
+pub fn reply_of_unrecorded(core: &mut Core, event: Event) -> Result<Reply, Fail> {
+    match core.answer(event) {
+        Ok(_) => Err(Fail::new("the event is recorded")),
+        Err(reply) => Ok(reply),
+    }
+}
+
+/// A registration, an admission, the same admission again, and an unregistration of each of two IDs.
+pub fn five_events(alloc: Global, core: &mut Core) -> Result<[Receipt; 5], Fail> {
+    let ta = Name::read(b"ta")?;
+    let tb = Name::read(b"tb")?;
+    let endpoint = terminal(alloc, b"ta", 1, &[b"4085551000"])?;
+    Ok([
+        receipt_of(core, Event::Register(endpoint))?,
+        receipt_of(core, admission(b"ta", 1001, b"9123")?)?,
+        receipt_of(core, admission(b"ta", 1001, b"9123")?)?,
+        receipt_of(core, Event::Unregister { id: ta })?,
+        receipt_of(core, Event::Unregister { id: tb })?,
+    ])
+}
+
+/// The remote zone as a destination.
+pub fn away() -> Result<Destination, Fail> {
+    Ok(Destination::Zone {
+        name: Name::read(b"gk-x")?,
+        address: Address::new([10, 9, 0, 1], 1719),
+    })
+}
+
+/// The entry of this number.
+pub fn entry(record: &Record, number: u32) -> Result<&Entry, Fail> {
+    match record.get(number) {
+        Some(entry) => Ok(entry),
+        None => Err(Fail::new("no such entry")),
+    }
+}

@@ -1,0 +1,89 @@
+//! Replies to events, by what they grant and what they need.
+
+ghost use Rattle.std.specs.Prelude.{◌≡◌};
+ghost use Rattle.admission.specs.Step.{is_granted as grants, places_needed as places_for, record_full as record_full_for, admission_by, no_memory_to as reply_without_memory};
+
+use crate::events::Event;
+use crate::replies::{AdmitRefusal, RegisterRefusal, Reply, Route, UnregisterRefusal};
+use gk_terms::Units;
+
+/// A refused admission.
+pub(crate) fn refused(call: u32, reason: AdmitRefusal) -> Reply
+    ensures { result ≡ Reply.AdmitRefused call reason }
+{
+    Reply::AdmitRefused { call, reason }
+}
+
+/// The reply to a caller whose digits have this route.
+pub(crate) fn reply_by(route: &Route, call: u32, units: Units) -> Reply
+    ensures { result ≡ admission_by call units route.now }
+{
+    match route {
+        Route::Refused(reason) => refused(call, AdmitRefusal::NoRoute(*reason)),
+        Route::To(destination) => Reply::Admitted {
+            call,
+            destination: *destination,
+            units,
+        },
+    }
+}
+
+/// Whether a reply grants what was asked.
+pub(crate) fn is_granted(reply: &Reply) -> bool
+    ensures { result ≡ grants reply.now }
+{
+    match reply {
+        Reply::Registered { .. } | Reply::Unregistered { .. } | Reply::Admitted { .. } => true,
+        Reply::RegisterRefused { .. }
+        | Reply::UnregisterRefused { .. }
+        | Reply::AdmitRefused { .. } => false,
+    }
+}
+
+/// The free places of the record that a verdict needs.
+pub(crate) fn places_needed(verdict: &Reply) -> usize
+    ensures { result ≡ places_for verdict.now }
+{
+    match verdict {
+        Reply::Admitted { .. } => 2,
+        Reply::Registered { .. }
+        | Reply::RegisterRefused { .. }
+        | Reply::Unregistered { .. }
+        | Reply::UnregisterRefused { .. }
+        | Reply::AdmitRefused { .. } => 1,
+    }
+}
+
+/// The reply where the record is full.
+pub(crate) fn record_full(event: &Event) -> Reply
+    ensures { result ≡ record_full_for event.now }
+{
+    match event {
+        Event::Register(endpoint) => Reply::RegisterRefused {
+            id: endpoint.id(),
+            reason: RegisterRefusal::RecordFull,
+        },
+        Event::Unregister { id } => Reply::UnregisterRefused {
+            id: *id,
+            reason: UnregisterRefusal::RecordFull,
+        },
+        Event::Admit { call, .. } => refused(*call, AdmitRefusal::RecordFull),
+    }
+}
+
+/// The reply where memory is refused.
+pub(crate) fn no_memory_to(event: &Event) -> Reply
+    ensures { result ≡ reply_without_memory event.now }
+{
+    match event {
+        Event::Register(endpoint) => Reply::RegisterRefused {
+            id: endpoint.id(),
+            reason: RegisterRefusal::NoMemory,
+        },
+        Event::Unregister { id } => Reply::UnregisterRefused {
+            id: *id,
+            reason: UnregisterRefusal::NoMemory,
+        },
+        Event::Admit { call, .. } => refused(*call, AdmitRefusal::NoMemory),
+    }
+}

@@ -1,0 +1,9 @@
+pub mod Answering
+pub mod Answers
+pub mod Events
+pub mod Faults
+pub mod Fields
+pub mod Input
+pub mod Requests
+pub mod Session
+pub mod SessionNotes

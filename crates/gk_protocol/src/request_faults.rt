@@ -1,0 +1,96 @@
+//! Why a line is no request.
+
+ghost use Rattle.std.specs.Prelude.{◌≡◌};
+
+use gk_terms::Name;
+use thiserror::Error;
+
+/// What is wrong with a line that is no request: its first fault from the left. It is answered by `ERR` and
+/// the fault's word, and changes nothing. The words are this project's profile.
+#[derive(Clone, Copy, Debug, PartialEq, Eq, Error)]
+pub enum RequestFault {
+    /// The line is longer than 512 bytes, its ending aside.
+    #[error("a line of more than 512 bytes")]
+    LineTooLong,
+    /// The first word is no request's.
+    #[error("an unknown request")]
+    UnknownWord,
+    /// The sequence number is no number from 1 to 65535.
+    #[error("no sequence number")]
+    BadSequence,
+    /// A field is absent.
+    #[error("an absent field")]
+    Missing,
+    /// A word stands behind the last field.
+    #[error("a word behind the last field")]
+    Extra,
+    /// The kind of an endpoint is neither `GW` nor `TERM`; or a word is no option; or an option stands once too often.
+    #[error("an unknown option, or one too many")]
+    BadOption,
+    /// A field is no name.
+    #[error("not a name")]
+    BadName,
+    /// A field is neither `IP` nor `IP:PORT`.
+    #[error("not an address")]
+    BadAddress,
+    /// A field or an alias is no dialled digits.
+    #[error("not dialled digits")]
+    BadDigits,
+    /// A field is no number in its range.
+    #[error("not a number in range")]
+    BadNumber,
+    /// The input ends before the lines that belong to a request.
+    #[error("cut short by the end of input")]
+    CutShort,
+}
+
+impl RequestFault {
+    ghost use Rattle.gk_protocol.specs.Faults.{fault_word};
+
+    /// The word of the fault in a reply.
+    pub fn word(self) -> &'static str
+        ensures { result.now ≡ fault_word self }
+    {
+        match self {
+            RequestFault::LineTooLong => "line",
+            RequestFault::UnknownWord => "word",
+            RequestFault::BadSequence => "seq",
+            RequestFault::Missing => "missing",
+            RequestFault::Extra => "extra",
+            RequestFault::BadOption => "option",
+            RequestFault::BadName => "name",
+            RequestFault::BadAddress => "address",
+            RequestFault::BadDigits => "digits",
+            RequestFault::BadNumber => "number",
+            RequestFault::CutShort => "cut",
+        }
+    }
+}
+
+/// Why a line could not be read as a request.
+#[derive(Clone, Copy, Debug, PartialEq, Eq, Error)]
+pub enum Unread {
+    /// Its first fault.
+    #[error("{0}")]
+    Fault(RequestFault),
+    /// Memory was refused for the aliases of a registration. All its fields up to and including the first
+    /// option could be read; what stands behind that may be wrong.
+    #[error("no memory for the aliases of {id}")]
+    NoMemory {
+        /// The sequence number of the registration, 1 to 65535.
+        sequence: u32,
+        /// The ID that asked to be registered.
+        id: Name,
+    },
+}
+
+impl From<RequestFault> for Unread {
+    ghost use Rattle.std.specs.Prelude.{◌≡◌};
+    ghost use Rattle.gk_protocol.specs.declared.request_faults.Unread.TheVariants.{Fault};
+
+    ghost from_gives = { λ fault unread. unread ≡ Fault fault };
+
+    fn from(fault: RequestFault) -> Unread {
+        Unread::Fault(fault)
+    }
+}

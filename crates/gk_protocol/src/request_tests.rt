@@ -1,0 +1,152 @@
+//! Which lines are requests, by examples from outside.
+
+use crate::request_faults::{RequestFault, Unread};
+use crate::request_lines::request_in;
+use crate::requests::Request;
+use gk_terms::{Address, Name};
+use registry::EndpointKind;
+use std::alloc::{AllocError, Global};
+use std::test::Fail;
+
+/// The word of the fault of a line.
+fn fault_word(alloc: Global, line: &[u8]) -> Option<&'static str> {
+    match request_in(alloc, line) {
+        Err(Unread::Fault(fault)) => Some(fault.word()),
+        _ => None,
+    }
+}
+
+/// A registration with so many options `e164=7`, and a last word.
+fn registration(alloc: Global, aliases: u32, last: &str) -> Result<String, AllocError> {
+    let mut line = String::new(alloc);
+    line.push_str("RRQ 1 TERM a - 1.1.1.1")?;
+    for _ in 0..aliases {
+        line.push_str(" e164=7")?;
+    }
+    line.push_str(last)?;
+    Ok(line)
+}
+
+#[test]
+fn faults(rt: HostRuntime) -> Result<(), Fail> {
+    let long = [b' '; 513];
+    for (line, word) in [
+        (long.as_slice(), "line"),
+        (b"XYZ 1", "word"),
+        (b"rrq 1", "word"),
+        (b"UCF 1 ta", "word"),
+        (b"urq 1 ta", "word"),
+        (b"URQ 0 ta", "seq"),
+        (b"URQ 65536 ta", "seq"),
+        (b"URQ ta 1", "seq"),
+        (b"URQ x t\x7F y", "seq"),
+        (b"URQ", "missing"),
+        (b"URQ 1", "missing"),
+        (b"URQ 1 t\x7F", "name"),
+        (b"URQ 1 t\x7F y", "name"),
+        (b"URQ 1 ta x", "extra"),
+        (b"URQ 1 ta ta", "extra"),
+        (b"ARQ 0 ta 1 9 0", "seq"),
+        (b"ARQ 65536 ta 1 9 0", "seq"),
+        (b"ARQ", "missing"),
+        (b"ARQ 5 ta 1001 9123", "missing"),
+        (b"ARQ 5 ta 1001 9123 640 x", "extra"),
+        (b"ARQ 5 ta 0 9123 640", "number"),
+        (b"ARQ 5 ta 1 9123 4294967296", "number"),
+        (b"ARQ 5 t\x7F 1 9123 640", "name"),
+        (b"ARQ 5 ta 1 9,1 0", "digits"),
+        (b"ARQ 5 ta 1 900000000000000000000000000000000 0", "digits"),
+        (b"RRQ 5 PBX tb gk-a 10.0.0.3", "option"),
+        (b"RRQ 5 TERM tb gk-a 10.0.0.300", "address"),
+        (b"RRQ 5 TERM tb gk-a 10.0.0.3:0", "address"),
+        (b"RRQ 1 TERM a - 1.1.1.1 tech=1", "option"),
+        (b"RRQ 1 TERM a - 1.1.1.1 e164=", "digits"),
+        (b"RRQ 1 TERM a - 1.1.1.1 E164=7", "option"),
+    ] {
+        assert_eq!(rt; fault_word(rt.alloc(), line), Some(word), "{line:?}");
+    }
+    for last in [" e164=8", " e164=x"] {
+        let line = registration(rt.alloc(), 16, last)?;
+        assert_eq!(rt; fault_word(rt.alloc(), line.as_bytes()), Some("option"));
+    }
+    Ok(())
+}
+
+#[test]
+fn blank_lines(rt: HostRuntime) -> Result<(), Fail> {
+    let longest = [b' '; 512];
+    for line in [b"".as_slice(), b" \t ", longest.as_slice()] {
+        assert!(rt; matches!(request_in(rt.alloc(), line), Ok(None)));
+    }
+    Ok(())
+}
+
+/// The request of a line, which is to be one.
+fn request(alloc: Global, line: &[u8]) -> Result<Request, Fail> {
+    match request_in(alloc, line)? {
+        Some(request) => Ok(request),
+        None => Err(Fail::new("no request")),
+    }
+}
+
+#[test]
+fn registrations(rt: HostRuntime) -> Result<(), Fail> {
+    let line = b"RRQ 65535 GW ga\tgk-a  10.0.1.2 e164=5551000 e164=*# e164=5551000";
+    let Request::Register { sequence, endpoint } = request(rt.alloc(), line)? else {
+        return Err(Fail::new("no registration"));
+    };
+    assert_eq!(rt; sequence, 65_535);
+    assert_eq!(rt; endpoint.kind(), EndpointKind::Gateway);
+    assert_eq!(rt; endpoint.id(), Name::read(b"ga")?);
+    assert_eq!(rt; endpoint.zone(), Name::read(b"gk-a")?);
+    assert_eq!(rt; endpoint.address(), Address::new([10, 0, 1, 2], 1720));
+    let [first, second] = endpoint.aliases() else {
+        return Err(Fail::new("not two aliases"));
+    };
+    assert_eq!(rt; first.as_str(), "5551000");
+    assert_eq!(rt; second.as_str(), "*#");
+    Ok(())
+}
+
+#[test]
+fn sixteen_options(rt: HostRuntime) -> Result<(), Fail> {
+    let line = registration(rt.alloc(), 16, "")?;
+    let Request::Register { endpoint, .. } = request(rt.alloc(), line.as_bytes())? else {
+        return Err(Fail::new("no registration"));
+    };
+    assert_eq!(rt; endpoint.aliases().len(), 1);
+    Ok(())
+}
+
+#[test]
+fn unregistrations(rt: HostRuntime) -> Result<(), Fail> {
+    for (line, number) in [(b"URQ 65535 ta".as_slice(), 65_535), (b"\tURQ  1\tta ", 1)] {
+        let Request::Unregister { sequence, id } = request(rt.alloc(), line)? else {
+            return Err(Fail::new("no unregistration"));
+        };
+        assert_eq!(rt; sequence, number);
+        assert_eq!(rt; id.as_str(), "ta");
+    }
+    Ok(())
+}
+
+#[test]
+fn admissions(rt: HostRuntime) -> Result<(), Fail> {
+    let line = b"ARQ 1 ta 4294967295 90000000000000000000000000000000 0";
+    let Request::Admit {
+        sequence,
+        id,
+        call,
+        digits,
+        units,
+    } = request(rt.alloc(), line)?
+    else {
+        return Err(Fail::new("no admission"));
+    };
+    assert_eq!(rt; sequence, 1);
+    assert_eq!(rt; id.as_str(), "ta");
+    assert_eq!(rt; call, u32::MAX);
+    assert_eq!(rt; digits.as_str(), "90000000000000000000000000000000");
+    assert_eq!(rt; units.value(), 0);
+    Ok(())
+}

@@ -1,6 +1,0 @@
--- A record never passes the limits.
-use Rattle.gkd.proofs.HistoryLaws.{records_are_sound}
-use Rattle.gkd.proofs.laws.records_are_sound.Goals as goal
-
-pub returns : goal.returns
-returns c = records_are_sound

@@ -1,6 +1,0 @@
--- An admission is refused as callerNotRegistered exactly where its caller is not registered.
-use Rattle.gkd.proofs.RouteLaws.{strangers_are_refused}
-use Rattle.gkd.proofs.laws.strangers_are_refused.Goals as goal
-
-pub returns : goal.returns
-returns c = strangers_are_refused
