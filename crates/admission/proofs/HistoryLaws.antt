@@ -1,4 +1,5 @@
 -- What every record says: each of its entries was ruled where the entries before it lead, and no limit is ever passed.
+use Rattle.compiler.specs.InEffect.{lines_in_effect}
 use Rattle.std.proofs.Common.{◌≡◌, ◌≤◌, ◌<◌, ℕ, ◌+◌, ◌-◌, Bool, true, false, not, cond, ◌&&◌, ◌||◌, List, [], ◌∷◌, ◌++◌, length, take, drop, nat_le, nat_lt, Option, Some, None, refl, sym, ap, subst, ◌∙◌, true≢false, arith, length-append, length-drop}
 use Rattle.std.specs.List.{list_any, position_or_len}
 use Rattle.std.proofs.lemmas.Bool.{ltb-false, leb-false}
@@ -50,13 +51,13 @@ verdict_there s entries before e legal stands event reply asked replied =
 
 pub recorded_admissions_are_routed : RecordedAdmissionsAreRouted
 recorded_admissions_are_routed lines configuration limits entries before e accepted legal stands call units id digits replied_call granted destination asked replied =
-    let opening = opening_of configuration.lines limits in
+    let opening = opening_of (lines_in_effect configuration.lines) limits in
     admissions_are_routed lines configuration (replay opening before) accepted (replay_lines opening before) call units id digits replied_call granted destination
     (verdict_there opening entries before e legal stands (Admit id call digits units) (Admitted replied_call destination granted) asked replied)
 
 pub recorded_refusals_found_none : RecordedRefusalsFoundNone
 recorded_refusals_found_none lines configuration limits entries before e accepted legal stands call units id digits replied_call asked replied =
-    let opening = opening_of configuration.lines limits in
+    let opening = opening_of (lines_in_effect configuration.lines) limits in
     refusals_found_none lines configuration (replay opening before) accepted (replay_lines opening before) call units id digits replied_call
     (verdict_there opening entries before e legal stands (Admit id call digits units) (AdmitRefused replied_call (NoRoute NoDefault)) asked replied)
 

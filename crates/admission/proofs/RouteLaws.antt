@@ -1,4 +1,6 @@
 -- How calls are routed: each reply to an admission comes of the longest matching pattern, or of the caller's own zone.
+use Rattle.compiler.proofs.EffectLemmas.{same_rows, same_zones}
+use Rattle.compiler.specs.InEffect.{lines_in_effect}
 use Rattle.std.proofs.Common.{◌≡◌, ◌≢◌, ◌⊎◌, inl, inr, ℕ, ◌+◌, Bool, true, false, not, cond, ◌&&◌, ◌||◌, List, [], ◌∷◌, map, filter, find, Option, Some, None, Result, Ok, Err, option_map, is_some, bytes_eq, refl, sym, ap, subst, ◌∙◌, true≢false}
 use Rattle.std.specs.List.{All, list_any}
 use Rattle.std.specs.Cmp.Lexicographic.{same_text}
@@ -14,7 +16,7 @@ use Rattle.digit_patterns.specs.Table.{best_of, row_matches}
 use Rattle.digit_patterns.proofs.RankLaws.{best_of-none, best_of-IsBest}
 use Rattle.command_reader.specs.declared.faults.LineFault.{LineFault}
 use Rattle.command_reader.specs.declared.commands.Command.{Command}
-use Rattle.command_reader.specs.declared.commands.Command.TheVariants.{ZoneLocal, ZoneRemote, ZonePrefix}
+use Rattle.command_reader.specs.declared.commands.Command.TheVariants.{ZoneLocal, ZoneRemote, ZonePrefix, GwTypePrefix, RejectUnknownPrefix, BandwidthDefault, BandwidthZone, BandwidthRemote}
 use Rattle.command_reader.specs.declared.commands.NumberedCommand.{NumberedCommand}
 use Rattle.command_reader.specs.Zones.{Zone, zone_of, zones_of, is_declared, first_local_of}
 use Rattle.command_reader.specs.Zones.{Local as LocalZone, Remote as RemoteZone}
@@ -166,15 +168,27 @@ none_matches lines digits h =
 abbrev RowsDeclared : List Command → List Command → Type 0
 RowsDeclared all lines = All (λ (row : Row). is_declared all row.1 ≡ true) (rows_of lines)
 
+-- none is found where the first is none, so none behind it
+behind_known : (command : Command) (t : Bool) (rest : Option Command) → cond t (Some command) rest ≡ None → rest ≡ None
+behind_known command true rest h = absurd (none-some command (sym h))
+behind_known command false rest h = h
+
 declared_in : (all lines : List Command) → find (names_unknown all) lines ≡ None → RowsDeclared all lines
 declared_in all [] h = All-nil (λ (row : Row). is_declared all row.1 ≡ true)
 declared_in all (ZoneLocal name domain address ∷ lines) h = declared_in all lines h
-declared_in all (ZoneRemote name domain address ∷ lines) h = declared_in all lines h
-declared_in all (ZonePrefix zone pattern ∷ lines) h = by (is_declared all zone) refl (declared_in all lines) h
+declared_in all (ZoneRemote name domain address cost priority ∷ lines) h = declared_in all lines h
+declared_in all (ZonePrefix zone pattern gateways ∷ lines) h = by (is_declared all zone) refl (declared_in all lines) h
   where
-    by : (t : Bool) → is_declared all zone ≡ t → (find (names_unknown all) lines ≡ None → RowsDeclared all lines) → cond (not t) (Some (ZonePrefix zone pattern)) (find (names_unknown all) lines) ≡ None → RowsDeclared all (ZonePrefix zone pattern ∷ lines)
+    by : (t : Bool) → is_declared all zone ≡ t → (find (names_unknown all) lines ≡ None → RowsDeclared all lines) → cond (not t || false) (Some (ZonePrefix zone pattern gateways)) (find (names_unknown all) lines) ≡ None → RowsDeclared all (ZonePrefix zone pattern gateways ∷ lines)
     by true e rest h = All-cons (λ (row : Row). is_declared all row.1 ≡ true) (pattern, zone) (rows_of lines) e (rest h)
-    by false e rest h = absurd (none-some (ZonePrefix zone pattern) (sym h))
+    by false e rest h = absurd (none-some (ZonePrefix zone pattern gateways) (sym h))
+declared_in all (GwTypePrefix prefix hopoffs is_default ∷ lines) h =
+    declared_in all lines (behind_known (GwTypePrefix prefix hopoffs is_default) (names_unknown all (GwTypePrefix prefix hopoffs is_default)) (find (names_unknown all) lines) h)
+declared_in all (RejectUnknownPrefix ∷ lines) h = declared_in all lines h
+declared_in all (BandwidthDefault kind size ∷ lines) h = declared_in all lines h
+declared_in all (BandwidthZone kind zone size ∷ lines) h =
+    declared_in all lines (behind_known (BandwidthZone kind zone size) (names_unknown all (BandwidthZone kind zone size)) (find (names_unknown all) lines) h)
+declared_in all (BandwidthRemote size ∷ lines) h = declared_in all lines h
 
 unnumbered : (p : Command → Bool) (kept : List NumberedCommand) → find (λ n. p n.command) kept ≡ None → find p (map (λ n. n.command) kept) ≡ None
 unnumbered p [] h = refl
@@ -250,8 +264,14 @@ by_route s call units digits caller verdict other h = by (is_open s.calls call) 
     by true h = absurd (other (sym h))
     by false h = h
 
-accepted_state : (lines : List (List ℕ)) (configuration : Configuration) (s : State) → reading_in lines ≡ Ok configuration → s.lines ≡ configuration.lines → RowsDeclared s.lines s.lines
-accepted_state lines configuration s accepted same = subst (λ (l : List Command). RowsDeclared l l) (sym same) (accepted_declares lines configuration accepted)
+-- and so it is for the lines in effect
+declared_in_effect : (lines : List Command) → RowsDeclared lines lines → RowsDeclared (lines_in_effect lines) (lines_in_effect lines)
+declared_in_effect lines h =
+    subst (λ (zones : List (List ℕ × Zone)). All (λ (row : Row). list_any (λ (zone : List ℕ × Zone). bytes_eq row.1 zone.0) zones ≡ true) (rows_of (lines_in_effect lines))) (sym (same_zones lines))
+    (subst (λ (rows : List Row). All (λ (row : Row). is_declared lines row.1 ≡ true) rows) (sym (same_rows lines)) h)
+
+accepted_state : (lines : List (List ℕ)) (configuration : Configuration) (s : State) → reading_in lines ≡ Ok configuration → s.lines ≡ lines_in_effect configuration.lines → RowsDeclared s.lines s.lines
+accepted_state lines configuration s accepted same = subst (λ (l : List Command). RowsDeclared l l) (sym same) (declared_in_effect configuration.lines (accepted_declares lines configuration accepted))
 
 module _ (s : State) (declared : RowsDeclared s.lines s.lines) (call units : ℕ) (id digits : List ℕ) (replied_call : ℕ) where
   granted_by : (granted : ℕ) (destination : Destination) (caller : EndpointParts) → endpoint_of s.endpoints id ≡ Some caller → (route : Route) → route_of s.lines s.endpoints caller.zone digits ≡ route

@@ -1,5 +1,6 @@
 -- What every record says, whatever was asked: its admissions went where the configuration leads, and it never passes the
 -- limits.
+use Rattle.compiler.specs.InEffect.{lines_in_effect}
 use Rattle.std.specs.Prelude.{◌≡◌, ◌≤◌, ℕ, ◌+◌, List, ◌∷◌, ◌++◌, length, Ok}
 use Rattle.command_reader.specs.declared.commands.Command.{Command}
 use Rattle.command_reader.specs.Configuration.{Configuration}
@@ -26,19 +27,19 @@ StandsBehind entries before e = (after : List Entry) × (entries ≡ before ++ e
 abbrev pub RecordedAdmissionsAreRouted : Type 0
 RecordedAdmissionsAreRouted =
     (lines : List (List ℕ)) (configuration : Configuration) (limits : Limits) (entries before : List Entry) (e : Entry)
-    → reading_in lines ≡ Ok configuration → IsLegal (opening_of configuration.lines limits) entries → StandsBehind entries before e
+    → reading_in lines ≡ Ok configuration → IsLegal (opening_of (lines_in_effect configuration.lines) limits) entries → StandsBehind entries before e
     → (call units : ℕ) (id digits : List ℕ) (replied_call granted : ℕ) (destination : Destination)
     → e.event ≡ Admit id call digits units → e.reply ≡ Admitted replied_call destination granted
-    → (replied_call ≡ call) × (granted ≡ units) × IsRouted (replay (opening_of configuration.lines limits) before) id digits destination
+    → (replied_call ≡ call) × (granted ≡ units) × IsRouted (replay (opening_of (lines_in_effect configuration.lines) limits) before) id digits destination
 
 -- and each that was refused as no-default found no endpoint there
 abbrev pub RecordedRefusalsFoundNone : Type 0
 RecordedRefusalsFoundNone =
     (lines : List (List ℕ)) (configuration : Configuration) (limits : Limits) (entries before : List Entry) (e : Entry)
-    → reading_in lines ≡ Ok configuration → IsLegal (opening_of configuration.lines limits) entries → StandsBehind entries before e
+    → reading_in lines ≡ Ok configuration → IsLegal (opening_of (lines_in_effect configuration.lines) limits) entries → StandsBehind entries before e
     → (call units : ℕ) (id digits : List ℕ) (replied_call : ℕ)
     → e.event ≡ Admit id call digits units → e.reply ≡ AdmitRefused replied_call (NoRoute NoDefault)
-    → (replied_call ≡ call) × FoundNone (replay (opening_of configuration.lines limits) before) id digits
+    → (replied_call ≡ call) × FoundNone (replay (opening_of (lines_in_effect configuration.lines) limits) before) id digits
 
 -- ---- limits
 -- endpoints and calls are within their limits, and the record has room for its entries and for one release of each open call

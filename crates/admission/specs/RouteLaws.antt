@@ -1,5 +1,6 @@
 -- How calls are routed, as an operator says it: the longest matching pattern decides where a call goes, and where no
 -- pattern matches the call stays in the caller's own zone.
+use Rattle.compiler.specs.InEffect.{lines_in_effect}
 use Rattle.std.specs.Prelude.{◌≡◌, ◌⊎◌, ◌↔◌, ℕ, List, ◌∷◌, ◌++◌, Some, None, Ok}
 use Rattle.std.specs.List.{All, Contains}
 use Rattle.gk_terms.specs.Address.{AddressParts}
@@ -105,7 +106,7 @@ pub record FoundNone (s : State) (id digits : List ℕ) : Type 0 where
 abbrev pub AdmissionsAreRouted : Type 0
 AdmissionsAreRouted =
     (lines : List (List ℕ)) (configuration : Configuration) (s : State)
-    → reading_in lines ≡ Ok configuration → s.lines ≡ configuration.lines
+    → reading_in lines ≡ Ok configuration → s.lines ≡ lines_in_effect configuration.lines
     → (call units : ℕ) (id digits : List ℕ) (replied_call granted : ℕ) (destination : Destination)
     → verdict_of s (Admit id call digits units) ≡ Admitted replied_call destination granted
     → (replied_call ≡ call) × (granted ≡ units) × IsRouted s id digits destination
@@ -120,7 +121,7 @@ StrangersAreRefused =
 abbrev pub RefusalsFoundNone : Type 0
 RefusalsFoundNone =
     (lines : List (List ℕ)) (configuration : Configuration) (s : State)
-    → reading_in lines ≡ Ok configuration → s.lines ≡ configuration.lines
+    → reading_in lines ≡ Ok configuration → s.lines ≡ lines_in_effect configuration.lines
     → (call units : ℕ) (id digits : List ℕ) (replied_call : ℕ)
     → verdict_of s (Admit id call digits units) ≡ AdmitRefused replied_call (NoRoute NoDefault)
     → (replied_call ≡ call) × FoundNone s id digits

@@ -9,7 +9,7 @@ pub mod laws;
 #[cfg(test)]
 mod laws_tests;
 pub mod limits;
-pub mod machine;
+mod machine;
 pub mod record;
 #[cfg(test)]
 mod record_tests;

@@ -8,7 +8,7 @@ use Rattle.std.proofs.lemmas.List.Elements.{filter_map-append}
 use Rattle.std.proofs.lemmas.List.Folds.{list_any-append}
 use Rattle.std.proofs.lemmas.List.Sorted.{list_any-IsPermutation, length_permutation}
 use Rattle.command_reader.specs.declared.commands.Command.{Command}
-use Rattle.command_reader.specs.declared.commands.Command.TheVariants.{ZoneLocal, ZoneRemote, ZonePrefix}
+use Rattle.command_reader.specs.declared.commands.Command.TheVariants.{ZoneLocal, ZoneRemote, ZonePrefix, GwTypePrefix, RejectUnknownPrefix, BandwidthDefault, BandwidthZone, BandwidthRemote}
 use Rattle.command_reader.specs.Zones.{Zone, zones_of, declared_by, is_declared}
 use Rattle.command_reader.specs.declared.faults.FaultKind.{FaultKind}
 use Rattle.command_reader.specs.declared.faults.FaultKind.TheVariants.{NoMemory}
@@ -23,8 +23,13 @@ fault_of_zone names lines name h =
 -- the fault by the names is that by the commands
 pub same_fault : (names : List (List ℕ)) (lines : List Command) (command : Command) → AreDeclared names lines → fault_by_names names command ≡ command_fault lines command
 same_fault names lines (ZoneLocal name domain address) h = fault_of_zone names lines name h
-same_fault names lines (ZoneRemote name domain address) h = fault_of_zone names lines name h
-same_fault names lines (ZonePrefix zone pattern) h = refl
+same_fault names lines (ZoneRemote name domain address cost priority) h = fault_of_zone names lines name h
+same_fault names lines (ZonePrefix zone pattern gateways) h = refl
+same_fault names lines (GwTypePrefix prefix hopoffs is_default) h = refl
+same_fault names lines RejectUnknownPrefix h = refl
+same_fault names lines (BandwidthDefault kind size) h = refl
+same_fault names lines (BandwidthZone kind zone size) h = refl
+same_fault names lines (BandwidthRemote size) h = refl
 
 or_swap : (a b : Bool) → (a || b) ≡ (b || (a || false))
 or_swap true true = refl
@@ -57,8 +62,13 @@ no_zone names new lines command added h e =
 -- the names after a command are those of the commands with it
 pub one_more_declared : (names new : List (List ℕ)) (lines : List Command) (command : Command) → AreDeclared names lines → AddsDeclared names new command → AreDeclared new (lines ++ command ∷ [])
 one_more_declared names new lines (ZoneLocal name domain address) h p = one_zone names new lines (ZoneLocal name domain address) _ refl h p
-one_more_declared names new lines (ZoneRemote name domain address) h p = one_zone names new lines (ZoneRemote name domain address) _ refl h p
-one_more_declared names new lines (ZonePrefix zone pattern) h p = no_zone names new lines (ZonePrefix zone pattern) refl h p
+one_more_declared names new lines (ZoneRemote name domain address cost priority) h p = one_zone names new lines (ZoneRemote name domain address cost priority) _ refl h p
+one_more_declared names new lines (ZonePrefix zone pattern gateways) h p = no_zone names new lines (ZonePrefix zone pattern gateways) refl h p
+one_more_declared names new lines (GwTypePrefix prefix hopoffs is_default) h p = no_zone names new lines (GwTypePrefix prefix hopoffs is_default) refl h p
+one_more_declared names new lines RejectUnknownPrefix h p = no_zone names new lines RejectUnknownPrefix refl h p
+one_more_declared names new lines (BandwidthDefault kind size) h p = no_zone names new lines (BandwidthDefault kind size) refl h p
+one_more_declared names new lines (BandwidthZone kind zone size) h p = no_zone names new lines (BandwidthZone kind zone size) refl h p
+one_more_declared names new lines (BandwidthRemote size) h p = no_zone names new lines (BandwidthRemote size) refl h p
 
 -- without a fault by the names the command is added
 pub well_line : (names : List (List ℕ)) (before : Progress) (command : Command) → AreDeclared names (commands_in before) → fault_by_names names command ≡ None → said_after before (Ok (Some command)) ≡ Ok (with_command before command)

@@ -2,8 +2,9 @@
 use Rattle.std.specs.Prelude.{◌≡◌, ℕ, Bool, List, [], ◌∷◌, Option, Result, Ok, Err, MatchResult, bytes_eq, if◌then◌else◌}
 use Rattle.std.specs.List.{list_any}
 use Rattle.std.specs.Option.{ok_or}
+use Rattle.gk_terms.specs.Name.{name_of}
 use Rattle.command_reader.specs.declared.faults.FaultKind.{FaultKind}
-use Rattle.command_reader.specs.declared.faults.FaultKind.TheVariants.{Unsupported, Missing}
+use Rattle.command_reader.specs.declared.faults.FaultKind.TheVariants.{Unsupported, Missing, Extra, BadName}
 
 infixl 10 ◌>>=◌
 -- the next field is read only where those before it are well
@@ -30,6 +31,29 @@ field_but left_out read kind (word ∷ words) = value_but left_out read kind wor
 
 abbrev pub field : {A : Type 0} → (List ℕ → Option A) → FaultKind → List (List ℕ) → Result (A × List (List ℕ)) FaultKind
 field read kind words = field_but [] read kind words
+
+-- behind the last field a left-out word is Unsupported, another word is Extra
+abbrev pub ended_but : {A : Type 0} → List (List ℕ) → A → List (List ℕ) → Result A FaultKind
+ended_but left_out x [] = Ok x
+ended_but left_out x (word ∷ words) = if is_one_of left_out word then Err Unsupported else Err Extra
+
+-- behind the last field stands no word
+abbrev pub ended : {A : Type 0} → A → List (List ℕ) → Result A FaultKind
+ended x words = ended_but [] x words
+
+-- a name in front of names
+abbrev pub with_name : List ℕ → List (List ℕ) → Result (List (List ℕ)) FaultKind
+with_name name names = Ok (name ∷ names)
+
+-- each word as a name
+abbrev pub names_in : List (List ℕ) → Result (List (List ℕ)) FaultKind
+names_in [] = Ok []
+names_in (word ∷ words) = ok_or (name_of word) BadName >>= λ name. names_in words >>= with_name name
+
+-- each word as a name; at least one stands there
+abbrev pub some_names_in : List (List ℕ) → Result (List (List ℕ)) FaultKind
+some_names_in [] = Err Missing
+some_names_in (word ∷ words) = names_in (word ∷ words)
 
 -- what a reader of a field gives: the value, with these words left; or the first fault
 abbrev pub Gives : {A : Type 0} → Result (A × List (List ℕ)) FaultKind → Result A FaultKind → List (List ℕ) → Type 0

@@ -1,8 +1,17 @@
+pub mod Accepted
+pub mod BandwidthLine
 pub mod Configuration
 pub mod Fields
 pub mod Index
 pub mod Line
+pub mod LineText
+pub mod Memory
+pub mod NextWord
+pub mod Options
 pub mod Plain
+pub mod Printing
 pub mod Progress
 pub mod Reading
+pub mod TechnologyLine
+pub mod ZoneLine
 pub mod Zones

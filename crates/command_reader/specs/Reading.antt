@@ -1,5 +1,6 @@
 -- Whether a configuration is accepted: its commands, or its first fault.
-use Rattle.std.specs.Prelude.{◌≡◌, ℕ, ◌+◌, Bool, not, nat_le, List, [], ◌∷◌, ◌++◌, length, Option, Some, None, Result, Ok, Err, find, option_map, option_and_then, unwrap_or, false, is_some, ◌⊎◌, if◌then◌else◌}
+use Rattle.std.specs.Prelude.{◌≡◌, ℕ, ◌+◌, Bool, not, nat_le, List, [], ◌∷◌, ◌++◌, length, Option, Some, None, Result, Ok, Err, find, option_map, option_and_then, is_some, ◌⊎◌, if◌then◌else◌}
+use Rattle.std.specs.List.{list_any}
 use Rattle.gk_terms.specs.declared.limits.TheConstants.{MOST_LINES, MOST_ZONES}
 use Rattle.gk_terms.specs.Text.{lines_of}
 use Rattle.command_reader.specs.declared.faults.FaultKind.{FaultKind}
@@ -65,7 +66,7 @@ lines_after before (line ∷ lines) = line_then (line_count before + 1) (λ read
 -- ---- the whole
 -- whether a command names a zone that none of these declares
 abbrev pub names_unknown : List Command → Command → Bool
-names_unknown lines command = unwrap_or (option_map (λ name. not (is_declared lines name)) (named_by command)) false
+names_unknown lines command = list_any (λ name. not (is_declared lines name)) (named_by command)
 
 -- the first line that names a zone which no line declares
 abbrev pub unknown_zone : Progress → Option LineFault

@@ -2,14 +2,17 @@
 
 ghost use Rattle.std.specs.Prelude.{◌≡◌, ◌==◌, ◌≤◌, length, map, slice_get};
 ghost use Rattle.std.specs.Option.{option_copied};
+ghost use Rattle.command_reader.specs.Accepted.{IsAccepted};
 
+use crate::names::Names;
 use digit_patterns::Pattern;
 use gk_terms::limits::MOST_LINES;
-use gk_terms::{Address, Name};
+use gk_terms::{Address, Kbps, Name, TechPrefix};
 use std::marker::Model;
+use std::slice;
 
 /// One kept line of a configuration.
-#[derive(Clone, Copy, Debug, PartialEq, Eq)]
+#[derive(Debug, PartialEq, Eq, Drop)]
 pub enum Command {
     /// `zone local NAME DOMAIN [IP [PORT]]`: a zone that is controlled here. The address has no effect on routing.
     ZoneLocal {
@@ -17,16 +20,44 @@ pub enum Command {
         domain: Name,
         address: Option<LocalAddress>,
     },
-    /// `zone remote NAME DOMAIN IP [PORT]`: a zone of another gatekeeper, at port 1719 where none is given.
+    /// `zone remote NAME DOMAIN IP [PORT] [cost C [priority P]]`: a zone of another gatekeeper, at port 1719 where
+    /// none is given. Cost and priority are 1 to 100, and 50 where they are not given.
     ZoneRemote {
         name: Name,
         domain: Name,
         address: Address,
+        cost: u8,
+        priority: u8,
     },
-    /// `zone prefix NAME PATTERN`: matching numbers belong to the zone.
+    /// `zone prefix NAME PATTERN [seq|blast] [gw-priority N GW [GW ...]]`: matching numbers belong to the zone.
     ZonePrefix {
         zone: Name,
         pattern: Pattern,
+        gateways: Option<GatewayPriority>,
+    },
+    /// `gw-type-prefix PREFIX [hopoff NAME ...] [seq|blast] [default-technology]`: a technology prefix, the zones
+    /// to which calls with it hop off, and whether gateways of it take the calls that nothing else takes.
+    GwTypePrefix {
+        prefix: TechPrefix,
+        hopoffs: Names,
+        is_default: bool,
+    },
+    /// `arq reject-unknown-prefix`: an admission to digits that no zone prefix matches is refused.
+    RejectUnknownPrefix,
+    /// `bandwidth total|interzone|session default SIZE`: the limit of each local zone that has none of its own.
+    BandwidthDefault {
+        kind: LimitKind,
+        size: Kbps,
+    },
+    /// `bandwidth total|interzone|session zone NAME SIZE`: the limit of one zone.
+    BandwidthZone {
+        kind: LimitKind,
+        zone: Name,
+        size: Kbps,
+    },
+    /// `bandwidth remote SIZE`: the limit of all calls to remote zones together.
+    BandwidthRemote {
+        size: Kbps,
     },
 }
 
@@ -40,17 +71,20 @@ impl Command {
     {
         match self {
             Command::ZoneLocal { name, .. } | Command::ZoneRemote { name, .. } => Some(*name),
-            Command::ZonePrefix { .. } => None,
+            _ => None,
         }
     }
 
-    /// The name of the zone that the command names and another line must declare.
-    pub fn names(&self) -> Option<Name>
-        ensures { result ≡ named_by self.now }
+    /// The names of the zones that the command names and other lines must declare.
+    pub fn names(&self) -> &[Name]
+        ensures { result.now ≡ named_by self.now }
     {
         match self {
-            Command::ZoneLocal { .. } | Command::ZoneRemote { .. } => None,
-            Command::ZonePrefix { zone, .. } => Some(*zone),
+            Command::ZonePrefix { zone, .. } | Command::BandwidthZone { zone, .. } => {
+                slice::from_ref(zone)
+            }
+            Command::GwTypePrefix { hopoffs, .. } => hopoffs.as_slice(),
+            _ => &[],
         }
     }
 
@@ -60,6 +94,26 @@ impl Command {
     {
         matches!(self, Command::ZoneLocal { .. })
     }
+}
+
+/// What a bandwidth limit bounds.
+#[derive(Clone, Copy, Debug, PartialEq, Eq)]
+pub enum LimitKind {
+    /// One call: 1 to 5,000 kbit/s.
+    Session,
+    /// All calls of a zone together: 1 to 10,000,000 kbit/s.
+    Total,
+    /// All calls between a zone and another together: 1 to 10,000,000 kbit/s.
+    Interzone,
+}
+
+/// The gateways of a `zone prefix` line, and their priority for its numbers.
+#[derive(Debug, PartialEq, Eq, Drop)]
+pub struct GatewayPriority {
+    /// 0 to 10: 10 is the highest, and 0 keeps a gateway from being used.
+    pub priority: u8,
+    /// One or more, as they were written.
+    pub gateways: Names,
 }
 
 /// The address in a `zone local` line, as it was given.
@@ -72,7 +126,7 @@ pub struct LocalAddress {
 }
 
 /// A kept line with its number.
-#[derive(Clone, Copy, Debug, PartialEq, Eq)]
+#[derive(Debug, PartialEq, Eq, Drop)]
 pub(crate) struct NumberedCommand {
     pub(crate) line: u32,
     pub(crate) command: Command,
@@ -89,22 +143,32 @@ pub struct Commands {
 impl Model for Commands {
     ghost use Rattle.std.specs.Prelude.{◌≤◌, length, map};
     ghost use Rattle.gk_terms.specs.declared.limits.TheConstants.{MOST_LINES};
+    ghost use Rattle.command_reader.specs.Accepted.{IsAccepted};
     ghost use Rattle.command_reader.specs.Configuration.{Configuration};
 
     ghost Value = { Configuration };
 
     ghost view = { λ c. record { lines = map (λ n. n.command) c.kept.items; passed = c.passed_over } };
 
-    ghost invariant = { λ c. length c.kept.items ≤ MOST_LINES };
+    ghost invariant = { λ c. (length c.kept.items ≤ MOST_LINES) × IsAccepted (map (λ n. n.command) c.kept.items) };
 }
 
 impl Commands {
     pub(crate) fn new(kept: Vec<NumberedCommand>, passed_over: u32) -> Commands
-        requires { length kept.items ≤ MOST_LINES }
+        requires within { length kept.items ≤ MOST_LINES }
+        requires accepted { IsAccepted (map (λ n. n.command) kept.items) }
         ensures lines { result.lines ≡ map (λ n. n.command) kept.items }
         ensures passed { result.passed ≡ passed_over }
     {
         Commands { kept, passed_over }
+    }
+
+    /// The commands with the numbers of their lines.
+    pub(crate) fn kept(&self) -> &[NumberedCommand]
+        ensures lines { map (λ n. n.command) result.now ≡ self.now.lines }
+        ensures accepted { IsAccepted self.now.lines }
+    {
+        &self.kept
     }
 
     /// How many commands were kept: at most 20,000.

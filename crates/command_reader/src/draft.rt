@@ -1,12 +1,13 @@
 //! A configuration as it is read, line by line.
 
-ghost use Rattle.std.specs.Prelude.{◌≡◌, ◌⊎◌, ◌+◌, ◌<◌, ◌≤◌, ◌==◌, ℕ, List, length, ◌∷◌, MatchResult, Ok, Err, Some, None, bytes_eq, is_some};
+ghost use Rattle.std.specs.Prelude.{◌≡◌, true, ◌⊎◌, ◌+◌, ◌<◌, ◌≤◌, ◌==◌, ℕ, List, length, ◌∷◌, MatchResult, Ok, Err, Some, None, bytes_eq, is_some};
 ghost use Rattle.std.specs.List.{list_any};
 ghost use Rattle.std.specs.List.Sorted.{IsPermutation};
 ghost use Rattle.std.specs.HashSet.{keys};
+ghost use Rattle.command_reader.specs.Accepted.{PrintsBack};
 ghost use Rattle.command_reader.specs.Index.{AddsDeclared, IsRefusedFor, fault_by_names};
 ghost use Rattle.command_reader.specs.Progress.{Progress, line_count, commands_in};
-ghost use Rattle.command_reader.specs.Zones.{first_local_of, is_local_command};
+ghost use Rattle.command_reader.specs.Zones.{first_local_of, is_declared, is_local_command};
 ghost use Rattle.command_reader.specs.Reading.{nothing_read, line_after, said_after, fault_of_name, with_command, with_passed, finished, names_unknown, unknown_zone, LacksMemoryFor};
 
 use crate::commands::{Command, Commands, NumberedCommand};
@@ -21,6 +22,7 @@ use std::marker::Model;
 /// The lines read so far. A contract sees them as `Progress`.
 #[derive(Drop)]
 pub struct Draft {
+    alloc: Global,
     kept: Vec<NumberedCommand>,
     passed: u32,
     declared: HashSet<Name>,
@@ -30,6 +32,7 @@ impl Model for Draft {
     ghost use Rattle.std.specs.Prelude.{◌+◌, ◌≤◌, length, map};
     ghost use Rattle.std.specs.HashSet.{keys};
     ghost use Rattle.gk_terms.specs.declared.limits.TheConstants.{MOST_LINES};
+    ghost use Rattle.command_reader.specs.Accepted.{IsPrintable};
     ghost use Rattle.command_reader.specs.Index.{AreDeclared};
     ghost use Rattle.command_reader.specs.Progress.{Progress};
 
@@ -37,15 +40,18 @@ impl Model for Draft {
 
     ghost view = { λ d. record { kept = d.kept.items; passed = d.passed } };
 
-    ghost invariant = { λ d. (length d.kept.items + d.passed ≤ MOST_LINES) × AreDeclared (keys d.declared) (map (λ n. n.command) d.kept.items) };
+    ghost invariant = { λ d. (length d.kept.items + d.passed ≤ MOST_LINES) × AreDeclared (keys d.declared) (map (λ n. n.command) d.kept.items)
+        × IsPrintable (map (λ n. n.command) d.kept.items) };
 }
 
 impl Draft {
+    #[tactic(auto, using(crate::proofs::FileBack::none_printable))]
     /// Nothing read yet.
     pub fn new(alloc: Global) -> Draft
         ensures { result ≡ nothing_read }
     {
         Draft {
+            alloc,
             kept: Vec::new(alloc),
             passed: 0,
             declared: HashSet::new(alloc),
@@ -85,7 +91,7 @@ impl Draft {
         if self.line_count() >= MOST_LINES {
             return Err(FaultKind::TooMany);
         }
-        match command_in(line)? {
+        match command_in(self.alloc, line)? {
             None => Ok(self.with_passed()),
             Some(command) => self.with_command(command),
         }
@@ -125,10 +131,14 @@ impl Draft {
     fn names_unknown(&self, command: &Command) -> bool
         ensures { result ≡ names_unknown (commands_in self.now) command.now }
     {
-        match command.names() {
-            None => false,
-            Some(name) => !self.declared.contains(&name),
-        }
+        command.names().iter().any(|name| !self.declares(name))
+    }
+
+    /// Whether a line declares a zone of this name.
+    fn declares(&self, name: &Name) -> bool
+        ensures { result ≡ is_declared (commands_in self.now) name.now }
+    {
+        self.declared.contains(name)
     }
 
     #[tactic(auto, using(crate::proofs::LocalZones::some_local))]
@@ -141,6 +151,8 @@ impl Draft {
 
     /// The commands, and how many lines were passed over.
     fn into_commands(self) -> Commands
+        requires declared { unknown_zone self ≡ None }
+        requires has_local { is_some (first_local_of (commands_in self)) ≡ true }
         ensures { result ≡ record { lines = commands_in self; passed = self.passed } }
     {
         let Draft { kept, passed, .. } = self;
@@ -158,7 +170,8 @@ impl Draft {
 
     /// With a command of the next line.
     fn with_command(mut self, command: Command) -> Result<Draft, FaultKind>
-        requires { line_count self < MOST_LINES }
+        requires room { line_count self < MOST_LINES }
+        requires prints { PrintsBack command }
         ensures { MatchResult result
             (λ read. said_after self (Ok (Some command)) ≡ Ok read)
             (λ kind. (said_after self (Ok (Some command)) ≡ Err kind)

@@ -1,6 +1,6 @@
 //! Why a configuration is refused.
 
-use std::alloc::AllocFailed;
+use std::alloc::{AllocError, AllocFailed};
 use thiserror::Error;
 
 /// The kind of a fault of a configuration line.
@@ -9,10 +9,10 @@ pub enum FaultKind {
     /// The line is longer than 512 bytes, its ending aside.
     #[error("TooLong")]
     TooLong,
-    /// The line begins with no known command word.
+    /// The line begins with no known command word, or its command has no such second or third word.
     #[error("UnknownCommand")]
     UnknownCommand,
-    /// The line is a command, or has an option, that this project leaves out or does not read yet.
+    /// The line is a command, or has an option, that this project leaves out.
     #[error("Unsupported")]
     Unsupported,
     /// A field is absent.
@@ -57,6 +57,17 @@ impl<T: Drop> From<AllocFailed<T>> for FaultKind {
     ghost from_gives = { λ _ kind. kind ≡ NoMemory };
 
     fn from(_refused: AllocFailed<T>) -> FaultKind {
+        FaultKind::NoMemory
+    }
+}
+
+impl From<AllocError> for FaultKind {
+    ghost use Rattle.std.specs.Prelude.{◌≡◌};
+    ghost use Rattle.command_reader.specs.declared.faults.FaultKind.TheVariants.{NoMemory};
+
+    ghost from_gives = { λ _ kind. kind ≡ NoMemory };
+
+    fn from(_refused: AllocError) -> FaultKind {
         FaultKind::NoMemory
     }
 }

@@ -1,9 +1,10 @@
 //! The reader written plainly: it keeps no index, and looks at every earlier command for each line.
 //! It meets the same contract as `read` and serves to compare the two.
 
-ghost use Rattle.std.specs.Prelude.{◌≡◌, ◌⊎◌, ◌+◌, ◌<◌, ◌≤◌, Err, length, MatchResult, Ok, Some, is_some, filter};
+ghost use Rattle.std.specs.Prelude.{◌≡◌, true, None, ◌⊎◌, ◌+◌, ◌<◌, ◌≤◌, Err, length, MatchResult, Ok, Some, is_some, filter};
 ghost use Rattle.std.specs.List.{list_any};
 ghost use Rattle.gk_terms.specs.Text.{lines_of};
+ghost use Rattle.command_reader.specs.Accepted.{PrintsBack};
 ghost use Rattle.command_reader.specs.Plain.{declares_name, declares_zone};
 ghost use Rattle.command_reader.specs.Progress.{Progress, line_count, commands_in};
 ghost use Rattle.command_reader.specs.Zones.{first_local_of, is_declared, is_local_command, zones_of};
@@ -26,6 +27,7 @@ pub fn read_plainly(alloc: Global, bytes: &[u8]) -> Result<Commands, LineFault>
     plain_lines(alloc, bytes)?.finish()
 }
 
+#[tactic(auto, using(crate::proofs::FileBack::none_printable))]
 /// The lines, each looked at for itself.
 fn plain_lines(alloc: Global, bytes: &[u8]) -> Result<PlainDraft, LineFault>
     ensures { MatchResult result
@@ -33,6 +35,7 @@ fn plain_lines(alloc: Global, bytes: &[u8]) -> Result<PlainDraft, LineFault>
         (λ fault. AreRefusedWith nothing_read (lines_of bytes.now) fault) }
 {
     let mut draft = PlainDraft {
+        alloc,
         kept: Vec::new(alloc),
         passed: 0,
     };
@@ -45,20 +48,22 @@ fn plain_lines(alloc: Global, bytes: &[u8]) -> Result<PlainDraft, LineFault>
 /// The lines read so far. A contract sees them as `Progress`.
 #[derive(Drop)]
 struct PlainDraft {
+    alloc: Global,
     kept: Vec<NumberedCommand>,
     passed: u32,
 }
 
 impl Model for PlainDraft {
-    ghost use Rattle.std.specs.Prelude.{◌+◌, ◌≤◌, length};
+    ghost use Rattle.std.specs.Prelude.{◌+◌, ◌≤◌, length, map};
     ghost use Rattle.gk_terms.specs.declared.limits.TheConstants.{MOST_LINES};
+    ghost use Rattle.command_reader.specs.Accepted.{IsPrintable};
     ghost use Rattle.command_reader.specs.Progress.{Progress};
 
     ghost Value = { Progress };
 
     ghost view = { λ d. record { kept = d.kept.items; passed = d.passed } };
 
-    ghost invariant = { λ d. length d.kept.items + d.passed ≤ MOST_LINES };
+    ghost invariant = { λ d. (length d.kept.items + d.passed ≤ MOST_LINES) × IsPrintable (map (λ n. n.command) d.kept.items) };
 }
 
 impl PlainDraft {
@@ -94,7 +99,7 @@ impl PlainDraft {
         if self.line_count() >= MOST_LINES {
             return Err(FaultKind::TooMany);
         }
-        let Some(command) = command_in(line)? else {
+        let Some(command) = command_in(self.alloc, line)? else {
             return Ok(self.with_passed());
         };
         match self.zone_fault(&command) {
@@ -114,7 +119,9 @@ impl PlainDraft {
 
     /// With a command of the next line.
     fn with_command(mut self, command: Command) -> Result<PlainDraft, FaultKind>
-        requires { line_count self < MOST_LINES }
+        requires room { line_count self < MOST_LINES }
+        requires prints { PrintsBack command }
+        requires well { command_fault (commands_in self) command ≡ None }
         ensures { MatchResult result (λ read. read ≡ with_command self command) (λ kind. kind ≡ FaultKind.NoMemory) }
     {
         let line = self.line_count() as u32 + 1;
@@ -135,8 +142,17 @@ impl PlainDraft {
                 kind: FaultKind::NoLocalZone,
             });
         }
-        let PlainDraft { kept, passed } = self;
-        Ok(Commands::new(kept, passed))
+        Ok(self.into_commands())
+    }
+
+    /// The commands, and how many lines were passed over.
+    fn into_commands(self) -> Commands
+        requires declared { unknown_zone self ≡ None }
+        requires has_local { is_some (first_local_of (commands_in self)) ≡ true }
+        ensures { result ≡ record { lines = commands_in self; passed = self.passed } }
+    {
+        let PlainDraft { kept, passed, .. } = self;
+        Commands::new(kept, passed)
     }
 
     /// The fault of the first line that names a zone which no line declares.
@@ -157,10 +173,7 @@ impl PlainDraft {
     fn names_unknown(&self, command: &Command) -> bool
         ensures { result ≡ names_unknown (commands_in self.now) command.now }
     {
-        match command.names() {
-            None => false,
-            Some(name) => !self.declares(&name),
-        }
+        command.names().iter().any(|name| !self.declares(name))
     }
 
     /// The fault of one more command, where it declares a zone.

@@ -12,12 +12,13 @@ use std::alloc::Global;
 
 /// Reads a configuration: the bytes of Cisco IOS command lines as its commands, or its first fault.
 ///
-/// Each line is looked at for itself, in order: the 20,001st line is `TooMany`; a line over 512 bytes is `TooLong`;
-/// then its fields from the left; then a zone that an earlier line declared is `DuplicateZone`, and the 1,025th
-/// zone `TooMany`. Only where no line has such a fault, the first line that names a zone which no line declares is
-/// `UnknownZone`. Only where there is none, a configuration without a local zone is `NoLocalZone`, one behind its
-/// last line. Memory is asked for only where a line's command is kept. Where it is refused, the answer is `NoMemory`
-/// at that line, whatever stands behind it.
+/// First the lines are looked at one by one, in order. The 20,001st line is `TooMany`, and one of more than 512 bytes
+/// `TooLong`; then its fields are read from the left; a zone that is declared a second time is `DuplicateZone`, and the
+/// 1,025th zone `TooMany`. Where every line is well for itself, the first that names an undeclared zone is `UnknownZone`.
+/// Where there is none either, a configuration without a local zone is `NoLocalZone`, one behind its last line.
+///
+/// `NoMemory` is answered only at a line whose command would be kept, behind lines without a fault, whatever stands
+/// behind it. It names that line.
 #[tactic(auto, unfolding(crate::specs::Reading::reading_of))]
 pub fn read(alloc: Global, bytes: &[u8]) -> Result<Commands, LineFault>
     ensures { ReadsAs bytes.now result }

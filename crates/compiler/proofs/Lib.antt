@@ -1,2 +1,3 @@
+pub mod EffectLemmas
 pub mod FirstRows
 pub mod TableLemmas

@@ -14,7 +14,7 @@ use Rattle.digit_patterns.specs.Pattern.{same_pattern}
 use Rattle.digit_patterns.specs.Table.{best_of, hit_of, best_hit}
 use Rattle.digit_patterns.specs.Duplicate.{has_pattern, duplicate_of}
 use Rattle.command_reader.specs.declared.commands.Command.{Command}
-use Rattle.command_reader.specs.declared.commands.Command.TheVariants.{ZoneLocal, ZoneRemote, ZonePrefix}
+use Rattle.command_reader.specs.declared.commands.Command.TheVariants.{ZoneLocal, ZoneRemote, ZonePrefix, GwTypePrefix, RejectUnknownPrefix, BandwidthDefault, BandwidthZone, BandwidthRemote}
 use Rattle.command_reader.specs.Zones.{Zone, zones_of, declared_by, zone_of, first_local_of, is_local_zone}
 use Rattle.command_reader.specs.Zones.{Local as LocalZone, Remote as RemoteZone}
 use Rattle.compiler.specs.declared.tables.ZoneKind.{ZoneKind}
@@ -128,8 +128,13 @@ aims_more zones lines place within = by (slice_get lines place) refl
   where
     alone : (line : Command) → aims_by zones (line ∷ []) ≡ one_or_none (option_map (aim_by zones) (row_in line))
     alone (ZoneLocal name domain address) = refl
-    alone (ZoneRemote name domain address) = refl
-    alone (ZonePrefix zone pattern) = refl
+    alone (ZoneRemote name domain address cost priority) = refl
+    alone (ZonePrefix zone pattern gateways) = refl
+    alone (GwTypePrefix prefix hopoffs is_default) = refl
+    alone RejectUnknownPrefix = refl
+    alone (BandwidthDefault kind size) = refl
+    alone (BandwidthZone kind zone size) = refl
+    alone (BandwidthRemote size) = refl
 
     by : (line : Option Command) → slice_get lines place ≡ line → aims_by zones (take (place + 1) lines) ≡ aims_by zones (take place lines) ++ one_or_none (option_map (aim_by zones) (option_and_then row_in line))
     by None e = absurd (stands lines place within e)

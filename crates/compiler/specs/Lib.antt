@@ -1,3 +1,4 @@
+pub mod InEffect
 pub mod Plan
 pub mod TablesIndex
 pub mod Zones

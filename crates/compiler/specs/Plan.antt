@@ -4,7 +4,7 @@ use Rattle.std.specs.List.{filter_map}
 use Rattle.digit_patterns.specs.PatternParts.{PatternParts}
 use Rattle.digit_patterns.specs.Table.{best_of}
 use Rattle.command_reader.specs.declared.commands.Command.{Command}
-use Rattle.command_reader.specs.declared.commands.Command.TheVariants.{ZoneLocal, ZoneRemote, ZonePrefix}
+use Rattle.command_reader.specs.declared.commands.Command.TheVariants.{ZoneLocal, ZoneRemote, ZonePrefix, GwTypePrefix, RejectUnknownPrefix, BandwidthDefault, BandwidthZone, BandwidthRemote}
 use Rattle.command_reader.specs.Zones.{Zone, zone_of}
 use Rattle.command_reader.specs.Zones.{Local as LocalZone, Remote as RemoteZone}
 use Rattle.compiler.specs.declared.tables.Plan.{Plan}
@@ -14,10 +14,16 @@ use Rattle.compiler.specs.declared.tables.Plan.TheVariants.{Remote, Local, Calle
 abbrev pub Row : Type 0
 Row = PatternParts × List ℕ
 
+-- the row that a command says, if it says one
 abbrev pub row_in : Command → Option Row
 row_in (ZoneLocal name domain address) = None
-row_in (ZoneRemote name domain address) = None
-row_in (ZonePrefix zone pattern) = Some (pattern, zone)
+row_in (ZoneRemote name domain address cost priority) = None
+row_in (ZonePrefix zone pattern gateways) = Some (pattern, zone)
+row_in (GwTypePrefix prefix hopoffs is_default) = None
+row_in RejectUnknownPrefix = None
+row_in (BandwidthDefault kind size) = None
+row_in (BandwidthZone kind zone size) = None
+row_in (BandwidthRemote size) = None
 
 -- the rows of the `zone prefix` lines, in line order
 abbrev pub rows_of : List Command → List Row

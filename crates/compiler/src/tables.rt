@@ -1,6 +1,6 @@
 //! The configuration in force, made ready for look-ups.
 
-ghost use Rattle.std.specs.Prelude.{◌≡◌, ℕ, ◌+◌, ◌≤◌, List, length, IfOk, OnOk, Some, None, bytes_eq, if◌then◌else◌};
+ghost use Rattle.std.specs.Prelude.{◌≡◌, ℕ, ◌+◌, ◌≤◌, List, length, IfOk, OnOk, Some, None, option_map, bytes_eq, if◌then◌else◌};
 ghost use Rattle.std.specs.Option.{option_or, option_copied};
 ghost use Rattle.std.specs.HashSet.{contains};
 ghost use Rattle.gk_terms.specs.declared.limits.TheConstants.{MOST_LINES};
@@ -9,8 +9,9 @@ ghost use Rattle.digit_patterns.specs.Pattern.{same_pattern};
 ghost use Rattle.digit_patterns.specs.Duplicate.{has_pattern};
 ghost use Rattle.command_reader.specs.Zones.{first_local_of, zone_of};
 ghost use Rattle.compiler.specs.Zones.{is_local as is_local_name, zone_meant};
-ghost use Rattle.compiler.specs.Plan.{plan_of};
-ghost use Rattle.compiler.specs.TablesIndex.{AreZonesOf, AddsZone, kind_in, aims_by, first_rows as first_rows_of, numbered as numbered_rows, plan_for, with_new, is_local_kind, aim_at, local_at as local_of, plan_of_hit as plan_of_found};
+ghost use Rattle.compiler.specs.InEffect.{lines_in_effect};
+ghost use Rattle.compiler.specs.Plan.{plan_of, row_in};
+ghost use Rattle.compiler.specs.TablesIndex.{AreZonesOf, AddsZone, kind_in, aim_by, aims_by, first_rows as first_rows_of, numbered as numbered_rows, plan_for, with_new, is_local_kind, aim_at, local_at as local_of, plan_of_hit as plan_of_found};
 
 use command_reader::{Command, Commands};
 use digit_patterns::{Hit, Pattern, PlainTable, PrefixTable, TableFault};
@@ -52,7 +53,7 @@ pub struct Routed {
 }
 
 /// The configuration in force: its commands, its zones by name, and its zone prefixes by pattern.
-/// A contract sees the lines that the tables were made of.
+/// A contract sees those lines that the tables were made of which are in effect.
 #[derive(Drop)]
 pub struct Tables {
     commands: Commands,
@@ -68,17 +69,19 @@ impl Model for Tables {
 
     ghost Value = { List Command };
 
+    ghost use Rattle.compiler.specs.InEffect.{lines_in_effect};
     ghost use Rattle.compiler.specs.TablesIndex.{IsIndex};
 
-    ghost view = { λ t. t.commands.lines };
+    ghost view = { λ t. lines_in_effect t.commands.lines };
 
-    ghost invariant = { λ t. IsIndex t.commands.lines t.zones.entries t.first_local t.prefixes t.targets.items };
+    ghost invariant = { λ t. IsIndex (lines_in_effect t.commands.lines) t.zones.entries t.first_local t.prefixes t.targets.items };
 }
 
 impl Tables {
-    /// The tables of a configuration.
+    #[tactic(auto, using(crate::proofs::EffectLemmas::index_in_effect))]
+    /// The tables of a configuration: of its lines in effect.
     pub fn compile(alloc: Global, commands: Commands) -> Result<Tables, AllocError>
-        ensures { IfOk result (λ tables. tables ≡ commands.lines) }
+        ensures { IfOk result (λ tables. tables ≡ lines_in_effect commands.lines) }
     {
         let zones = zones_in(alloc, &commands)?;
         let first_local = first_local_in(&commands);
@@ -98,9 +101,9 @@ impl Tables {
         })
     }
 
-    /// The configuration that the tables were made of.
+    /// A configuration whose lines in effect are those of the tables: the one that they were made of.
     pub fn commands(&self) -> &Commands
-        ensures { result.now.lines ≡ self.now }
+        ensures { lines_in_effect result.now.lines ≡ self.now }
     {
         &self.commands
     }
@@ -191,7 +194,7 @@ fn add_zone(zones: &mut HashMap<Name, ZoneKind>, command: &Command) -> Result<()
         Command::ZoneRemote { name, address, .. } => {
             add_new(zones, name, ZoneKind::Remote(*address))
         }
-        Command::ZonePrefix { .. } => Ok(()),
+        _ => Ok(()),
     }
 }
 
@@ -227,7 +230,7 @@ fn local_at(commands: &Commands, place: usize) -> Option<Name>
 {
     match commands.get(place)? {
         Command::ZoneLocal { name, .. } => Some(*name),
-        Command::ZoneRemote { .. } | Command::ZonePrefix { .. } => None,
+        _ => None,
     }
 }
 
@@ -258,9 +261,18 @@ fn row_at(
 ) -> Option<(Pattern, Plan)>
     ensures { result ≡ aim_at zones.now.entries commands.now.lines place }
 {
-    match commands.get(place)? {
-        Command::ZonePrefix { zone, pattern } => Some((*pattern, plan_to(zone, zones.get(zone)))),
-        Command::ZoneLocal { .. } | Command::ZoneRemote { .. } => None,
+    row_of(commands.get(place)?, zones)
+}
+
+/// The row that a command says, if it says one: its pattern, and where it leads.
+fn row_of(command: &Command, zones: &HashMap<Name, ZoneKind>) -> Option<(Pattern, Plan)>
+    ensures { result ≡ option_map (aim_by zones.now.entries) (row_in command.now) }
+{
+    match command {
+        Command::ZonePrefix { zone, pattern, .. } => {
+            Some((*pattern, plan_to(zone, zones.get(zone))))
+        }
+        _ => None,
     }
 }
 

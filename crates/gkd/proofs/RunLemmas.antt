@@ -1,4 +1,5 @@
 -- A configuration, line by line, and the requests behind it.
+use Rattle.compiler.specs.InEffect.{lines_in_effect}
 use Rattle.std.proofs.Common.{◌≡◌, ℕ, ◌+◌, true, false, cond, List, [], ◌∷◌, length, map, refl, sym, ap, subst, ◌∙◌, ⊎_elim, inl, inr}
 use Rattle.std.specs.Prelude.{◌⊎◌, Option, Some, None, Result, Ok, Err, not, ◌&&◌, MatchResult}
 use Rattle.std.specs.Io.KnownBytes.{IsAtEnd, prepend_known}
@@ -177,16 +178,16 @@ refuses (Some bytes) (Some rest) fault r = record { said = says_fault (configura
 
 -- ---- the whole run
 module _ (limits : Limits) where
-  run_written : (bytes rest text : List ℕ) (configuration : Configuration) (last : State) (count : ℕ) → IsConfiguration bytes rest (Ok configuration) → IsSession rest (opening_of configuration.lines limits) last text count → IsRun limits bytes text count
+  run_written : (bytes rest text : List ℕ) (configuration : Configuration) (last : State) (count : ℕ) → IsConfiguration bytes rest (Ok configuration) → IsSession rest (opening_of (lines_in_effect configuration.lines) limits) last text count → IsRun limits bytes text count
   run_written bytes rest text configuration last count c s = record {
     configuration = configuration;
     accepted = c.said;
     last = last;
-    runs = subst (λ (lines : List (List ℕ)). Runs (opening_of configuration.lines limits) (requests_in lines) text last) (sym c.behind) s.runs;
+    runs = subst (λ (lines : List (List ℕ)). Runs (opening_of (lines_in_effect configuration.lines) limits) (requests_in lines) text last) (sym c.behind) s.runs;
     counted = s.counted ∙ ap (λ lines. length (requests_in lines)) (sym c.behind);
   }
 
-  pub run_writes : (known rest before after : Option (List ℕ)) (configuration : Configuration) (last : State) (count : ℕ) → ReadsConfiguration known rest (Ok configuration) → WritesSession rest (opening_of configuration.lines limits) last before after count → WritesRun limits known before after count
+  pub run_writes : (known rest before after : Option (List ℕ)) (configuration : Configuration) (last : State) (count : ℕ) → ReadsConfiguration known rest (Ok configuration) → WritesSession rest (opening_of (lines_in_effect configuration.lines) limits) last before after count → WritesRun limits known before after count
   run_writes None rest before after configuration last count c s = tt
   run_writes (Some bytes) None before after configuration last count c s = absurd c
   run_writes (Some bytes) (Some rest) before after configuration last count c s = (s.0, run_written bytes rest s.0 configuration last count c s.1, s.2)

@@ -1,2 +1,4 @@
+pub mod Check
+pub mod CheckNotes
 pub mod Run
 pub mod RunNotes

@@ -1,4 +1,5 @@
 -- A run: a configuration, and then requests.
+use Rattle.compiler.specs.InEffect.{lines_in_effect}
 use Rattle.std.specs.Prelude.{◌≡◌, ◌⊎◌, ℕ, ◌+◌, Bool, true, false, not, ◌&&◌, ⊤, List, [], ◌∷◌, length, Option, Some, None, Result, Ok, Err, MatchResult, codes, bytes_eq, if◌then◌else◌, ◌++◌}
 use Rattle.std.specs.Io.KnownBytes.{Appends}
 use Rattle.gk_terms.specs.Text.{lines_of, words_of, is_too_long, is_empty}
@@ -41,7 +42,7 @@ pub record IsRun (limits : Limits) (bytes : List ℕ) (text : List ℕ) (count :
   pub configuration : Configuration
   pub accepted : reading_in (configuration_in (lines_of bytes)) ≡ Ok configuration
   pub last : State
-  pub runs : Runs (opening_of configuration.lines limits) (requests_in (behind_configuration (lines_of bytes))) text last
+  pub runs : Runs (opening_of (lines_in_effect configuration.lines) limits) (requests_in (behind_configuration (lines_of bytes))) text last
   pub counted : count ≡ length (requests_in (behind_configuration (lines_of bytes)))
 
 -- a run over what the reader has, where it tells, appends such a text to what the writer holds, where it tells

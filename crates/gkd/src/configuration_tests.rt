@@ -1,7 +1,7 @@
 //! Whole runs over memory: configurations, and how a run's faults are printed.
 
 use crate::faults::RunFault;
-use crate::test_runs::run_of;
+use crate::test_runs::{REPLIES, REQUESTS, run_of};
 use command_reader::{FaultKind, LineFault};
 use gk_protocol::SessionFault;
 use std::test::Fail;
@@ -53,7 +53,7 @@ fn refuses_a_faulty_configuration(rt: HostRuntime) -> Result<(), Fail> {
         (
             b"zone local a b\nhost\nzone local a b\nend\n",
             2,
-            FaultKind::Unsupported,
+            FaultKind::UnknownCommand,
         ),
         (
             b"zone local a b\r\nzone local c d e\r",
@@ -65,5 +65,30 @@ fn refuses_a_faulty_configuration(rt: HostRuntime) -> Result<(), Fail> {
         assert_eq!(rt; result, Err(RunFault::Config(LineFault { line, kind })));
         assert!(rt; output.is_empty());
     }
+    Ok(())
+}
+
+#[test]
+fn lines_out_of_effect_change_no_answer(rt: HostRuntime) -> Result<(), Fail> {
+    let mut input = Vec::from_slice(
+        rt.alloc(),
+        b"gatekeeper\n \
+        zone local gk-a example.com\n \
+        zone remote gk-x example.com 10.9.0.1 1719 cost 7 priority 3\n \
+        zone prefix gk-a 408* gw-priority 0 ta\n \
+        zone prefix gk-x 9* seq\n \
+        gw-type-prefix 1#* default-technology\n \
+        gw-type-prefix 408 hopoff gk-x\n \
+        arq reject-unknown-prefix\n \
+        bandwidth total default 1\n \
+        bandwidth session zone gk-a 1\n \
+        bandwidth remote 1\n \
+        no shutdown\n\
+        end\n",
+    )?;
+    input.extend_from_slice(REQUESTS.as_bytes())?;
+    let (result, output) = run_of(rt.alloc(), &input);
+    assert_eq!(rt; result, Ok(4));
+    assert_eq!(rt; output.as_slice(), REPLIES.as_bytes());
     Ok(())
 }

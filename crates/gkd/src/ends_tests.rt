@@ -2,61 +2,14 @@
 
 use crate::faults::RunFault;
 use crate::run::run_over;
+use crate::test_ends::{FailingSink, FailingSource};
 use crate::test_runs::{BAD_LIMITS, CONFIGURATION, REPLIES, REQUESTS};
 use admission::STATED;
 use gk_protocol::SessionFault;
-use gk_streams::{EndFailed, Noted, Sink, Source};
+use gk_streams::Noted;
 use std::io;
 use std::io::{Read, Write};
 use std::test::Fail;
-
-/// A source that gives these bytes, one a call, and then fails.
-#[derive(Drop)]
-struct FailingSource<'a> {
-    bytes: &'a [u8],
-    failed: bool,
-}
-
-impl Source for FailingSource<'_> {
-    ghost use Rattle.std.specs.Prelude.{None};
-
-    ghost remaining = { λ _. None };
-
-    ghost has_failed = { λ source. source.failed };
-
-    fn read(&mut self, piece: &mut [u8]) -> Result<usize, EndFailed> {
-        match self.bytes {
-            [byte, rest @ ..] if !piece.is_empty() => {
-                piece[0] = *byte;
-                self.bytes = rest;
-                Ok(1)
-            }
-            _ => {
-                self.failed = true;
-                Err(EndFailed)
-            }
-        }
-    }
-}
-
-/// A sink that fails.
-#[derive(Drop)]
-struct FailingSink {
-    failed: bool,
-}
-
-impl Sink for FailingSink {
-    ghost use Rattle.std.specs.Prelude.{None};
-
-    ghost contents = { λ _. None };
-
-    ghost has_failed = { λ sink. sink.failed };
-
-    fn write(&mut self, _bytes: &[u8]) -> Result<usize, EndFailed> {
-        self.failed = true;
-        Err(EndFailed)
-    }
-}
 
 #[test]
 fn names_the_side_that_failed(rt: HostRuntime) -> Result<(), Fail> {
@@ -66,10 +19,7 @@ fn names_the_side_that_failed(rt: HostRuntime) -> Result<(), Fail> {
         b"zone local a b\nend\nXYZ 1\n",
     ] {
         let mut output = Vec::new(rt.alloc());
-        let mut source = FailingSource {
-            bytes,
-            failed: false,
-        };
+        let mut source = FailingSource::new(bytes);
         let mut sink = Noted::new(&mut output);
         let read = run_over(rt.alloc(), STATED, &mut source, &mut sink);
         assert_eq!(rt; read, Err(RunFault::Session(SessionFault::ReadFault)));
@@ -77,7 +27,7 @@ fn names_the_side_that_failed(rt: HostRuntime) -> Result<(), Fail> {
         assert!(rt; !sink.has_failed());
     }
     let mut source = Noted::new(b"zone local a b\nend\nXYZ 1\n".as_slice());
-    let mut sink = FailingSink { failed: false };
+    let mut sink = FailingSink::new();
     let written = run_over(rt.alloc(), STATED, &mut source, &mut sink);
     assert_eq!(rt; written, Err(RunFault::Session(SessionFault::WriteFault)));
     assert!(rt; sink.failed);
@@ -89,10 +39,7 @@ fn names_the_side_that_failed(rt: HostRuntime) -> Result<(), Fail> {
 fn refuses_limits_before_it_reads(rt: HostRuntime) -> Result<(), Fail> {
     for limits in BAD_LIMITS {
         let mut output = Vec::new(rt.alloc());
-        let mut source = FailingSource {
-            bytes: b"end",
-            failed: false,
-        };
+        let mut source = FailingSource::new(b"end");
         let mut sink = Noted::new(&mut output);
         let result = run_over(rt.alloc(), limits, &mut source, &mut sink);
         assert_eq!(rt; result, Err(RunFault::BadLimits));

@@ -3,7 +3,7 @@
 ghost use Rattle.std.specs.Prelude.{◌≡◌, [], ◌∷◌, ◌++◌, ◌==◌, length, IfOk, OnOk, OnErr};
 ghost use Rattle.std.specs.List.{list_any};
 ghost use Rattle.std.specs.Str.{bytes_eq};
-ghost use Rattle.registry.specs.Endpoint.{EndpointParts, has_alias, share_alias, with_alias};
+ghost use Rattle.registry.specs.Endpoint.{EndpointParts, has_alias, with_alias};
 
 use gk_terms::{Address, Dialled, Name};
 use std::alloc::{AllocError, AllocFailed, Global};
@@ -86,13 +86,6 @@ impl Endpoint {
         ensures { result ≡ has_alias self.now alias.now }
     {
         self.aliases.contains(alias)
-    }
-
-    /// Whether the two endpoints share an alias.
-    pub fn shares_alias(&self, other: &Endpoint) -> bool
-        ensures { result ≡ share_alias self.now other.now }
-    {
-        other.aliases.iter().any(|alias| self.has_alias(alias))
     }
 
     /// What the endpoint is.

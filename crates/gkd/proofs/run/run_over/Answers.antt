@@ -1,3 +1,4 @@
+use Rattle.compiler.specs.InEffect.{lines_in_effect}
 use Rattle.std.proofs.Common.{◌≡◌, ap, subst, ◌∙◌}
 use Rattle.std.specs.Prelude.{Option, List, ℕ, Ok}
 use Rattle.admission.specs.State.{State, opening_of}
@@ -21,12 +22,12 @@ returns-clause-written g c =
     let begun : left_of c.new-input.result (remaining c.args.reader.now) ≡ remaining c.args.reader.now =
     ap (λ i. left_of i (remaining c.args.reader.now)) c.new-input.ensures ∙ left_at_first (remaining c.args.reader.now) in
     let limits = c.args.limits in
-    let opening : state_of c.in_ok-core.core ≡ opening_of c.in-Ok.commands.lines limits =
+    let opening : state_of c.in_ok-core.core ≡ opening_of (lines_in_effect c.in-Ok.commands.lines) limits =
     state_opened _ _ c.in_ok-core.ensures.opened ∙ ap (λ lines. opening_of lines limits) c.in_ok-tables.ensures in
     let read : ReadsConfiguration (remaining c.args.reader.now) (left_of input (remaining reader)) (Ok c.in-Ok.commands) =
     subst (λ (known : Option (List ℕ)). ReadsConfiguration known (left_of input (remaining reader)) (Ok c.in-Ok.commands)) begun
     (rw c.in-Ok.is at c.in_ok-commands.ensures.read) in
-    let written : WritesSession (left_of input (remaining reader)) (opening_of c.in-Ok.commands.lines limits) (state_of c.session.new.core) (contents c.args.writer.now) (contents c.session.new.writer) c.in_ok-replies.replies =
+    let written : WritesSession (left_of input (remaining reader)) (opening_of (lines_in_effect c.in-Ok.commands.lines) limits) (state_of c.session.new.core) (contents c.args.writer.now) (contents c.session.new.writer) c.in_ok-replies.replies =
     subst (λ (s : State). WritesSession (left_of input (remaining reader)) s (state_of c.session.new.core) (contents c.args.writer.now) (contents c.session.new.writer) c.in_ok-replies.replies) opening
     c.in_ok-replies.ensures.written in
     run_writes limits _ _ _ _ c.in-Ok.commands _ _ read written

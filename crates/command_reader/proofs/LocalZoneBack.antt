@@ -1,0 +1,110 @@
+-- A `zone local` line that was read is a canonical line.
+use Rattle.std.proofs.Common.{Result, ◌≡◌, ℕ, List, [], ◌∷◌, Some, None, Ok, refl, sym, ap, subst, ◌∙◌, arith}
+use Rattle.std.specs.Prelude.{Option, codes}
+use Rattle.std.proofs.lemmas.Bool.{and_from}
+use Rattle.gk_terms.specs.Name.{name_of}
+use Rattle.gk_terms.specs.Address.{ip_of, ip_text, port_of}
+use Rattle.command_reader.specs.declared.faults.FaultKind.{FaultKind}
+use Rattle.command_reader.specs.declared.faults.FaultKind.TheVariants.{BadName, BadNumber, BadAddress}
+use Rattle.command_reader.specs.declared.commands.Command.{Command}
+use Rattle.command_reader.specs.declared.commands.Command.TheVariants.{ZoneLocal}
+use Rattle.command_reader.specs.declared.commands.LocalAddress.{LocalAddress}
+use Rattle.command_reader.specs.Fields.{◌>>=◌, field, value_but, ended_but}
+use Rattle.command_reader.specs.ZoneLine.{left_out_of_local, local_port_at, local_address_at, zone_local_at}
+use Rattle.command_reader.specs.Printing.{command_words, local_words}
+use Rattle.command_reader.proofs.WordsBack.{AreWords}
+use Rattle.command_reader.proofs.NumbersBack.{number_spelled}
+use Rattle.command_reader.proofs.AddressBack.{ip_spelled}
+use Rattle.command_reader.proofs.FieldsBack.{IsNamed, bound, field_read, value_read, ended_read, name_read}
+use Rattle.command_reader.proofs.CommandBack.{IsSpelledBy}
+
+-- the address of a local zone, as its words
+record IsLocalAddress (words : List (List ℕ)) (address : Option LocalAddress) : Type 0 where
+  same : local_words address ≡ words
+  solid : AreWords words
+
+-- the words behind the address
+record IsLocalPort (ip : List ℕ) (words : List (List ℕ)) (address : Option LocalAddress) : Type 0 where
+  same : local_words address ≡ ip_text ip ∷ words
+  solid : AreWords words
+
+local_port_spelled : (ip : List ℕ) (words : List (List ℕ)) (address : Option LocalAddress) → local_port_at ip words ≡ Ok address → IsLocalPort ip words address
+local_port_spelled ip [] address h =
+    let is : Some (record { ip = ip; port = None }) ≡ address = cc in
+    record { same = ap local_words (sym is); solid = refl }
+local_port_spelled ip (word ∷ words) address h =
+    let b = bound (value_but left_out_of_local port_of BadNumber word) (λ port. ended_but left_out_of_local (Some (record { ip = ip; port = Some port })) words) address h in
+    let v = value_read left_out_of_local port_of BadNumber word b.value b.read in
+    let e = ended_read left_out_of_local (Some (record { ip = ip; port = Some b.value })) words address b.next in
+    let n = number_spelled 1 65535 word b.value (omega arith) v.spelled in
+    let whole : word ∷ words ≡ word ∷ [] = ap (λ rest. word ∷ rest) e.none in
+    record {
+      same = ap local_words (sym e.same) ∙ ap (λ w. ip_text ip ∷ w ∷ []) n.same ∙ ap (λ ws. ip_text ip ∷ ws) (sym whole);
+      solid = subst AreWords (sym whole) (and_from _ _ n.word refl);
+    }
+
+local_address_spelled : (words : List (List ℕ)) (address : Option LocalAddress) → local_address_at words ≡ Ok address → IsLocalAddress words address
+local_address_spelled [] address h =
+    let is : None ≡ address = cc in
+    record { same = ap local_words (sym is); solid = refl }
+local_address_spelled (word ∷ words) address h =
+    let b = bound (value_but left_out_of_local ip_of BadAddress word) (λ ip. local_port_at ip words) address h in
+    let v = value_read left_out_of_local ip_of BadAddress word b.value b.read in
+    let i = ip_spelled word b.value v.spelled in
+    let p = local_port_spelled b.value words address b.next in
+    record { same = p.same ∙ ap (λ w. w ∷ words) i.same; solid = and_from _ _ i.word p.solid }
+
+-- the steps behind each field
+abbrev behind_address : List ℕ → List ℕ → Option LocalAddress → Result Command FaultKind
+behind_address name domain address = Ok (ZoneLocal name domain address)
+
+abbrev behind_domain : List ℕ → List ℕ × List (List ℕ) → Result Command FaultKind
+behind_domain name domain = local_address_at domain.1 >>= behind_address name domain.0
+
+abbrev behind_name : List ℕ × List (List ℕ) → Result Command FaultKind
+behind_name name = field name_of BadName name.1 >>= behind_domain name.0
+
+-- what a `zone local` line says, by its fields
+record IsLocal (words : List (List ℕ)) (command : Command) : Type 0 where
+  name : List ℕ
+  domain : List ℕ
+  address : Option LocalAddress
+  is : ZoneLocal name domain address ≡ command
+  rest : List (List ℕ)
+  whole : name ∷ domain ∷ rest ≡ words
+  named : IsNamed name
+  in_domain : IsNamed domain
+  at_address : IsLocalAddress rest address
+
+local_read : (words : List (List ℕ)) (command : Command) → zone_local_at words ≡ Ok command → IsLocal words command
+local_read words command h =
+    let n = bound (field name_of BadName words) behind_name command h in
+    let f = field_read [] name_of BadName words n.value n.read in
+    let name = name_read f.word n.value.0 f.taken.spelled in
+    let d = bound (field name_of BadName n.value.1) (behind_domain n.value.0) command n.next in
+    let g = field_read [] name_of BadName n.value.1 d.value d.read in
+    let domain = name_read g.word d.value.0 g.taken.spelled in
+    let a = bound (local_address_at d.value.1) (behind_address n.value.0 d.value.0) command d.next in
+    record {
+      name = n.value.0;
+      domain = d.value.0;
+      address = a.value;
+      is = cc (a.next);
+      rest = d.value.1;
+      whole = cc (name.same, domain.same, f.whole, g.whole);
+      named = name.is;
+      in_domain = domain.is;
+      at_address = local_address_spelled d.value.1 a.value a.read;
+    }
+
+-- the words of a `zone local` line are its canonical words
+pub zone_local_spelled : (words : List (List ℕ)) (command : Command) → zone_local_at words ≡ Ok command
+    → IsSpelledBy (codes "zone" ∷ codes "local" ∷ words) command
+zone_local_spelled words command h =
+    let r = local_read words command h in
+    record {
+      same = ap command_words (sym r.is) ∙ ap (λ ws. codes "zone" ∷ codes "local" ∷ r.name ∷ r.domain ∷ ws) r.at_address.same
+          ∙ ap (λ ws. codes "zone" ∷ codes "local" ∷ ws) r.whole;
+      solid = subst (λ ws. AreWords (codes "zone" ∷ codes "local" ∷ ws)) r.whole
+          (and_from _ _ r.named.solid (and_from _ _ r.in_domain.solid r.at_address.solid));
+    }

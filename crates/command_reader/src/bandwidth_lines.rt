@@ -1,0 +1,78 @@
+//! What a line says that begins with `bandwidth`.
+
+ghost use Rattle.std.specs.Prelude.{◌≡◌};
+ghost use Rattle.gk_terms.specs.Text.{words_of};
+ghost use Rattle.command_reader.specs.BandwidthLine.{most_of, default_at, of_zone_at, limit_at, remote_at, bandwidth_at};
+
+use crate::commands::{Command, LimitKind};
+use crate::faults::FaultKind;
+use crate::fields::{name_field, size_field, whole};
+use gk_terms::words::Words;
+
+/// The greatest size of a limit, in kbit/s.
+const MOST_SIZE: u32 = 10_000_000;
+
+/// The greatest size of one call, in kbit/s.
+const MOST_SESSION_SIZE: u32 = 5_000;
+
+/// `bandwidth` and what follows it.
+pub fn bandwidth(words: &mut Words<'_>) -> Result<Command, FaultKind>
+    ensures { result ≡ bandwidth_at (words_of words.old) }
+{
+    match words.next() {
+        None => Err(FaultKind::Missing),
+        Some(word) if word == b"total".as_slice() => limit(LimitKind::Total, words),
+        Some(word) if word == b"interzone".as_slice() => limit(LimitKind::Interzone, words),
+        Some(word) if word == b"session".as_slice() => limit(LimitKind::Session, words),
+        Some(word) if word == b"remote".as_slice() => remote_limit(words),
+        Some(word) if word == b"check-destination".as_slice() => Err(FaultKind::Unsupported),
+        Some(_) => Err(FaultKind::UnknownCommand),
+    }
+}
+
+/// `default SIZE` or `zone NAME SIZE`.
+fn limit(kind: LimitKind, words: &mut Words<'_>) -> Result<Command, FaultKind>
+    ensures { result ≡ limit_at kind (words_of words.old) }
+{
+    match words.next() {
+        None => Err(FaultKind::Missing),
+        Some(word) if word == b"default".as_slice() => default_limit(kind, words),
+        Some(word) if word == b"zone".as_slice() => zone_limit(kind, words),
+        Some(_) => Err(FaultKind::UnknownCommand),
+    }
+}
+
+/// `SIZE`, the limit of each local zone that has none of its own.
+fn default_limit(kind: LimitKind, words: &mut Words<'_>) -> Result<Command, FaultKind>
+    ensures { result ≡ default_at kind (words_of words.old) }
+{
+    let size = size_field(most_size(kind), words)?;
+    whole(Command::BandwidthDefault { kind, size }, words)
+}
+
+/// `NAME SIZE`, the limit of one zone.
+fn zone_limit(kind: LimitKind, words: &mut Words<'_>) -> Result<Command, FaultKind>
+    ensures { result ≡ of_zone_at kind (words_of words.old) }
+{
+    let zone = name_field(words)?;
+    let size = size_field(most_size(kind), words)?;
+    whole(Command::BandwidthZone { kind, zone, size }, words)
+}
+
+/// `SIZE`, the limit of all calls to remote zones together.
+fn remote_limit(words: &mut Words<'_>) -> Result<Command, FaultKind>
+    ensures { result ≡ remote_at (words_of words.old) }
+{
+    let size = size_field(MOST_SIZE, words)?;
+    whole(Command::BandwidthRemote { size }, words)
+}
+
+/// The greatest size of a limit of this kind, in kbit/s.
+fn most_size(kind: LimitKind) -> u32
+    ensures { result ≡ most_of kind }
+{
+    match kind {
+        LimitKind::Session => MOST_SESSION_SIZE,
+        LimitKind::Total | LimitKind::Interzone => MOST_SIZE,
+    }
+}

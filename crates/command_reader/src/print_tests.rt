@@ -1,0 +1,210 @@
+//! What is printed of configurations.
+
+use crate::printing::{WriteFault, print};
+use crate::{Commands, read};
+use gk_streams::{EndFailed, Noted, Sink};
+use std::alloc::Global;
+use std::process::Abort;
+use std::test::Fail;
+
+/// Fifteen lines, of which three say nothing.
+const CONFIGURATION: &str = "gatekeeper
+ zone local gk-a example.com 10.0.0.1
+ zone local gk-b example.com
+ zone remote gk-x example.com 10.9.0.1 1719 cost 50
+ zone remote gk-y example.com 10.9.0.2 1719 cost 20
+ zone prefix gk-a 408*
+ zone prefix gk-b 4085......
+ zone prefix gk-x 9*
+ zone prefix gk-y 9*
+ gw-type-prefix 1#* default-technology
+ gw-type-prefix 2# hopoff gk-x
+ bandwidth total zone gk-a 256
+ bandwidth session default 128
+ no shutdown
+end
+";
+
+/// Its twelve canonical lines.
+const CANONICAL: &str = "zone local gk-a example.com 10.0.0.1
+zone local gk-b example.com
+zone remote gk-x example.com 10.9.0.1 1719 cost 50 priority 50
+zone remote gk-y example.com 10.9.0.2 1719 cost 20 priority 50
+zone prefix gk-a 408*
+zone prefix gk-b 4085......
+zone prefix gk-x 9*
+zone prefix gk-y 9*
+gw-type-prefix 1# default-technology
+gw-type-prefix 2# hopoff gk-x
+bandwidth total zone gk-a 256
+bandwidth session default 128
+";
+
+/// Zones that the lines below name.
+const ZONES: &str = "zone local a d
+zone local b d
+zone local hopoff d
+zone local seq d
+zone local blast d
+zone local default-technology d
+zone local gw d
+";
+
+/// What is printed of the commands of a text.
+fn printed(alloc: Global, text: &[u8]) -> Result<Vec<u8>, Fail> {
+    let commands = read(alloc, text)?;
+    let mut output = Vec::new(alloc);
+    print(&commands, &mut Noted::new(&mut output))?;
+    Ok(output)
+}
+
+/// A text prints as another, and that one as itself.
+fn assert_prints(rt: &impl Abort, alloc: Global, text: &[u8], want: &[u8]) -> Result<(), Fail> {
+    for text in [text, want] {
+        let printed = printed(alloc, text)?;
+        assert_eq!(rt; printed.as_slice(), want, "at {}", text.escape_ascii());
+    }
+    Ok(())
+}
+
+/// Behind zones, a line prints as another.
+fn assert_line_prints(rt: &impl Abort, alloc: Global, line: &str, want: &str) -> Result<(), Fail> {
+    let text = format!(in alloc; "{ZONES}{line}\n")?;
+    let want = format!(in alloc; "{ZONES}{want}\n")?;
+    assert_prints(rt, alloc, text.as_bytes(), want.as_bytes())
+}
+
+#[test]
+fn prints_canonical_lines(rt: HostRuntime) -> Result<(), Fail> {
+    assert_prints(
+        &rt,
+        rt.alloc(),
+        CONFIGURATION.as_bytes(),
+        CANONICAL.as_bytes(),
+    )
+}
+
+#[test]
+fn prints_zones(rt: HostRuntime) -> Result<(), Fail> {
+    for (line, want) in [
+        ("\tzone  local c d \r", "zone local c d"),
+        ("zone local c d 10.0.0.255", "zone local c d 10.0.0.255"),
+        (
+            "zone local c d 1.2.3.4 65535",
+            "zone local c d 1.2.3.4 65535",
+        ),
+        (
+            "zone remote cost d 10.9.0.1",
+            "zone remote cost d 10.9.0.1 1719 cost 50 priority 50",
+        ),
+        (
+            "zone remote c d 10.9.0.1 cost 1 priority 100",
+            "zone remote c d 10.9.0.1 1719 cost 1 priority 100",
+        ),
+        (
+            "zone remote c d 0.9.99.255 10",
+            "zone remote c d 0.9.99.255 10 cost 50 priority 50",
+        ),
+        ("zone prefix a * seq", "zone prefix a *"),
+        ("zone prefix a 40.. blast", "zone prefix a 40.."),
+        (
+            "zone prefix a .* gw-priority 10 g",
+            "zone prefix a .* gw-priority 10 g",
+        ),
+        (
+            "zone prefix a 9* seq gw-priority 0 g seq blast g",
+            "zone prefix a 9* gw-priority 0 g seq blast g",
+        ),
+    ] {
+        assert_line_prints(&rt, rt.alloc(), line, want)?;
+    }
+    Ok(())
+}
+
+#[test]
+fn prints_technology_prefixes(rt: HostRuntime) -> Result<(), Fail> {
+    for (line, want) in [
+        ("gw-type-prefix 2#", "gw-type-prefix 2#"),
+        ("gw-type-prefix 2#* seq blast", "gw-type-prefix 2#"),
+        (
+            "gw-type-prefix 2# hopoff seq seq",
+            "gw-type-prefix 2# hopoff seq",
+        ),
+        (
+            "gw-type-prefix 2# hopoff a hopoff seq b default-technology seq default-technology",
+            "gw-type-prefix 2# hopoff a hopoff seq b default-technology",
+        ),
+        (
+            "gw-type-prefix 2# default-technology hopoff b hopoff b a",
+            "gw-type-prefix 2# hopoff b b a default-technology",
+        ),
+        (
+            "gw-type-prefix 2# hopoff hopoff blast hopoff blast hopoff default-technology hopoff gw",
+            "gw-type-prefix 2# hopoff hopoff hopoff blast hopoff default-technology hopoff gw",
+        ),
+    ] {
+        assert_line_prints(&rt, rt.alloc(), line, want)?;
+    }
+    Ok(())
+}
+
+#[test]
+fn prints_limits(rt: HostRuntime) -> Result<(), Fail> {
+    for line in [
+        "arq reject-unknown-prefix",
+        "bandwidth total default 10000000",
+        "bandwidth interzone default 10",
+        "bandwidth session default 5000",
+        "bandwidth total zone a 1",
+        "bandwidth interzone zone b 99",
+        "bandwidth session zone a 100",
+        "bandwidth remote 10000000",
+    ] {
+        assert_line_prints(&rt, rt.alloc(), line, line)?;
+    }
+    Ok(())
+}
+
+/// A sink that takes so many calls, and then fails.
+#[derive(Drop)]
+struct FailingSink {
+    calls: u32,
+    failed: bool,
+}
+
+impl Sink for FailingSink {
+    ghost use Rattle.std.specs.Prelude.{None};
+
+    ghost contents = { λ _. None };
+
+    ghost has_failed = { λ sink. sink.failed };
+
+    fn write(&mut self, bytes: &[u8]) -> Result<usize, EndFailed> {
+        if self.calls == 0 {
+            self.failed = true;
+            return Err(EndFailed);
+        }
+        self.calls -= 1;
+        Ok(bytes.len())
+    }
+}
+
+/// Twelve lines are printed to a sink that takes so many calls.
+fn assert_written(rt: &impl Abort, commands: &Commands, calls: u32, want: Result<(), WriteFault>) {
+    let mut sink = FailingSink {
+        calls,
+        failed: false,
+    };
+    assert_eq!(rt; print(commands, &mut sink), want, "after {calls} calls");
+    assert_eq!(rt; sink.failed, want.is_err(), "after {calls} calls");
+}
+
+#[test]
+fn names_a_writer_that_fails(rt: HostRuntime) -> Result<(), Fail> {
+    let commands = read(rt.alloc(), CONFIGURATION.as_bytes())?;
+    for calls in 0..12 {
+        assert_written(&rt, &commands, calls, Err(WriteFault));
+    }
+    assert_written(&rt, &commands, 12, Ok(()));
+    Ok(())
+}
