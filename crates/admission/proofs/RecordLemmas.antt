@@ -9,10 +9,13 @@ use Rattle.std.proofs.lemmas.Option.{get_or_from_slice_get}
 
 module _ {X : Type 0} (P : X → Type 0) (xs : List X) where
   -- one more element has the property
-  pub all_more : (k : ℕ) (x : X) → k < length xs → x ≡ slice_index_or xs k x → All P (take k xs) → P x → All P (take (k + 1) xs)
+  pub all_more : (k : ℕ) (x : X) → k < length xs → x ≡ slice_index_or xs k x → All P (take k xs)
+      → P x → All P (take (k + 1) xs)
   all_more k x within is all holds =
       let next : k + 1 ≡ suc k = omega arith in
-      subst (All P) (sym (ap (λ n. take n xs) next ∙ take-suc xs k x within ∙ ap (λ y. take k xs ++ y ∷ []) (sym is)))
+      subst (All P)
+      (sym (ap (λ n. take n xs) next ∙ take-suc xs k x within
+      ∙ ap (λ y. take k xs ++ y ∷ []) (sym is)))
       (All-push P (take k xs) x all holds)
 
   -- all were looked at

@@ -1,13 +1,12 @@
--- What every record says, whatever was asked: its admissions went where the configuration leads, and it never passes the
--- limits.
-use Rattle.compiler.specs.InEffect.{lines_in_effect}
+-- What every record says, whatever was asked: its admissions went where the configuration leads,
+-- and it never passes the limits.
 use Rattle.std.specs.Prelude.{◌≡◌, ◌≤◌, ℕ, ◌+◌, List, ◌∷◌, ◌++◌, length, Ok}
 use Rattle.command_reader.specs.declared.commands.Command.{Command}
 use Rattle.command_reader.specs.Configuration.{Configuration}
 use Rattle.admission.specs.declared.limits.Limits.{Limits}
 use Rattle.admission.specs.declared.events.Event.TheVariants.{Admit}
-use Rattle.admission.specs.declared.replies.Destination.{Destination}
-use Rattle.admission.specs.declared.replies.RouteRefusal.TheVariants.{NoDefault}
+use Rattle.admission.specs.declared.routes.Destination.{Destination}
+use Rattle.admission.specs.declared.routes.RouteRefusal.TheVariants.{NoDefault}
 use Rattle.admission.specs.declared.replies.AdmitRefusal.TheVariants.{NoRoute}
 use Rattle.admission.specs.declared.replies.Reply.TheVariants.{Admitted, AdmitRefused}
 use Rattle.admission.specs.declared.record.Entry.{Entry}
@@ -17,46 +16,58 @@ use Rattle.command_reader.specs.Reading.{reading_in}
 use Rattle.admission.specs.RouteLaws.{IsRouted, FoundNone}
 
 -- ---- routes
--- the entry stands in the record, behind these
-abbrev pub StandsBehind : List Entry → List Entry → Entry → Type 0
-StandsBehind entries before e = (after : List Entry) × (entries ≡ before ++ e ∷ after)
+-- the entry is in the record, after these
+abbrev pub StandsAfter : List Entry → List Entry → Entry → Type 0
+StandsAfter entries before e = (after : List Entry) × (entries ≡ before ++ e ∷ after)
 
--- under an accepted configuration, each granted admission of a record, for the call and the bandwidth that were asked,
--- went where the longest matching pattern leads, or without one to an endpoint of the caller's own zone: by the endpoints
--- that were registered when it was asked
+-- under an accepted configuration, each granted admission of a record, for the call and the
+-- bandwidth that were asked, went where the longest matching pattern leads, or without one to an
+-- endpoint of the caller's own zone: by the endpoints that were registered when it was asked
 abbrev pub RecordedAdmissionsAreRouted : Type 0
 RecordedAdmissionsAreRouted =
-    (lines : List (List ℕ)) (configuration : Configuration) (limits : Limits) (entries before : List Entry) (e : Entry)
-    → reading_in lines ≡ Ok configuration → IsLegal (opening_of (lines_in_effect configuration.lines) limits) entries → StandsBehind entries before e
+    (lines : List (List ℕ)) (configuration : Configuration) (limits : Limits)
+    (entries before : List Entry) (e : Entry)
+    → reading_in lines ≡ Ok configuration
+    → IsLegal (opening_of configuration.commands limits) entries
+    → StandsAfter entries before e
     → (call units : ℕ) (id digits : List ℕ) (replied_call granted : ℕ) (destination : Destination)
     → e.event ≡ Admit id call digits units → e.reply ≡ Admitted replied_call destination granted
-    → (replied_call ≡ call) × (granted ≡ units) × IsRouted (replay (opening_of (lines_in_effect configuration.lines) limits) before) id digits destination
+    → (replied_call ≡ call) × (granted ≡ units)
+    × IsRouted (replay (opening_of configuration.commands limits) before) id digits destination
 
 -- and each that was refused as no-default found no endpoint there
 abbrev pub RecordedRefusalsFoundNone : Type 0
 RecordedRefusalsFoundNone =
-    (lines : List (List ℕ)) (configuration : Configuration) (limits : Limits) (entries before : List Entry) (e : Entry)
-    → reading_in lines ≡ Ok configuration → IsLegal (opening_of (lines_in_effect configuration.lines) limits) entries → StandsBehind entries before e
+    (lines : List (List ℕ)) (configuration : Configuration) (limits : Limits)
+    (entries before : List Entry) (e : Entry)
+    → reading_in lines ≡ Ok configuration
+    → IsLegal (opening_of configuration.commands limits) entries
+    → StandsAfter entries before e
     → (call units : ℕ) (id digits : List ℕ) (replied_call : ℕ)
     → e.event ≡ Admit id call digits units → e.reply ≡ AdmitRefused replied_call (NoRoute NoDefault)
-    → (replied_call ≡ call) × FoundNone (replay (opening_of (lines_in_effect configuration.lines) limits) before) id digits
+    → (replied_call ≡ call)
+    × FoundNone (replay (opening_of configuration.commands limits) before) id digits
 
 -- ---- limits
--- endpoints and calls are within their limits, and the record has room for its entries and for one release of each open call
+-- endpoints and calls are within their limits, and the record has room for its entries and for one
+-- release of each open call
 pub record IsWithinLimits (s : State) : Type 0 where
   pub endpoints : length s.endpoints ≤ s.limits.endpoints
   pub calls : length s.calls ≤ s.limits.calls
   pub records : s.records + length s.calls ≤ s.limits.records
 
--- what every record keeps: its lines and limits, a count of its entries, and the limits
-pub record IsSound (lines : List Command) (limits : Limits) (entries : List Entry) (s : State) : Type 0 where
-  pub lines_are : s.lines ≡ lines
+-- what every record keeps: its commands and limits, a count of its entries, and the limits
+pub record IsSound
+    (commands : List Command) (limits : Limits) (entries : List Entry) (s : State)
+    : Type 0 where
+  pub commands_are : s.commands ≡ commands
   pub version_is : s.version ≡ 1
   pub limits_are : s.limits ≡ limits
-  pub counted : s.records ≡ length entries
+  pub records_are : s.records ≡ length entries
   pub within : IsWithinLimits s
 
 abbrev pub RecordsAreSound : Type 0
 RecordsAreSound =
-    (lines : List Command) (limits : Limits) (entries : List Entry)
-    → IsLegal (opening_of lines limits) entries → IsSound lines limits entries (replay (opening_of lines limits) entries)
+    (commands : List Command) (limits : Limits) (entries : List Entry)
+    → IsLegal (opening_of commands limits) entries
+    → IsSound commands limits entries (replay (opening_of commands limits) entries)

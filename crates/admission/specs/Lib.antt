@@ -1,10 +1,10 @@
+pub mod CoreInvariant
 pub mod Events
 pub mod History
 pub mod HistoryLaws
 pub mod Limits
-pub mod Machine
-pub mod Replies
 pub mod RouteLaws
+pub mod Routes
 pub mod Routing
 pub mod Ruling
 pub mod State

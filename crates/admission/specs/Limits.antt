@@ -10,5 +10,5 @@ is_limit most n = nat_le 1 n && nat_le n most
 -- each limit is in its range
 abbrev pub are_limits : Limits → Bool
 are_limits l =
-    is_limit MOST_ENDPOINTS l.endpoints && is_limit MOST_CALLS l.calls && is_limit MOST_RECORDS l.records
-    && is_limit MOST_RELOADS l.reloads
+    is_limit MOST_ENDPOINTS l.endpoints && is_limit MOST_CALLS l.calls
+    && is_limit MOST_RECORDS l.records && is_limit MOST_RELOADS l.reloads

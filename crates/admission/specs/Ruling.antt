@@ -1,40 +1,42 @@
--- What a machine rules of an event, room and memory aside.
+-- What a machine rules of an event, apart from counts and memory.
 use Rattle.std.specs.Prelude.{ℕ, Option, Some, None, option_map, if◌then◌else◌}
 use Rattle.registry.specs.Endpoint.{EndpointParts}
 use Rattle.admission.specs.State.{State}
 use Rattle.compiler.specs.Plan.{plan_of}
 use Rattle.admission.specs.Routing.{route_of}
 use Rattle.bandwidth.specs.Calls.{is_open, with_call}
-use Rattle.admission.specs.Step.{verdict_of, opened_call}
-use Rattle.admission.specs.History.{caller_of, route_found}
+use Rattle.admission.specs.Step.{verdict_of, opened_call_of_plan}
+use Rattle.admission.specs.History.{caller_of, found_route_of}
 use Rattle.bandwidth.specs.declared.calls.OpenCall.{OpenCall}
 use Rattle.compiler.specs.declared.tables.Plan.{Plan}
 use Rattle.admission.specs.declared.events.Event.{Event}
 use Rattle.admission.specs.declared.events.Event.TheVariants.{Register, Unregister, Admit}
 use Rattle.admission.specs.declared.machine.Ruling.{Ruling}
-use Rattle.admission.specs.declared.replies.Route.{Route}
-use Rattle.admission.specs.declared.replies.Route.TheVariants.{To, Refused}
+use Rattle.admission.specs.declared.routes.Route.{Route}
+use Rattle.admission.specs.declared.routes.Route.TheVariants.{To, Refused}
 
 -- the call that an admission to this route opens
-abbrev pub opened_by : EndpointParts → ℕ → ℕ → Plan → Route → Option OpenCall
-opened_by caller call units plan (Refused reason) = None
-opened_by caller call units plan (To destination) = Some (opened_call caller call units plan)
+abbrev pub opened_call_of_route : EndpointParts → ℕ → ℕ → Plan → Route → Option OpenCall
+opened_call_of_route caller call units plan (Refused reason) = None
+opened_call_of_route caller call units plan (To destination) =
+    Some (opened_call_of_plan caller call units plan)
 
 -- the call that an event of this caller would open
-abbrev pub opened_for : State → Event → Option EndpointParts → Option OpenCall
-opened_for s (Register e) caller = None
-opened_for s (Unregister id) caller = None
-opened_for s (Admit id call digits units) None = None
-opened_for s (Admit id call digits units) (Some caller) =
+abbrev pub opened_call_of : State → Event → Option EndpointParts → Option OpenCall
+opened_call_of s (Register e) caller = None
+opened_call_of s (Unregister id) caller = None
+opened_call_of s (Admit id call digits units) None = None
+opened_call_of s (Admit id call digits units) (Some caller) =
     if is_open s.calls call then None
-    else opened_by caller call units (plan_of s.lines digits) (route_of s.lines s.endpoints caller.zone digits)
+    else opened_call_of_route caller call units (plan_of s.commands digits)
+    (route_of s.commands s.endpoints caller.zone digits)
 
 abbrev pub ruling_of : State → Event → Ruling
 ruling_of s event = record {
   verdict = verdict_of s event;
   zone = option_map (λ caller. caller.zone) (caller_of s event);
-  route = route_found s event (caller_of s event);
-  opens = opened_for s event (caller_of s event);
+  route = found_route_of s event (caller_of s event);
+  opens = opened_call_of s event (caller_of s event);
 }
 
 -- with a call opened, if there is one

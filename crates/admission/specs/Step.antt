@@ -1,5 +1,5 @@
--- One event is one step: its verdict in the order of its refusals, then the refusals by a count, then what a granted
--- verdict changes.
+-- One event is one step: its verdict in the order of its refusals, then the refusals by a count,
+-- then what a granted verdict changes.
 use Rattle.std.specs.Prelude.{ℕ, ◌+◌, Bool, true, false, not, ◌&&◌, nat_lt, nat_le, List, length, Option, Some, None, if◌then◌else◌}
 use Rattle.registry.specs.Endpoint.{EndpointParts}
 use Rattle.admission.specs.State.{State, free_places}
@@ -13,57 +13,59 @@ use Rattle.bandwidth.specs.declared.calls.OpenCall.{OpenCall}
 use Rattle.compiler.specs.declared.tables.Plan.{Plan}
 use Rattle.admission.specs.declared.events.Event.{Event}
 use Rattle.admission.specs.declared.events.Event.TheVariants.{Register, Unregister, Admit}
-use Rattle.admission.specs.declared.replies.Route.{Route}
-use Rattle.admission.specs.declared.replies.Route.TheVariants.{To, Refused}
+use Rattle.admission.specs.declared.routes.Route.{Route}
+use Rattle.admission.specs.declared.routes.Route.TheVariants.{To, Refused}
 use Rattle.admission.specs.declared.replies.Duplicate.TheVariants.{Id, E164}
 use Rattle.admission.specs.declared.replies.RegisterRefusal.{RegisterRefusal}
-use Rattle.admission.specs.declared.replies.RegisterRefusal.TheVariants.{UnknownZone, DuplicateAlias, EndpointsFull, RecordFull as RecordFullToRegister, NoMemory as NoMemoryToRegister}
-use Rattle.admission.specs.declared.replies.UnregisterRefusal.TheVariants.{NotRegistered, CallInProgress, RecordFull as RecordFullToUnregister, NoMemory as NoMemoryToUnregister}
-use Rattle.admission.specs.declared.replies.AdmitRefusal.TheVariants.{CallerNotRegistered, CallOpen, NoRoute, CallsFull, RecordFull as RecordFullToAdmit, NoMemory as NoMemoryToAdmit}
+use Rattle.admission.specs.declared.replies.RegisterRefusal.TheVariants as register
+use Rattle.admission.specs.declared.replies.UnregisterRefusal.TheVariants as unregister
+use Rattle.admission.specs.declared.replies.AdmitRefusal.TheVariants as admit
 use Rattle.admission.specs.declared.replies.Reply.{Reply}
 use Rattle.admission.specs.declared.replies.Reply.TheVariants.{Registered, RegisterRefused, Unregistered, UnregisterRefused, Admitted, AdmitRefused}
 
 -- ---- registrations
--- why an endpoint may not register, room aside: the first of three refusals
+-- why an endpoint may not register, apart from the counts: the first of three refusals
 abbrev pub registration_refusal : State → EndpointParts → Option RegisterRefusal
 registration_refusal s e =
-    if is_local s.lines (zone_meant s.lines e.zone)
-    then (if id_is_taken s.endpoints e then Some (DuplicateAlias Id)
-    else (if alias_is_taken s.endpoints e then Some (DuplicateAlias E164) else None))
-    else Some UnknownZone
+    if is_local s.commands (zone_meant s.commands e.zone)
+    then (if id_is_taken s.endpoints e then Some (register.DuplicateAlias Id)
+    else (if alias_is_taken s.endpoints e then Some (register.DuplicateAlias E164) else None))
+    else Some register.UnknownZone
 
-abbrev pub registration_by : State → EndpointParts → Option RegisterRefusal → Reply
-registration_by s e (Some refusal) = RegisterRefused e.id refusal
-registration_by s e None = Registered e.id (zone_meant s.lines e.zone)
+abbrev pub verdict_of_refusal : State → EndpointParts → Option RegisterRefusal → Reply
+verdict_of_refusal s e (Some refusal) = RegisterRefused e.id refusal
+verdict_of_refusal s e None = Registered e.id (zone_meant s.commands e.zone)
 
-abbrev pub registration_verdict : State → EndpointParts → Reply
-registration_verdict s e = registration_by s e (registration_refusal s e)
+abbrev pub registration_verdict_of : State → EndpointParts → Reply
+registration_verdict_of s e = verdict_of_refusal s e (registration_refusal s e)
 
 -- ---- unregistrations
--- who is not registered, and who owns an open call, may not
-abbrev pub unregistration_verdict : State → List ℕ → Reply
-unregistration_verdict s id =
+-- an endpoint that is not registered, or that owns an open call, may not
+abbrev pub unregistration_verdict_of : State → List ℕ → Reply
+unregistration_verdict_of s id =
     if is_registered s.endpoints id
-    then (if owns s.calls id then UnregisterRefused id CallInProgress else Unregistered id)
-    else UnregisterRefused id NotRegistered
+    then (if owns s.calls id then UnregisterRefused id unregister.CallInProgress
+    else Unregistered id)
+    else UnregisterRefused id unregister.NotRegistered
 
 -- ---- admissions
-abbrev pub admission_by : ℕ → ℕ → Route → Reply
-admission_by call units (Refused reason) = AdmitRefused call (NoRoute reason)
-admission_by call units (To destination) = Admitted call destination units
+abbrev pub verdict_of_route : ℕ → ℕ → Route → Reply
+verdict_of_route call units (Refused reason) = AdmitRefused call (admit.NoRoute reason)
+verdict_of_route call units (To destination) = Admitted call destination units
 
--- a registered caller, no call of the number, and then where the digits lead
-abbrev pub admission_for : State → ℕ → List ℕ → ℕ → Option EndpointParts → Reply
-admission_for s call digits units None = AdmitRefused call CallerNotRegistered
-admission_for s call digits units (Some caller) =
-    if is_open s.calls call then AdmitRefused call CallOpen
-    else admission_by call units (route_of s.lines s.endpoints caller.zone digits)
+-- the caller is registered, no call of the number is open, and then the digits decide
+abbrev pub admission_verdict_of : State → ℕ → List ℕ → ℕ → Option EndpointParts → Reply
+admission_verdict_of s call digits units None = AdmitRefused call admit.CallerNotRegistered
+admission_verdict_of s call digits units (Some caller) =
+    if is_open s.calls call then AdmitRefused call admit.CallOpen
+    else verdict_of_route call units (route_of s.commands s.endpoints caller.zone digits)
 
 -- ---- the verdict
 unfoldable pub verdict_of : State → Event → Reply
-verdict_of s (Register e) = registration_verdict s e
-verdict_of s (Unregister id) = unregistration_verdict s id
-verdict_of s (Admit id call digits units) = admission_for s call digits units (endpoint_of s.endpoints id)
+verdict_of s (Register e) = registration_verdict_of s e
+verdict_of s (Unregister id) = unregistration_verdict_of s id
+verdict_of s (Admit id call digits units) =
+    admission_verdict_of s call digits units (endpoint_of s.endpoints id)
 
 abbrev pub is_granted : Reply → Bool
 is_granted (Registered id zone) = true
@@ -74,7 +76,8 @@ is_granted (Admitted call destination units) = true
 is_granted (AdmitRefused call reason) = false
 
 -- ---- what replaces a verdict
--- the free places of the record that a verdict needs: an admission one more than others, for the entry of its release
+-- the free places of the record that a verdict needs: an admission one more than others, for the
+-- entry of its release
 abbrev pub places_needed : Reply → ℕ
 places_needed (Registered id zone) = 1
 places_needed (RegisterRefused id reason) = 1
@@ -84,64 +87,82 @@ places_needed (Admitted call destination units) = 2
 places_needed (AdmitRefused call reason) = 1
 
 -- the refusal for a full record
-abbrev pub record_full : Event → Reply
-record_full (Register e) = RegisterRefused e.id RecordFullToRegister
-record_full (Unregister id) = UnregisterRefused id RecordFullToUnregister
-record_full (Admit id call digits units) = AdmitRefused call RecordFullToAdmit
+abbrev pub record_full_reply_of : Event → Reply
+record_full_reply_of (Register e) = RegisterRefused e.id register.RecordFull
+record_full_reply_of (Unregister id) = UnregisterRefused id unregister.RecordFull
+record_full_reply_of (Admit id call digits units) = AdmitRefused call admit.RecordFull
 
--- it comes where the record lacks the places
-abbrev pub unless_recordable : State → Event → Reply → Option Reply
-unless_recordable s event verdict = if nat_lt (free_places s) (places_needed verdict) then Some (record_full event) else None
+-- it comes if the record lacks the places
+abbrev pub record_refusal : State → Event → Reply → Option Reply
+record_refusal s event verdict =
+    if nat_lt (free_places s) (places_needed verdict) then Some (record_full_reply_of event)
+    else None
 
--- a new endpoint would be registered, and as many are as may be
+-- a new endpoint would be registered, and there are as many as the limit allows
 abbrev pub are_endpoints_full : State → EndpointParts → Reply → Bool
-are_endpoints_full s e verdict = is_granted verdict && not (is_registered s.endpoints e.id) && nat_le s.limits.endpoints (length s.endpoints)
+are_endpoints_full s e verdict =
+    is_granted verdict && not (is_registered s.endpoints e.id)
+    && nat_le s.limits.endpoints (length s.endpoints)
 
--- a call would be opened, and as many are open as may be
+-- a call would be opened, and as many are open as the limit allows
 abbrev pub are_calls_full : State → Reply → Bool
-are_calls_full s verdict = is_granted verdict && nat_le s.limits.calls (length s.calls)
+are_calls_full s verdict =
+    is_granted verdict && nat_le s.limits.calls (length s.calls)
 
 -- the first refusal by a count: endpoints-full, calls-full, record-full
 unfoldable pub count_refusal : State → Event → Reply → Option Reply
 count_refusal s (Register e) verdict =
-    if are_endpoints_full s e verdict then Some (RegisterRefused e.id EndpointsFull) else unless_recordable s (Register e) verdict
-count_refusal s (Unregister id) verdict = unless_recordable s (Unregister id) verdict
+    if are_endpoints_full s e verdict then Some (RegisterRefused e.id register.EndpointsFull)
+    else record_refusal s (Register e) verdict
+count_refusal s (Unregister id) verdict = record_refusal s (Unregister id) verdict
 count_refusal s (Admit id call digits units) verdict =
-    if are_calls_full s verdict then Some (AdmitRefused call CallsFull) else unless_recordable s (Admit id call digits units) verdict
+    if are_calls_full s verdict then Some (AdmitRefused call admit.CallsFull)
+    else record_refusal s (Admit id call digits units) verdict
 
 -- ---- what a granted verdict changes
 -- the call that an admission of this caller opens
-abbrev pub opened_call : EndpointParts → ℕ → ℕ → Plan → OpenCall
-opened_call caller call units plan =
-    record { number = call; owner = caller.id; source = caller.zone; target = target_of caller.zone plan; remote = is_remote plan; units = units }
+abbrev pub opened_call_of_plan : EndpointParts → ℕ → ℕ → Plan → OpenCall
+opened_call_of_plan caller call units plan = record {
+  number = call;
+  owner = caller.id;
+  source = caller.zone;
+  target = target_of caller.zone plan;
+  remote = is_remote plan;
+  units = units;
+}
 
 abbrev pub with_admitted : State → ℕ → List ℕ → ℕ → Option EndpointParts → State
 with_admitted s call digits units None = s
-with_admitted s call digits units (Some caller) = record s { calls = with_call s.calls (opened_call caller call units (plan_of s.lines digits)) }
+with_admitted s call digits units (Some caller) =
+    let opened = opened_call_of_plan caller call units (plan_of s.commands digits) in
+    record s { calls = with_call s.calls opened }
 
 -- the endpoint in the zone that it means
-abbrev pub placed : List Command → EndpointParts → EndpointParts
-placed lines e = record e { zone = zone_meant lines e.zone }
+abbrev pub with_zone_meant : List Command → EndpointParts → EndpointParts
+with_zone_meant commands e = record e { zone = zone_meant commands e.zone }
 
-abbrev pub granted : State → Event → State
-granted s (Register e) = record s { endpoints = with_endpoint s.endpoints (placed s.lines e) }
-granted s (Unregister id) = record s { endpoints = without_endpoint s.endpoints id }
-granted s (Admit id call digits units) = with_admitted s call digits units (endpoint_of s.endpoints id)
+-- what was granted
+abbrev pub with_grant : State → Event → State
+with_grant s (Register e) =
+    record s { endpoints = with_endpoint s.endpoints (with_zone_meant s.commands e) }
+with_grant s (Unregister id) = record s { endpoints = without_endpoint s.endpoints id }
+with_grant s (Admit id call digits units) =
+    with_admitted s call digits units (endpoint_of s.endpoints id)
 
 -- one more verdict was recorded
-abbrev pub counted : State → State
-counted s = record s { records = s.records + 1 }
+abbrev pub with_count : State → State
+with_count s = record s { records = s.records + 1 }
 
 -- what a verdict changes: nothing, unless it is granted
-abbrev pub changed : State → Event → Reply → State
-changed s event verdict = if is_granted verdict then granted s event else s
+abbrev pub with_verdict : State → Event → Reply → State
+with_verdict s event verdict = if is_granted verdict then with_grant s event else s
 
--- the state behind a verdict that no count refuses
+-- the state after a verdict that no count refuses
 unfoldable pub state_after : State → Event → Reply → State
-state_after s event verdict = counted (changed s event verdict)
+state_after s event verdict = with_count (with_verdict s event verdict)
 
 -- ---- a step
--- a reply, whether it was recorded, and the state behind it
+-- a reply, whether it was recorded, and the state after it
 pub record Outcome : Type 0 where
   pub reply : Reply
   pub recorded : Bool
@@ -149,14 +170,17 @@ pub record Outcome : Type 0 where
 
 abbrev pub outcome_of : State → Event → Reply → Option Reply → Outcome
 outcome_of s event verdict (Some refusal) = record { reply = refusal; recorded = false; state = s }
-outcome_of s event verdict None = record { reply = verdict; recorded = true; state = state_after s event verdict }
+outcome_of s event verdict None =
+    record { reply = verdict; recorded = true; state = state_after s event verdict }
 
 unfoldable pub step : State → Event → Outcome
-step s event = let verdict = verdict_of s event in outcome_of s event verdict (count_refusal s event verdict)
+step s event =
+    let verdict = verdict_of s event in
+    outcome_of s event verdict (count_refusal s event verdict)
 
--- ---- want of memory
--- the reply where memory is refused for an event that would be recorded
-abbrev pub no_memory_to : Event → Reply
-no_memory_to (Register e) = RegisterRefused e.id NoMemoryToRegister
-no_memory_to (Unregister id) = UnregisterRefused id NoMemoryToUnregister
-no_memory_to (Admit id call digits units) = AdmitRefused call NoMemoryToAdmit
+-- ---- out of memory
+-- the reply if memory runs out for an event that would be recorded
+abbrev pub no_memory_reply_of : Event → Reply
+no_memory_reply_of (Register e) = RegisterRefused e.id register.NoMemory
+no_memory_reply_of (Unregister id) = UnregisterRefused id unregister.NoMemory
+no_memory_reply_of (Admit id call digits units) = AdmitRefused call admit.NoMemory

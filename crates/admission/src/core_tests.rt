@@ -1,9 +1,10 @@
-//! The core, event by event: its replies, and what stands.
+//! The core, event by event: its replies and its state.
 
 use crate::cores::{Core, OpeningFault};
 use crate::events::{Event, EventKind};
-use crate::limits::{Limits, STATED};
-use crate::replies::{AdmitRefusal, Destination, RegisterRefusal, Reply, Route, UnregisterRefusal};
+use crate::limits::{Limits, STATED_LIMITS};
+use crate::replies::{AdmitRefusal, RegisterRefusal, Reply, UnregisterRefusal};
+use crate::routes::{Destination, Route};
 use crate::test_cores::{
     BAD_LIMITS, admission, away, core_within, entry, five_events, opening, receipt_of,
     reply_of_unrecorded, terminal,
@@ -18,17 +19,17 @@ use std::test::Fail;
 /// The record has room for one entry.
 const ONE_RECORD: Limits = Limits {
     records: 1,
-    ..STATED
+    ..STATED_LIMITS
 };
 
 #[test]
-fn keeps_what_stands(rt: HostRuntime) -> Result<(), Fail> {
-    let mut core = core_within(rt.alloc(), STATED)?;
-    assert_standing(&rt, rt.alloc(), &mut core)
+fn keeps_its_state(rt: HostRuntime) -> Result<(), Fail> {
+    let mut core = core_within(rt.alloc(), STATED_LIMITS)?;
+    assert_state(&rt, rt.alloc(), &mut core)
 }
 
-/// Asserts what stands behind five events.
-fn assert_standing(rt: &impl Abort, alloc: Global, core: &mut Core) -> Result<(), Fail> {
+/// Asserts the state after five events.
+fn assert_state(rt: &impl Abort, alloc: Global, core: &mut Core) -> Result<(), Fail> {
     five_events(alloc, core)?;
     assert_eq!(rt; core.version(), Version::new(1));
     assert_eq!(rt; core.tables().commands().len(), 4);
@@ -49,7 +50,7 @@ fn assert_standing(rt: &impl Abort, alloc: Global, core: &mut Core) -> Result<()
 
 #[test]
 fn keeps_the_calls_within_a_zone(rt: HostRuntime) -> Result<(), Fail> {
-    let mut core = core_within(rt.alloc(), STATED)?;
+    let mut core = core_within(rt.alloc(), STATED_LIMITS)?;
     assert_calls(&rt, rt.alloc(), &mut core)
 }
 
@@ -92,7 +93,7 @@ fn assert_calls(rt: &impl Abort, alloc: Global, core: &mut Core) -> Result<(), F
 
 #[test]
 fn answers_each_kind_of_event(rt: HostRuntime) -> Result<(), Fail> {
-    let mut core = core_within(rt.alloc(), STATED)?;
+    let mut core = core_within(rt.alloc(), STATED_LIMITS)?;
     assert_answers(&rt, rt.alloc(), &mut core)
 }
 
@@ -149,7 +150,7 @@ fn assert_answers(rt: &impl Abort, alloc: Global, core: &mut Core) -> Result<(),
 
 #[test]
 fn plans_anew_for_another_version(rt: HostRuntime) -> Result<(), Fail> {
-    let mut core = core_within(rt.alloc(), STATED)?;
+    let mut core = core_within(rt.alloc(), STATED_LIMITS)?;
     assert_planned(&rt, rt.alloc(), &mut core)
 }
 
@@ -177,8 +178,8 @@ fn assert_planned(rt: &impl Abort, alloc: Global, core: &mut Core) -> Result<(),
 }
 
 #[test]
-fn who_registers_again_later_stands_last(rt: HostRuntime) -> Result<(), Fail> {
-    let mut core = core_within(rt.alloc(), STATED)?;
+fn an_endpoint_that_registers_again_comes_last(rt: HostRuntime) -> Result<(), Fail> {
+    let mut core = core_within(rt.alloc(), STATED_LIMITS)?;
     assert_order(&rt, rt.alloc(), &mut core)
 }
 
@@ -206,7 +207,7 @@ fn opens_within_its_limits_alone(rt: HostRuntime) -> Result<(), Fail> {
         records: 1,
         reloads: 1,
     };
-    for limits in [STATED, least] {
+    for limits in [STATED_LIMITS, least] {
         let core = core_within(rt.alloc(), limits)?;
         assert_eq!(rt; core.record().len(), 0);
         assert_eq!(rt; core.registry().len(), 0);

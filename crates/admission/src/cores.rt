@@ -13,7 +13,7 @@ use crate::limits::Limits;
 use crate::machine::{Machine, Ruling};
 use crate::record::{Receipt, Record};
 use crate::replies::Reply;
-use crate::verdicts::no_memory_to;
+use crate::verdicts::no_memory_reply_of;
 use bandwidth::OpenCalls;
 use compiler::{Plan, Routed, Tables};
 use gk_terms::{Dialled, Name, Units, Version};
@@ -28,14 +28,14 @@ pub enum OpeningFault {
     /// A limit is 0 or above the stated one.
     #[error("bad limits")]
     BadLimits,
-    /// Memory was refused.
+    /// Memory ran out.
     #[error("no memory")]
     NoMemory,
 }
 
-/// A gatekeeper's core: the configuration in force, the registered endpoints, the open calls, and the record from which
-/// all of it replays. A contract sees it as `CoreParts`: its opening state and the entries of its record; the state that
-/// stands is the replay of the entries.
+/// A gatekeeper's core: the configuration in force, the registered endpoints, the open calls, and
+/// the record from which all of it can be rebuilt. A contract sees it as `CoreParts`: its opening
+/// state and the entries of its record; the current state is the replay of the entries.
 #[derive(Drop)]
 pub struct Core {
     machine: Machine,
@@ -44,20 +44,26 @@ pub struct Core {
 
 impl Model for Core {
     ghost use Rattle.admission.specs.State.{opening_of};
-    ghost use Rattle.admission.specs.History.{CoreParts, IsKept};
+    ghost use Rattle.admission.specs.CoreInvariant.{IsKept};
+    ghost use Rattle.admission.specs.History.{CoreParts};
 
     ghost Value = { CoreParts };
 
-    ghost view = { λ c. record { opening = opening_of c.machine.lines c.machine.limits; entries = c.entries } };
+    ghost view = { λ c. record {
+      opening = opening_of c.machine.commands c.machine.limits;
+      entries = c.entries;
+    } };
 
-    ghost invariant = { λ c. IsKept (opening_of c.machine.lines c.machine.limits) c.entries c.machine };
+    ghost invariant = { λ c. IsKept
+        (opening_of c.machine.commands c.machine.limits) c.entries c.machine };
 }
 
 impl Core {
     /// A core with these tables as version 1, and nothing registered, open or recorded.
-    /// `BadLimits` comes exactly where a limit is 0 or above the stated one.
+    /// `BadLimits` comes exactly if a limit is 0 or above the stated one.
     pub fn new(alloc: Global, tables: Tables, limits: Limits) -> Result<Core, OpeningFault>
-        ensures opened { IfOk result (λ core. core ≡ record { opening = opening_of tables limits; entries = [] }) }
+        ensures opened { IfOk result (λ core. core
+            ≡ record { opening = opening_of tables.commands limits; entries = [] }) }
         ensures limits { IsErrOf result OpeningFault.BadLimits ↔ (are_limits limits ≡ false) }
     {
         if !limits.are_good() {
@@ -87,8 +93,9 @@ impl Core {
         self.settle(Event::Unregister { id: *id }, &ruling)
     }
 
-    /// Admits a call to where its digits were routed. Where that was done under the version in force, the plan has to be
-    /// what its tables say of the digits; a plan of another version is made anew. Ok and Err are as of `answer`.
+    /// Admits a call to where its digits were routed. If that was done under the version in force,
+    /// the plan has to be what its tables say of the digits; a plan of another version is made
+    /// anew. Ok and Err are as of `answer`.
     pub fn admit(
         &mut self,
         routed: &Routed,
@@ -96,8 +103,10 @@ impl Core {
         call: u32,
         units: Units,
     ) -> Result<(Reply, Receipt), Reply>
-        requires planned { routed.now.version ≡ (state_of self.old).version → routed.now.plan ≡ plan_of (state_of self.old).lines routed.now.dialled }
-        ensures { Steps self.old (Event.Admit id.now call routed.now.dialled units) result self.new }
+        requires planned { routed.now.version ≡ (state_of self.old).version
+            → routed.now.plan ≡ plan_of (state_of self.old).commands routed.now.dialled }
+        ensures { Steps self.old (Event.Admit id.now call routed.now.dialled units)
+            result self.new }
     {
         let digits = routed.dialled;
         let plan = self.plan_for(routed);
@@ -113,9 +122,10 @@ impl Core {
 
     /// Answers an event. An admission is planned by the tables in force.
     ///
-    /// `Ok` comes exactly where the event was recorded: with the reply, granted or refused, and the receipt of the new
-    /// entry. `Err` is a refusal by a count (endpoints-full, calls-full, record-full), or no-memory where the event would
-    /// have been recorded; then nothing has changed.
+    /// `Ok` comes exactly if the event was recorded: with the reply, granted or refused, and the
+    /// receipt of the new entry. `Err` is a refusal by a count (endpoints-full, calls-full,
+    /// record-full), or no-memory if memory ran out for an event that would have been recorded;
+    /// then nothing has changed.
     pub fn answer(&mut self, event: Event) -> Result<(Reply, Receipt), Reply>
         ensures { Steps self.old event result self.new }
     {
@@ -138,16 +148,18 @@ impl Core {
     pub fn route_here(&self, digits: &Dialled) -> Routed
         ensures version { result.version ≡ (state_of self.now).version }
         ensures dialled { result.dialled ≡ digits.now }
-        ensures plan { result.plan ≡ plan_of (state_of self.now).lines digits.now }
+        ensures plan { result.plan ≡ plan_of (state_of self.now).commands digits.now }
     {
         let machine = self.machine();
         machine.tables().routed(machine.version(), digits)
     }
 
-    /// The plan of the tables in force for the digits: the one given where it is of the version in force, else made anew.
+    /// The plan of the tables in force for the digits: the one given if it is of the version in
+    /// force, else made anew.
     fn plan_for(&self, routed: &Routed) -> Plan
-        requires { routed.now.version ≡ (state_of self.now).version → routed.now.plan ≡ plan_of (state_of self.now).lines routed.now.dialled }
-        ensures { result ≡ plan_of (state_of self.now).lines routed.now.dialled }
+        requires { routed.now.version ≡ (state_of self.now).version
+            → routed.now.plan ≡ plan_of (state_of self.now).commands routed.now.dialled }
+        ensures { result ≡ plan_of (state_of self.now).commands routed.now.dialled }
     {
         if routed.version == self.machine().version() {
             routed.plan
@@ -164,7 +176,7 @@ impl Core {
         if let Some(refusal) = self.machine.count_refusal(&event, &ruling.verdict) {
             return Err(refusal);
         }
-        let no_memory = no_memory_to(&event);
+        let no_memory = no_memory_reply_of(&event);
         match self.entries.enter(&mut self.machine, event, ruling) {
             Ok(receipt) => Ok((ruling.verdict, receipt)),
             Err(_) => Err(no_memory),
@@ -182,7 +194,7 @@ impl Core {
 
     /// The tables in force.
     pub fn tables(&self) -> &Tables
-        ensures { result.now ≡ (state_of self.now).lines }
+        ensures { result.now.commands ≡ (state_of self.now).commands }
     {
         self.machine().tables()
     }
@@ -202,18 +214,20 @@ impl Core {
     }
 
     #[tactic(auto, using(crate::proofs::CoreLemmas::is_legal, crate::proofs::CoreLemmas::is_sound))]
-    /// The record. Each entry is what the rules say of its event in the state that the entries before it leave, and with
-    /// a place for the release of each open call it stays within the limit of the record.
+    /// The record. Each entry is what the rules say of its event in the state that the entries
+    /// before it leave, and with a place for the release of each open call it stays within the
+    /// limit of the record.
     pub fn record(&self) -> &Record
         ensures entries { result.now ≡ self.now.entries }
         ensures legal { IsLegal self.now.opening self.now.entries }
-        ensures sound { IsSound self.now.opening.lines self.now.opening.limits self.now.entries (state_of self.now) }
+        ensures sound { IsSound self.now.opening.commands self.now.opening.limits
+            self.now.entries (state_of self.now) }
     {
         &self.entries
     }
 
     #[tactic(auto, unfolding(crate::specs::History::state_of))]
-    /// What stands: the replay of the record.
+    /// The current state: the replay of the record.
     fn machine(&self) -> &Machine
         ensures { result.now ≡ state_of self.now }
     {

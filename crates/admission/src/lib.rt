@@ -14,15 +14,14 @@ pub mod record;
 #[cfg(test)]
 mod record_tests;
 pub mod replies;
+pub mod routes;
 #[cfg(test)]
 mod test_cores;
 mod verdicts;
 
 pub use cores::{Core, OpeningFault};
 pub use events::{Event, EventKind};
-pub use limits::{Limits, STATED};
+pub use limits::{Limits, STATED_LIMITS};
 pub use record::{Entry, Receipt, Record};
-pub use replies::{
-    AdmitRefusal, Destination, Duplicate, RegisterRefusal, Reply, Route, RouteRefusal,
-    UnregisterRefusal,
-};
+pub use replies::{AdmitRefusal, Duplicate, RegisterRefusal, Reply, UnregisterRefusal};
+pub use routes::{Destination, Route, RouteRefusal};

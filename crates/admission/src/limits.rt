@@ -16,7 +16,7 @@ pub struct Limits {
 }
 
 /// The stated limits.
-pub const STATED: Limits = Limits {
+pub const STATED_LIMITS: Limits = Limits {
     endpoints: MOST_ENDPOINTS,
     calls: MOST_CALLS,
     records: MOST_RECORDS,

@@ -1,23 +1,21 @@
-//! The machine: what stands while a core runs, and what it rules of an event.
+//! The machine: the state of a running core, and what it rules of an event.
 
 ghost use Rattle.std.specs.Prelude.{◌≡◌, ◌≤◌, ◌+◌, Some, None, false, IfSome, OnOk, OnErr, MatchResult};
 ghost use Rattle.bandwidth.specs.Calls.{is_open};
-ghost use Rattle.admission.specs.State.{opening_of, free_places};
+ghost use Rattle.compiler.specs.Plan.{plan_of};
 ghost use Rattle.compiler.specs.Zones.{zone_meant};
 ghost use Rattle.registry.specs.Registration.{by_alias};
-ghost use Rattle.compiler.specs.Plan.{plan_of, target_of as target_zone_of, is_remote as leads_away};
-ghost use Rattle.admission.specs.Routing.{route_of, to_alias, to_kind};
-ghost use Rattle.admission.specs.Step.{registration_refusal, verdict_of, unless_recordable, are_endpoints_full as are_full_of_endpoints, are_calls_full as are_full_of_calls, count_refusal, changed, state_after};
-ghost use Rattle.admission.specs.Ruling.{ruling_of, opened_by as call_opened_by, with_opened};
+ghost use Rattle.admission.specs.State.{opening_of, free_places};
+ghost use Rattle.admission.specs.Routing as Routing;
+ghost use Rattle.admission.specs.Step.{registration_refusal, verdict_of, record_refusal, are_endpoints_full, are_calls_full, count_refusal, with_verdict, state_after};
+ghost use Rattle.admission.specs.Ruling as Rulings;
 
 use crate::events::Event;
 use crate::limits::Limits;
 use crate::record::Entry;
-use crate::replies::{
-    AdmitRefusal, Destination, Duplicate, RegisterRefusal, Reply, Route, RouteRefusal,
-    UnregisterRefusal,
-};
-use crate::verdicts::{is_granted, places_needed, record_full, refused, reply_by};
+use crate::replies::{AdmitRefusal, Duplicate, RegisterRefusal, Reply, UnregisterRefusal};
+use crate::routes::{Destination, Route, RouteRefusal};
+use crate::verdicts::{is_granted, places_needed, record_full_reply_of, refused, verdict_of_route};
 use bandwidth::{OpenCall, OpenCalls};
 use compiler::{Plan, Tables};
 use gk_terms::{Dialled, Name, Units, Version};
@@ -25,8 +23,8 @@ use registry::{Endpoint, EndpointKind, Registry};
 use std::alloc::{AllocError, Global};
 use std::marker::Model;
 
-/// The tables in force, the registered endpoints, the open calls, the number of recorded verdicts and the limits.
-/// A contract sees them as a `State`.
+/// The tables in force, the registered endpoints, the open calls, the number of recorded verdicts
+/// and the limits. A contract sees them as a `State`.
 #[derive(Drop)]
 pub struct Machine {
     tables: Tables,
@@ -42,17 +40,24 @@ impl Model for Machine {
 
     ghost Value = { State };
 
-    ghost view = { λ m. record { lines = m.tables; version = m.version; endpoints = m.registry; calls = m.calls; records = m.records; limits = m.limits } };
+    ghost view = { λ m. record {
+      commands = m.tables.commands;
+      version = m.version;
+      endpoints = m.registry;
+      calls = m.calls;
+      records = m.records;
+      limits = m.limits;
+    } };
 }
 
-/// What the machine rules of an event, room and memory aside.
+/// What the machine rules of an event, apart from counts and memory.
 #[derive(Clone, Copy)]
 pub struct Ruling {
     /// The verdict.
     pub verdict: Reply,
-    /// Of an admission: the zone of the caller, where it is registered.
+    /// Of an admission: the zone of the caller, if it is registered.
     pub zone: Option<Name>,
-    /// Of an admission: where the digits lead, where that was looked for.
+    /// Of an admission: where the digits lead, if that was looked for.
     pub route: Option<Route>,
     /// Of a granted admission: the call that it opens.
     pub opens: Option<OpenCall>,
@@ -61,7 +66,7 @@ pub struct Ruling {
 impl Machine {
     /// These tables as version 1, and nothing registered, open or recorded.
     pub fn new(alloc: Global, tables: Tables, limits: Limits) -> Machine
-        ensures { result ≡ opening_of tables limits }
+        ensures { result ≡ opening_of tables.commands limits }
     {
         Machine {
             tables,
@@ -84,7 +89,7 @@ impl Machine {
 
     /// The tables in force.
     pub fn tables(&self) -> &Tables
-        ensures { result.now ≡ self.now.lines }
+        ensures { result.now.commands ≡ self.now.commands }
     {
         &self.tables
     }
@@ -106,10 +111,10 @@ impl Machine {
     // ---- rulings
 
     #[tactic(auto, unfolding(crate::specs::Step::verdict_of))]
-    /// The ruling on a registration. The refusals are tried in this order: the zone is no local zone; the ID is
-    /// registered from another address; an alias is another endpoint's.
+    /// The ruling on a registration. The refusals are tried in this order: the zone is not a local
+    /// zone; the ID is registered from another address; an alias is another endpoint's.
     pub fn registration(&self, endpoint: &Endpoint) -> Ruling
-        ensures { result ≡ ruling_of self.now (Event.Register endpoint.now) }
+        ensures { result ≡ Rulings.ruling_of self.now (Event.Register endpoint.now) }
     {
         let id = endpoint.id();
         Ruling::without_call(match self.placement(endpoint) {
@@ -121,7 +126,8 @@ impl Machine {
     /// The local zone in which the endpoint may register, or the first refusal.
     fn placement(&self, endpoint: &Endpoint) -> Result<Name, RegisterRefusal>
         ensures { MatchResult result
-            (λ zone. (registration_refusal self.now endpoint.now ≡ None) × (zone ≡ zone_meant self.now.lines endpoint.now.zone))
+            (λ zone. (registration_refusal self.now endpoint.now ≡ None)
+            × (zone ≡ zone_meant self.now.commands endpoint.now.zone))
             (λ reason. registration_refusal self.now endpoint.now ≡ Some reason) }
     {
         let Some(zone) = self.tables.local_zone(&endpoint.zone()) else {
@@ -137,10 +143,10 @@ impl Machine {
     }
 
     #[tactic(auto, unfolding(crate::specs::Step::verdict_of))]
-    /// The ruling on an unregistration. The refusals are tried in this order: the ID is not registered; it owns an
-    /// open call.
+    /// The ruling on an unregistration. The refusals are tried in this order: the ID is not
+    /// registered; it owns an open call.
     pub fn unregistration(&self, id: &Name) -> Ruling
-        ensures { result ≡ ruling_of self.now (Event.Unregister id.now) }
+        ensures { result ≡ Rulings.ruling_of self.now (Event.Unregister id.now) }
     {
         let id = *id;
         Ruling::without_call(if !self.registry.is_registered(&id) {
@@ -155,8 +161,9 @@ impl Machine {
     }
 
     #[tactic(auto, unfolding(crate::specs::Step::verdict_of))]
-    /// The ruling on an admission, where the plan is what the lines in force say of the digits. The refusals are
-    /// tried in this order: the caller is not registered; a call of the number is open; the digits lead nowhere.
+    /// The ruling on an admission; the plan is what the commands in force say of the digits. The
+    /// refusals are tried in this order: the caller is not registered; a call of the number is
+    /// open; the digits lead nowhere.
     pub fn admission(
         &self,
         plan: &Plan,
@@ -165,8 +172,8 @@ impl Machine {
         digits: &Dialled,
         units: Units,
     ) -> Ruling
-        requires planned { plan.now ≡ plan_of self.now.lines digits.now }
-        ensures { result ≡ ruling_of self.now (Event.Admit id.now call digits.now units) }
+        requires planned { plan.now ≡ plan_of self.now.commands digits.now }
+        ensures { result ≡ Rulings.ruling_of self.now (Event.Admit id.now call digits.now units) }
     {
         let Some(caller) = self.registry.endpoint(id) else {
             return Ruling {
@@ -187,18 +194,19 @@ impl Machine {
         }
         let route = self.route(plan, &zone, digits);
         Ruling {
-            verdict: reply_by(&route, call, units),
+            verdict: verdict_of_route(&route, call, units),
             zone: Some(zone),
             route: Some(route),
-            opens: opened_by(caller, call, units, plan, &route),
+            opens: opened_call_of_route(caller, call, units, plan, &route),
         }
     }
 
     #[tactic(auto, unfolding(crate::specs::Routing::route_of))]
     /// Where the digits lead a caller of this zone.
     fn route(&self, plan: &Plan, caller: &Name, digits: &Dialled) -> Route
-        requires { plan.now ≡ plan_of self.now.lines digits.now }
-        ensures { result ≡ route_of self.now.lines self.now.endpoints caller.now digits.now }
+        requires { plan.now ≡ plan_of self.now.commands digits.now }
+        ensures { result
+            ≡ Routing.route_of self.now.commands self.now.endpoints caller.now digits.now }
     {
         match plan {
             Plan::Remote { zone, address } => Route::To(Destination::Zone {
@@ -212,7 +220,8 @@ impl Machine {
 
     /// To the endpoint of the zone that has the digits as an alias.
     fn by_alias(&self, zone: &Name, digits: &Dialled) -> Route
-        ensures { result ≡ to_alias (by_alias self.now.endpoints zone.now digits.now) }
+        ensures { result
+            ≡ Routing.route_of_endpoint (by_alias self.now.endpoints zone.now digits.now) }
     {
         match self.registry.by_alias(zone, digits) {
             Some(endpoint) => Route::To(destination_of(endpoint)),
@@ -223,9 +232,10 @@ impl Machine {
     // ---- refusals by a count
 
     #[tactic(auto, unfolding(crate::specs::Step::count_refusal))]
-    /// What replaces a verdict: endpoints-full where a new endpoint would be registered and as many are as may be;
-    /// calls-full where a call would be opened and as many are as may be; and else record-full where the record
-    /// lacks the free places, two for a granted admission and one for another verdict.
+    /// What replaces a verdict: endpoints-full if a new endpoint would be registered and there are
+    /// as many as the limit allows; calls-full if a call would be opened and as many are open as
+    /// the limit allows; and else record-full if the record lacks the free places, two for a
+    /// granted admission and one for another verdict.
     pub fn count_refusal(&self, event: &Event, verdict: &Reply) -> Option<Reply>
         ensures { result ≡ count_refusal self.now event.now verdict.now }
     {
@@ -244,37 +254,38 @@ impl Machine {
                 }
             }
         }
-        self.unless_recordable(event, verdict)
+        self.record_refusal(event, verdict)
     }
 
-    /// Whether a new endpoint would be registered, and as many are as may be.
+    /// Whether a new endpoint would be registered, and there are as many as the limit allows.
     fn are_endpoints_full(&self, endpoint: &Endpoint, verdict: &Reply) -> bool
-        ensures { result ≡ are_full_of_endpoints self.now endpoint.now verdict.now }
+        ensures { result ≡ are_endpoints_full self.now endpoint.now verdict.now }
     {
         is_granted(verdict)
             && !self.registry.is_registered(&endpoint.id())
             && self.limits.endpoints as usize <= self.registry.len()
     }
 
-    /// Whether a call would be opened, and as many are as may be.
+    /// Whether a call would be opened, and as many are open as the limit allows.
     fn are_calls_full(&self, verdict: &Reply) -> bool
-        ensures { result ≡ are_full_of_calls self.now verdict.now }
+        ensures { result ≡ are_calls_full self.now verdict.now }
     {
         is_granted(verdict) && self.limits.calls as usize <= self.calls.len()
     }
 
-    /// record-full, where the record lacks the free places that the verdict needs.
-    fn unless_recordable(&self, event: &Event, verdict: &Reply) -> Option<Reply>
-        ensures { result ≡ unless_recordable self.now event.now verdict.now }
+    /// record-full, if the record lacks the free places that the verdict needs.
+    fn record_refusal(&self, event: &Event, verdict: &Reply) -> Option<Reply>
+        ensures { result ≡ record_refusal self.now event.now verdict.now }
     {
         if self.free_places() < places_needed(verdict) {
-            Some(record_full(event))
+            Some(record_full_reply_of(event))
         } else {
             None
         }
     }
 
-    /// The places of the record that no entry has, and that no open call keeps for the entry of its release.
+    /// The places of the record that are neither taken by an entry nor kept by an open call for the
+    /// entry of its release.
     fn free_places(&self) -> usize
         ensures { result ≡ free_places self.now }
     {
@@ -296,12 +307,14 @@ impl Machine {
     }
 
     #[tactic(auto, unfolding(crate::specs::Step::state_after))]
-    /// Carries out a ruling that no count refuses: a granted one changes the endpoints or the calls, and each is
-    /// counted. Where memory is refused, nothing changes.
+    /// Carries out a ruling that no count refuses: a granted one changes the endpoints or the
+    /// calls, and each is counted. If memory runs out, nothing changes.
     pub fn carry_out(&mut self, event: &Event, ruling: &Ruling) -> Result<(), AllocError>
-        requires ruled { ruling.now ≡ ruling_of self.old event.now }
-        requires recordable { count_refusal self.old event.now (verdict_of self.old event.now) ≡ None }
-        ensures ok { OnOk result (self.new ≡ state_after self.old event.now (verdict_of self.old event.now)) }
+        requires ruled { ruling.now ≡ Rulings.ruling_of self.old event.now }
+        requires recordable { count_refusal self.old event.now (verdict_of self.old event.now)
+            ≡ None }
+        ensures ok { OnOk result (self.new
+            ≡ state_after self.old event.now (verdict_of self.old event.now)) }
         ensures err { OnErr result (self.new ≡ self.old) }
     {
         let records = self.next_number();
@@ -313,8 +326,9 @@ impl Machine {
     #[tactic(auto, using(crate::proofs::MachineLemmas::opened_changes))]
     /// Changes what a granted ruling changes.
     fn change(&mut self, event: &Event, ruling: &Ruling) -> Result<(), AllocError>
-        requires { ruling.now ≡ ruling_of self.old event.now }
-        ensures ok { OnOk result (self.new ≡ changed self.old event.now (verdict_of self.old event.now)) }
+        requires { ruling.now ≡ Rulings.ruling_of self.old event.now }
+        ensures ok { OnOk result (self.new
+            ≡ with_verdict self.old event.now (verdict_of self.old event.now)) }
         ensures err { OnErr result (self.new ≡ self.old) }
     {
         match event {
@@ -328,10 +342,12 @@ impl Machine {
     }
 
     #[tactic(auto, unfolding(crate::specs::Step::verdict_of))]
-    /// Puts a copy of an endpoint that is granted its registration among the endpoints, in its zone.
+    /// Puts a copy of an endpoint that is granted its registration among the endpoints, in its
+    /// zone.
     fn place(&mut self, endpoint: &Endpoint, verdict: &Reply) -> Result<(), AllocError>
         requires { verdict.now ≡ verdict_of self.old (Event.Register endpoint.now) }
-        ensures ok { OnOk result (self.new ≡ changed self.old (Event.Register endpoint.now) verdict.now) }
+        ensures ok { OnOk result (self.new
+            ≡ with_verdict self.old (Event.Register endpoint.now) verdict.now) }
         ensures err { OnErr result (self.new ≡ self.old) }
     {
         if let Reply::Registered { zone, .. } = verdict {
@@ -344,7 +360,7 @@ impl Machine {
     /// Takes an endpoint that is granted its unregistration from among the endpoints.
     fn take_out(&mut self, id: &Name, verdict: &Reply)
         requires { verdict.now ≡ verdict_of self.old (Event.Unregister id.now) }
-        ensures { self.new ≡ changed self.old (Event.Unregister id.now) verdict.now }
+        ensures { self.new ≡ with_verdict self.old (Event.Unregister id.now) verdict.now }
     {
         if let Reply::Unregistered { .. } = verdict {
             self.registry.remove(id);
@@ -354,7 +370,7 @@ impl Machine {
     /// Opens the call of a granted admission, if there is one.
     fn open(&mut self, call: Option<OpenCall>) -> Result<(), AllocError>
         requires { IfSome call (λ opened. is_open self.old.calls opened.number ≡ false) }
-        ensures ok { OnOk result (self.new ≡ with_opened self.old call) }
+        ensures ok { OnOk result (self.new ≡ Rulings.with_opened self.old call) }
         ensures err { OnErr result (self.new ≡ self.old) }
     {
         if let Some(call) = call {
@@ -367,7 +383,12 @@ impl Machine {
 impl Ruling {
     /// The entry of the event on which this was ruled.
     pub(crate) fn entry(&self, event: Event) -> Entry
-        ensures { result ≡ record { event = event; reply = self.now.verdict; zone = self.now.zone; route = self.now.route } }
+        ensures { result ≡ record {
+          event = event;
+          reply = self.now.verdict;
+          zone = self.now.zone;
+          route = self.now.route;
+        } }
     {
         Entry {
             event,
@@ -377,7 +398,7 @@ impl Ruling {
         }
     }
 
-    /// A verdict on an event that is no admission.
+    /// A verdict on an event that is not an admission.
     fn without_call(verdict: Reply) -> Ruling
         ensures { result ≡ record { verdict = verdict; zone = None; route = None; opens = None } }
     {
@@ -392,7 +413,7 @@ impl Ruling {
 
 /// An endpoint as a destination, by its registered kind.
 fn destination_of(endpoint: &Endpoint) -> Destination
-    ensures { result ≡ to_kind endpoint.now.kind endpoint.now }
+    ensures { result ≡ Routing.destination_of endpoint.now.kind endpoint.now }
 {
     let id = endpoint.id();
     let address = endpoint.address();
@@ -403,14 +424,14 @@ fn destination_of(endpoint: &Endpoint) -> Destination
 }
 
 /// The call that an admission to this route opens.
-fn opened_by(
+fn opened_call_of_route(
     caller: &Endpoint,
     number: u32,
     units: Units,
     plan: &Plan,
     route: &Route,
 ) -> Option<OpenCall>
-    ensures { result ≡ call_opened_by caller.now number units plan.now route.now }
+    ensures { result ≡ Rulings.opened_call_of_route caller.now number units plan.now route.now }
 {
     match route {
         Route::Refused(_) => None,
@@ -418,29 +439,9 @@ fn opened_by(
             number,
             owner: caller.id(),
             source: caller.zone(),
-            target: target_of(&caller.zone(), plan),
-            remote: is_remote(plan),
+            target: plan.target_of(&caller.zone()),
+            remote: plan.is_remote(),
             units,
         }),
-    }
-}
-
-/// The zone to which the plan leads a caller of this zone.
-fn target_of(caller: &Name, plan: &Plan) -> Name
-    ensures { result ≡ target_zone_of caller.now plan.now }
-{
-    match plan {
-        Plan::Remote { zone, .. } | Plan::Local { zone } => *zone,
-        Plan::Caller => *caller,
-    }
-}
-
-/// Whether the plan leads to a zone of another gatekeeper.
-fn is_remote(plan: &Plan) -> bool
-    ensures { result ≡ leads_away plan.now }
-{
-    match plan {
-        Plan::Remote { .. } => true,
-        Plan::Local { .. } | Plan::Caller => false,
     }
 }

@@ -3,13 +3,14 @@
 ghost use Rattle.std.specs.Prelude.{◌≡◌, ◌↔◌, ◌<◌, ◌+◌, ◌++◌, ◌∷◌, [], true, length, take, slice_get, OnOk, OnErr, IfOk, IfErr, IfNone, IfSome, Some, None};
 ghost use Rattle.std.specs.List.{All};
 ghost use Rattle.std.specs.Option.{option_copied};
-ghost use Rattle.admission.specs.History.{entry_at, entry_of, receipt_of, Stands};
+ghost use Rattle.admission.specs.History.{entry_of_number, entry_of, receipt_of, Stands};
 ghost use Rattle.admission.specs.Ruling.{ruling_of};
 ghost use Rattle.admission.specs.Step.{verdict_of, count_refusal, state_after};
 
 use crate::events::{Event, EventKind};
 use crate::machine::{Machine, Ruling};
-use crate::replies::{Reply, Route};
+use crate::replies::Reply;
+use crate::routes::Route;
 use gk_terms::Name;
 use std::alloc::{AllocError, Global};
 use std::marker::Model;
@@ -21,9 +22,9 @@ pub struct Entry {
     pub event: Event,
     /// What was replied.
     pub reply: Reply,
-    /// Of an admission: the zone of the caller, where it was registered.
+    /// Of an admission: the zone of the caller, if it was registered.
     pub zone: Option<Name>,
-    /// Of an admission: where the digits lead, where that was looked for.
+    /// Of an admission: where the digits lead, if that was looked for.
     pub route: Option<Route>,
 }
 
@@ -65,9 +66,9 @@ pub struct Record {
 
 impl Model for Record {
     ghost use Rattle.std.specs.Prelude.{List};
-    ghost use Rattle.admission.specs.declared.record.Entry.{Entry as RecordEntry};
+    ghost use Rattle.admission.specs.declared.record.Entry.{Entry};
 
-    ghost Value = { List RecordEntry };
+    ghost Value = { List Entry };
 
     ghost view = { λ r. r.entries.items };
 }
@@ -91,17 +92,20 @@ impl Record {
 
     /// The entry of this number. The first has number 1.
     pub fn get(&self, number: u32) -> Option<&Entry>
-        ensures { option_copied result ≡ entry_at self.now number }
+        ensures { option_copied result ≡ entry_of_number self.now number }
     {
         let place = number.checked_sub(1)?;
         self.entries.get(place as usize)
     }
 
-    /// `Ok` where each receipt is that of the entry at its number; else the place, from 0, of the first that is not.
+    /// `Ok` if each receipt is that of the entry at its number; else the place, from 0, of the
+    /// first that is not.
     pub fn confirm(&self, receipts: &[Receipt]) -> Result<(), usize>
         ensures all { OnOk result (All (Stands self.now) receipts.now) }
-        ensures first { IfErr result (λ place. (place < length receipts.now) × All (Stands self.now) (take place receipts.now)
-            × ((receipt : _) → slice_get receipts.now place ≡ Some receipt → ¬ Stands self.now receipt)) }
+        ensures first { IfErr result (λ place. (place < length receipts.now)
+            × All (Stands self.now) (take place receipts.now)
+            × ((receipt : _) → slice_get receipts.now place ≡ Some receipt
+            → ¬ Stands self.now receipt)) }
     {
         match self.first_astray(receipts) {
             None => Ok(()),
@@ -112,8 +116,10 @@ impl Record {
     /// The place of the first receipt that is not that of the entry at its number.
     fn first_astray(&self, receipts: &[Receipt]) -> Option<usize>
         ensures none { IfNone result (All (Stands self.now) receipts.now) }
-        ensures first { IfSome result (λ place. (place < length receipts.now) × All (Stands self.now) (take place receipts.now)
-            × ((receipt : _) → slice_get receipts.now place ≡ Some receipt → ¬ Stands self.now receipt)) }
+        ensures first { IfSome result (λ place. (place < length receipts.now)
+            × All (Stands self.now) (take place receipts.now)
+            × ((receipt : _) → slice_get receipts.now place ≡ Some receipt
+            → ¬ Stands self.now receipt)) }
     {
         for (place, receipt) in receipts.iter().enumerate() {
             if !self.stands(receipt) {
@@ -133,8 +139,8 @@ impl Record {
         }
     }
 
-    /// Records an event and carries out the ruling on it, which no count refuses. The answer is the receipt of the entry.
-    /// Where memory is refused, nothing changes.
+    /// Records an event and carries out the ruling on it, which no count refuses. The answer is the
+    /// receipt of the entry. If memory runs out, nothing changes.
     pub(crate) fn enter(
         &mut self,
         machine: &mut Machine,
@@ -142,9 +148,12 @@ impl Record {
         ruling: &Ruling,
     ) -> Result<Receipt, AllocError>
         requires ruled { ruling.now ≡ ruling_of machine.old event }
-        requires recordable { count_refusal machine.old event (verdict_of machine.old event) ≡ None }
-        ensures receipt { IfOk result (λ receipt. receipt ≡ receipt_of (machine.old.records + 1) (entry_of machine.old event)) }
-        ensures state { OnOk result (machine.new ≡ state_after machine.old event (verdict_of machine.old event)) }
+        requires recordable { count_refusal machine.old event (verdict_of machine.old event)
+            ≡ None }
+        ensures receipt { IfOk result (λ receipt. receipt
+            ≡ receipt_of (machine.old.records + 1) (entry_of machine.old event)) }
+        ensures state { OnOk result (machine.new
+            ≡ state_after machine.old event (verdict_of machine.old event)) }
         ensures entered { OnOk result (self.new ≡ self.old ++ entry_of machine.old event ∷ []) }
         ensures err { OnErr result ((machine.new ≡ machine.old) × (self.new ≡ self.old)) }
     {

@@ -2,9 +2,10 @@
 
 use crate::cores::Core;
 use crate::events::EventKind;
-use crate::limits::STATED;
+use crate::limits::STATED_LIMITS;
 use crate::record::Receipt;
-use crate::replies::{AdmitRefusal, Reply, Route, UnregisterRefusal};
+use crate::replies::{AdmitRefusal, Reply, UnregisterRefusal};
+use crate::routes::Route;
 use crate::test_cores::{away, core_within, entry, five_events};
 use gk_terms::{Name, Units};
 use std::alloc::Global;
@@ -13,7 +14,7 @@ use std::test::Fail;
 
 #[test]
 fn gives_receipts(rt: HostRuntime) -> Result<(), Fail> {
-    let mut core = core_within(rt.alloc(), STATED)?;
+    let mut core = core_within(rt.alloc(), STATED_LIMITS)?;
     assert_receipts(&rt, rt.alloc(), &mut core)
 }
 
@@ -79,7 +80,7 @@ fn assert_receipts(rt: &impl Abort, alloc: Global, core: &mut Core) -> Result<()
 
 #[test]
 fn confirms_receipts(rt: HostRuntime) -> Result<(), Fail> {
-    let mut core = core_within(rt.alloc(), STATED)?;
+    let mut core = core_within(rt.alloc(), STATED_LIMITS)?;
     assert_confirmed(&rt, rt.alloc(), &mut core)
 }
 
@@ -138,7 +139,7 @@ fn assert_confirmed(rt: &impl Abort, alloc: Global, core: &mut Core) -> Result<(
 
 #[test]
 fn records_zones_and_routes(rt: HostRuntime) -> Result<(), Fail> {
-    let mut core = core_within(rt.alloc(), STATED)?;
+    let mut core = core_within(rt.alloc(), STATED_LIMITS)?;
     assert_entries(&rt, rt.alloc(), &mut core)
 }
 

@@ -2,9 +2,10 @@
 
 use crate::cores::{Core, OpeningFault};
 use crate::events::Event;
-use crate::limits::{Limits, STATED};
+use crate::limits::{Limits, STATED_LIMITS};
 use crate::record::{Entry, Receipt, Record};
-use crate::replies::{Destination, Reply};
+use crate::replies::Reply;
+use crate::routes::Destination;
 use command_reader::read;
 use compiler::Tables;
 use gk_terms::{Address, Dialled, Name, Units};
@@ -22,32 +23,35 @@ const ZONES: &[u8] = b"zone local gk-a example.com\n\
 pub const BAD_LIMITS: [Limits; 8] = [
     Limits {
         endpoints: 0,
-        ..STATED
+        ..STATED_LIMITS
     },
-    Limits { calls: 0, ..STATED },
+    Limits {
+        calls: 0,
+        ..STATED_LIMITS
+    },
     Limits {
         records: 0,
-        ..STATED
+        ..STATED_LIMITS
     },
     Limits {
         reloads: 0,
-        ..STATED
+        ..STATED_LIMITS
     },
     Limits {
         endpoints: 10_001,
-        ..STATED
+        ..STATED_LIMITS
     },
     Limits {
         calls: 50_001,
-        ..STATED
+        ..STATED_LIMITS
     },
     Limits {
         records: 1_000_001,
-        ..STATED
+        ..STATED_LIMITS
     },
     Limits {
         reloads: 4_097,
-        ..STATED
+        ..STATED_LIMITS
     },
 ];
 
@@ -104,7 +108,8 @@ pub fn reply_of_unrecorded(core: &mut Core, event: Event) -> Result<Reply, Fail>
     }
 }
 
-/// A registration, an admission, the same admission again, and an unregistration of each of two IDs.
+/// A registration, an admission, the same admission again, and an unregistration of each of two
+/// IDs.
 pub fn five_events(alloc: Global, core: &mut Core) -> Result<[Receipt; 5], Fail> {
     let ta = Name::read(b"ta")?;
     let tb = Name::read(b"tb")?;

@@ -1,10 +1,11 @@
 //! Replies to events, by what they grant and what they need.
 
 ghost use Rattle.std.specs.Prelude.{◌≡◌};
-ghost use Rattle.admission.specs.Step.{is_granted as grants, places_needed as places_for, record_full as record_full_for, admission_by, no_memory_to as reply_without_memory};
+ghost use Rattle.admission.specs.Step as Spec;
 
 use crate::events::Event;
-use crate::replies::{AdmitRefusal, RegisterRefusal, Reply, Route, UnregisterRefusal};
+use crate::replies::{AdmitRefusal, RegisterRefusal, Reply, UnregisterRefusal};
+use crate::routes::Route;
 use gk_terms::Units;
 
 /// A refused admission.
@@ -14,9 +15,9 @@ pub(crate) fn refused(call: u32, reason: AdmitRefusal) -> Reply
     Reply::AdmitRefused { call, reason }
 }
 
-/// The reply to a caller whose digits have this route.
-pub(crate) fn reply_by(route: &Route, call: u32, units: Units) -> Reply
-    ensures { result ≡ admission_by call units route.now }
+/// The verdict on a caller whose digits have this route.
+pub(crate) fn verdict_of_route(route: &Route, call: u32, units: Units) -> Reply
+    ensures { result ≡ Spec.verdict_of_route call units route.now }
 {
     match route {
         Route::Refused(reason) => refused(call, AdmitRefusal::NoRoute(*reason)),
@@ -30,7 +31,7 @@ pub(crate) fn reply_by(route: &Route, call: u32, units: Units) -> Reply
 
 /// Whether a reply grants what was asked.
 pub(crate) fn is_granted(reply: &Reply) -> bool
-    ensures { result ≡ grants reply.now }
+    ensures { result ≡ Spec.is_granted reply.now }
 {
     match reply {
         Reply::Registered { .. } | Reply::Unregistered { .. } | Reply::Admitted { .. } => true,
@@ -42,7 +43,7 @@ pub(crate) fn is_granted(reply: &Reply) -> bool
 
 /// The free places of the record that a verdict needs.
 pub(crate) fn places_needed(verdict: &Reply) -> usize
-    ensures { result ≡ places_for verdict.now }
+    ensures { result ≡ Spec.places_needed verdict.now }
 {
     match verdict {
         Reply::Admitted { .. } => 2,
@@ -54,9 +55,9 @@ pub(crate) fn places_needed(verdict: &Reply) -> usize
     }
 }
 
-/// The reply where the record is full.
-pub(crate) fn record_full(event: &Event) -> Reply
-    ensures { result ≡ record_full_for event.now }
+/// The reply if the record is full.
+pub(crate) fn record_full_reply_of(event: &Event) -> Reply
+    ensures { result ≡ Spec.record_full_reply_of event.now }
 {
     match event {
         Event::Register(endpoint) => Reply::RegisterRefused {
@@ -71,9 +72,9 @@ pub(crate) fn record_full(event: &Event) -> Reply
     }
 }
 
-/// The reply where memory is refused.
-pub(crate) fn no_memory_to(event: &Event) -> Reply
-    ensures { result ≡ reply_without_memory event.now }
+/// The reply if memory runs out.
+pub(crate) fn no_memory_reply_of(event: &Event) -> Reply
+    ensures { result ≡ Spec.no_memory_reply_of event.now }
 {
     match event {
         Event::Register(endpoint) => Reply::RegisterRefused {

@@ -23,6 +23,6 @@ has_owner id call = bytes_eq call.owner id
 abbrev pub owns : List OpenCall → List ℕ → Bool
 owns calls id = list_any (has_owner id) calls
 
--- the call behind the others
+-- the calls with this one after them
 abbrev pub with_call : List OpenCall → OpenCall → List OpenCall
 with_call calls call = calls ++ call ∷ []

@@ -14,7 +14,8 @@ use std::marker::Model;
 /// A call that was admitted and not yet released.
 #[derive(Clone, Copy, Debug, PartialEq, Eq)]
 pub struct OpenCall {
-    /// The number by which the call's requests name it, 1 to 4294967295. No two open calls share it.
+    /// The number by which the call's requests name it, 1 to 4294967295. No two open calls share
+    /// it.
     pub number: u32,
     /// The ID of the endpoint that was admitted.
     pub owner: Name,
@@ -33,21 +34,22 @@ pub struct OpenCall {
 pub struct OpenCalls {
     /// The calls by number, in order of admission.
     calls: IndexMap<u32, OpenCall>,
-    /// How many calls each owner has, 1 at the least: an owner without calls has no entry.
+    /// How many calls each owner has, at least 1: an owner without calls has no entry.
     owners: HashMap<Name, usize>,
 }
 
 impl Model for OpenCalls {
     ghost use Rattle.std.specs.Prelude.{List};
     ghost use Rattle.std.specs.Map.{values_of};
-    ghost use Rattle.bandwidth.specs.declared.calls.OpenCall.{OpenCall as Call};
+    ghost use Rattle.bandwidth.specs.declared.calls.OpenCall.{OpenCall};
     ghost use Rattle.bandwidth.specs.CallsIndex.{IsCallsIndex};
 
-    ghost Value = { List Call };
+    ghost Value = { List OpenCall };
 
     ghost view = { λ o. values_of o.calls.entries };
 
-    ghost invariant = { λ o. IsCallsIndex (values_of o.calls.entries) o.calls.entries o.owners.entries };
+    ghost invariant = { λ o. IsCallsIndex
+        (values_of o.calls.entries) o.calls.entries o.owners.entries };
 }
 
 impl OpenCalls {
@@ -89,13 +91,15 @@ impl OpenCalls {
         self.owners.contains_key(id)
     }
 
-    /// Opens a call, behind the others; its number is no open call's. Where memory is refused, nothing changes.
+    /// Opens a call, after the others; its number is not that of an open call. If memory runs out,
+    /// nothing changes.
     pub fn open(&mut self, call: OpenCall) -> Result<(), AllocError>
         requires { is_open self.old call.number ≡ false }
         ensures ok { OnOk result (self.new ≡ with_call self.old call) }
         ensures err { OnErr result (self.new ≡ self.old) }
     {
-        // The owner's count is the last step that takes memory: the room for the call is there by then.
+        // The owner's count is the last step that takes memory: the room for the call is there by
+        // then.
         let count = self.count_of(&call.owner);
         self.calls.reserve(1)?;
         self.owners.insert(call.owner, count + 1)?;

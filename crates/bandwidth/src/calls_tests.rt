@@ -1,4 +1,4 @@
-//! The open calls, against what is said by hand of three of them.
+//! The open calls, checked by hand on three of them.
 
 use crate::calls::{OpenCall, OpenCalls};
 use gk_terms::{Name, Units};

@@ -26,11 +26,11 @@ first_octet None others octets h = absurd (let no : ⊥ = cc in no)
 first_octet (Some a) None octets h = absurd (let no : ⊥ = cc in no)
 first_octet (Some a) (Some bs) octets h = record { octet = a; rest = bs; read = refl; read_rest = refl; whole = cc }
 
--- parts, each behind a dot
+-- parts, each after a dot
 abbrev dotted : List (List ℕ) → List ℕ
 dotted parts = flat_map (λ part. 46 ∷ part) parts
 
--- octets that were read from parts, each behind a dot
+-- octets that were read from parts, each after a dot
 record AreOctets (parts : List (List ℕ)) (octets : List ℕ) : Type 0 where
   same : flat_map (λ b. 46 ∷ decimal b) octets ≡ dotted parts
   visible : list_all is_visible (dotted parts) ≡ true

@@ -4,18 +4,19 @@ use Rattle.std.specs.Prelude.{codes, bytes_eq}
 use Rattle.std.proofs.lemmas.Bool.{and_from}
 use Rattle.gk_terms.specs.Name.{name_of}
 use Rattle.gk_terms.specs.Number.{number_of}
-use Rattle.command_reader.specs.declared.faults.FaultKind.TheVariants.{BadName, BadNumber}
+use Rattle.command_reader.specs.declared.bandwidth_lines.TheConstants.{MOST_KBPS}
+use Rattle.command_reader.specs.declared.faults.FaultKind.TheVariants.{BadName, BadNumber, Missing, Extra}
 use Rattle.command_reader.specs.declared.commands.Command.{Command}
 use Rattle.command_reader.specs.declared.commands.Command.TheVariants.{BandwidthDefault, BandwidthZone, BandwidthRemote}
 use Rattle.command_reader.specs.declared.commands.LimitKind.{LimitKind}
 use Rattle.command_reader.specs.declared.commands.LimitKind.TheVariants.{Session, Total, Interzone}
-use Rattle.command_reader.specs.Fields.{◌>>=◌, field, ended}
-use Rattle.command_reader.specs.BandwidthLine.{MOST_KBPS, most_of, default_at, of_zone_at, limit_at, remote_at, bandwidth_at}
+use Rattle.gk_terms.specs.Fields.{◌>>=◌, field, nothing_more}
+use Rattle.command_reader.specs.BandwidthLine.{most_of, default_limit_at, zone_limit_at, limit_at, remote_limit_at, bandwidth_at}
 use Rattle.command_reader.specs.Printing.{command_words, limit_word}
 use Rattle.command_reader.specs.Accepted.{is_word}
 use Rattle.command_reader.proofs.WordsBack.{AreWords}
 use Rattle.command_reader.proofs.NumbersBack.{number_spelled}
-use Rattle.command_reader.proofs.FieldsBack.{bound, chosen, same_word, field_read, ended_read, name_read}
+use Rattle.command_reader.proofs.FieldsBack.{bound, chosen, same_word, field_read, nothing_more_read, name_read}
 use Rattle.command_reader.proofs.CommandBack.{IsSpelledBy}
 
 most_small : (kind : LimitKind) → most_of kind < 2 ^ 64
@@ -28,12 +29,12 @@ limit_solid Session = refl
 limit_solid Total = refl
 limit_solid Interzone = refl
 
-default_spelled : (kind : LimitKind) (words : List (List ℕ)) (command : Command) → default_at kind words ≡ Ok command
+default_spelled : (kind : LimitKind) (words : List (List ℕ)) (command : Command) → default_limit_at kind words ≡ Ok command
     → IsSpelledBy (codes "bandwidth" ∷ limit_word kind ∷ codes "default" ∷ words) command
 default_spelled kind words command h =
-    let b = bound (field (number_of 1 (most_of kind)) BadNumber words) (λ size. ended (BandwidthDefault kind size.0) size.1) command h in
+    let b = bound (field Missing (number_of 1 (most_of kind)) BadNumber words) (λ size. nothing_more Extra (BandwidthDefault kind size.0) size.1) command h in
     let f = field_read [] (number_of 1 (most_of kind)) BadNumber words b.value b.read in
-    let e = ended_read [] (BandwidthDefault kind b.value.0) b.value.1 command b.next in
+    let e = nothing_more_read [] (BandwidthDefault kind b.value.0) b.value.1 command b.next in
     let n = number_spelled 1 (most_of kind) f.word b.value.0 (most_small kind) f.taken.spelled in
     let whole : words ≡ f.word ∷ [] = f.whole ∙ ap (λ rest. f.word ∷ rest) e.none in
     record {
@@ -43,15 +44,15 @@ default_spelled kind words command h =
           (and_from _ _ (limit_solid kind) (and_from _ _ n.word refl));
     }
 
-of_zone_spelled : (kind : LimitKind) (words : List (List ℕ)) (command : Command) → of_zone_at kind words ≡ Ok command
+of_zone_spelled : (kind : LimitKind) (words : List (List ℕ)) (command : Command) → zone_limit_at kind words ≡ Ok command
     → IsSpelledBy (codes "bandwidth" ∷ limit_word kind ∷ codes "zone" ∷ words) command
 of_zone_spelled kind words command h =
-    let z = bound (field name_of BadName words) (λ zone. field (number_of 1 (most_of kind)) BadNumber zone.1 >>= λ size. ended (BandwidthZone kind zone.0 size.0) size.1) command h in
+    let z = bound (field Missing name_of BadName words) (λ zone. field Missing (number_of 1 (most_of kind)) BadNumber zone.1 >>= λ size. nothing_more Extra (BandwidthZone kind zone.0 size.0) size.1) command h in
     let g = field_read [] name_of BadName words z.value z.read in
     let m = name_read g.word z.value.0 g.taken.spelled in
-    let b = bound (field (number_of 1 (most_of kind)) BadNumber z.value.1) (λ size. ended (BandwidthZone kind z.value.0 size.0) size.1) command z.next in
+    let b = bound (field Missing (number_of 1 (most_of kind)) BadNumber z.value.1) (λ size. nothing_more Extra (BandwidthZone kind z.value.0 size.0) size.1) command z.next in
     let f = field_read [] (number_of 1 (most_of kind)) BadNumber z.value.1 b.value b.read in
-    let e = ended_read [] (BandwidthZone kind z.value.0 b.value.0) b.value.1 command b.next in
+    let e = nothing_more_read [] (BandwidthZone kind z.value.0 b.value.0) b.value.1 command b.next in
     let n = number_spelled 1 (most_of kind) f.word b.value.0 (most_small kind) f.taken.spelled in
     let whole : words ≡ z.value.0 ∷ f.word ∷ [] =
     g.whole ∙ ap (λ w. w ∷ z.value.1) (sym m.same) ∙ ap (λ rest. z.value.0 ∷ rest) (f.whole ∙ ap (λ rest. f.word ∷ rest) e.none) in
@@ -79,12 +80,12 @@ limit_spelled kind (word ∷ words) command h =
     (λ is f. spelled_behind front word (codes "zone") words command (same_word word _ is) (of_zone_spelled kind words command f))
     (λ _ f. absurd (let no : ⊥ = cc in no)))
 
-remote_spelled : (words : List (List ℕ)) (command : Command) → remote_at words ≡ Ok command
+remote_spelled : (words : List (List ℕ)) (command : Command) → remote_limit_at words ≡ Ok command
     → IsSpelledBy (codes "bandwidth" ∷ codes "remote" ∷ words) command
 remote_spelled words command h =
-    let b = bound (field (number_of 1 MOST_KBPS) BadNumber words) (λ size. ended (BandwidthRemote size.0) size.1) command h in
+    let b = bound (field Missing (number_of 1 MOST_KBPS) BadNumber words) (λ size. nothing_more Extra (BandwidthRemote size.0) size.1) command h in
     let f = field_read [] (number_of 1 MOST_KBPS) BadNumber words b.value b.read in
-    let e = ended_read [] (BandwidthRemote b.value.0) b.value.1 command b.next in
+    let e = nothing_more_read [] (BandwidthRemote b.value.0) b.value.1 command b.next in
     let n = number_spelled 1 MOST_KBPS f.word b.value.0 (omega arith) f.taken.spelled in
     let whole : words ≡ f.word ∷ [] = f.whole ∙ ap (λ rest. f.word ∷ rest) e.none in
     record {

@@ -4,7 +4,7 @@ use Rattle.std.proofs.lemmas.Bool.{le-ltb, ltb-false}
 use Rattle.gk_terms.specs.Text.{words_of, is_too_long, spaced}
 use Rattle.command_reader.specs.declared.faults.FaultKind.TheVariants.{TooLong}
 use Rattle.command_reader.specs.declared.commands.Command.{Command}
-use Rattle.command_reader.specs.Line.{said_by, line_of}
+use Rattle.command_reader.specs.Line.{command_at, line_of}
 use Rattle.command_reader.specs.Accepted.{PrintsBack}
 use Rattle.command_reader.specs.Printing.{command_words}
 use Rattle.command_reader.proofs.WordsBack.{AreWords, words_back}
@@ -12,18 +12,18 @@ use Rattle.command_reader.proofs.LengthsBack.{cost, cost_read, length_spaced_som
 
 -- its words say it, are words, and fit a line
 pub record IsSaidAgain (command : Command) : Type 0 where
-  pub said : said_by (command_words command) ≡ Ok (Some command)
+  pub said : command_at (command_words command) ≡ Ok (Some command)
   pub solid : AreWords (command_words command)
   pub fits : cost (command_words command) ≤ 513
 
--- the words of a line that says a command, where they are its canonical words
+-- the words of a line that says a command, and are its canonical words
 pub record IsSpelledBy (words : List (List ℕ)) (command : Command) : Type 0 where
   pub same : command_words command ≡ words
   pub solid : AreWords words
 
-pub prints_as_read : (words : List (List ℕ)) (command : Command) → IsSpelledBy words command → said_by words ≡ Ok (Some command) → cost words ≤ 513 → IsSaidAgain command
+pub prints_as_read : (words : List (List ℕ)) (command : Command) → IsSpelledBy words command → command_at words ≡ Ok (Some command) → cost words ≤ 513 → IsSaidAgain command
 prints_as_read words command s said fits = record {
-  said = ap said_by s.same ∙ said;
+  said = ap command_at s.same ∙ said;
   solid = subst AreWords (sym s.same) s.solid;
   fits = subst (λ ws. cost ws ≤ 513) (sym s.same) fits;
 }
@@ -40,8 +40,8 @@ prints_back command back =
     let fits : length line ≤ 512 = short_line (command_words command) back.fits in
     let short : is_too_long line ≡ false = le-ltb 512 (length line) fits in
     record {
-      said = ap (λ b. cond b (Err TooLong) (said_by (words_of line))) short
-          ∙ ap said_by (words_back (command_words command) back.solid) ∙ back.said;
+      said = ap (λ b. cond b (Err TooLong) (command_at (words_of line))) short
+          ∙ ap command_at (words_back (command_words command) back.solid) ∙ back.said;
       words = back.solid;
       fits = fits;
     }
@@ -49,12 +49,12 @@ prints_back command back =
 -- a line that says a command is not too long
 pub record IsSaid (line : List ℕ) (command : Command) : Type 0 where
   pub fits : cost (words_of line) ≤ 513
-  pub said : said_by (words_of line) ≡ Ok (Some command)
+  pub said : command_at (words_of line) ≡ Ok (Some command)
 
 pub line_said : (line : List ℕ) (command : Command) → line_of line ≡ Ok (Some command) → IsSaid line command
 unfolding line_of
 line_said line command h = by (is_too_long line) refl h
   where
-    by : (b : Bool) → is_too_long line ≡ b → cond b (Err TooLong) (said_by (words_of line)) ≡ Ok (Some command) → IsSaid line command
+    by : (b : Bool) → is_too_long line ≡ b → cond b (Err TooLong) (command_at (words_of line)) ≡ Ok (Some command) → IsSaid line command
     by true e f = absurd (let no : ⊥ = cc in no)
     by false e f = record { fits = omega (arith, cost_read line, ltb-false 512 (length line) e); said = f }

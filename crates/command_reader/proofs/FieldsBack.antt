@@ -9,7 +9,8 @@ use Rattle.gk_terms.specs.Name.{is_name, name_of}
 use Rattle.gk_terms.specs.Spelling.{is_visible}
 use Rattle.command_reader.specs.declared.faults.FaultKind.{FaultKind}
 use Rattle.command_reader.specs.declared.faults.FaultKind.TheVariants.{Unsupported, Extra}
-use Rattle.command_reader.specs.Fields.{◌>>=◌, is_one_of, value_but, with_rest, field_but, ended_but}
+use Rattle.gk_terms.specs.Fields.{◌>>=◌, with_rest}
+use Rattle.command_reader.specs.Fields.{is_one_of, value_but, field_but, nothing_more_but}
 use Rattle.command_reader.specs.Accepted.{is_word}
 use Rattle.command_reader.proofs.WordsBack.{word_from}
 use Rattle.command_reader.proofs.NumbersBack.{then_some-parts}
@@ -60,7 +61,7 @@ pub value_again : {A : Type 0} (left_out : List (List ℕ)) (read : List ℕ →
 value_again left_out read kind word x r =
     ap (λ b. cond b (Err Unsupported) (ok_or (read word) kind)) r.kept ∙ ap (λ o. ok_or o kind) r.spelled
 
--- a field that was read, with the words behind it
+-- a field that was read, with the words after it
 pub record IsField {A : Type 0} (left_out : List (List ℕ)) (read : List ℕ → Option A) (words : List (List ℕ)) (x : A × List (List ℕ)) : Type 0 where
   pub word : List ℕ
   pub whole : words ≡ word ∷ x.1
@@ -87,9 +88,9 @@ pub record IsEnded {A : Type 0} (x : A) (words : List (List ℕ)) (z : A) : Type
   pub none : words ≡ []
   pub same : x ≡ z
 
-pub ended_read : {A : Type 0} (left_out : List (List ℕ)) (x : A) (words : List (List ℕ)) (z : A) → ended_but left_out x words ≡ Ok z → IsEnded x words z
-ended_read left_out x [] z h = record { none = refl; same = cc }
-ended_read {A} left_out x (word ∷ words) z h = by (is_one_of left_out word) h
+pub nothing_more_read : {A : Type 0} (left_out : List (List ℕ)) (x : A) (words : List (List ℕ)) (z : A) → nothing_more_but left_out x words ≡ Ok z → IsEnded x words z
+nothing_more_read left_out x [] z h = record { none = refl; same = cc }
+nothing_more_read {A} left_out x (word ∷ words) z h = by (is_one_of left_out word) h
   where
     by : (b : Bool) → cond {A = Result A FaultKind} b (Err Unsupported) (Err Extra) ≡ Ok z → IsEnded x (word ∷ words) z
     by true f = absurd (let no : ⊥ = cc in no)

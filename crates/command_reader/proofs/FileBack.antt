@@ -11,10 +11,9 @@ use Rattle.command_reader.specs.declared.faults.FaultKind.{FaultKind}
 use Rattle.command_reader.specs.declared.faults.FaultKind.TheVariants.{UnknownZone, NoLocalZone, TooMany}
 use Rattle.command_reader.specs.declared.faults.LineFault.{LineFault}
 use Rattle.command_reader.specs.declared.commands.Command.{Command}
-use Rattle.command_reader.specs.declared.commands.NumberedCommand.{NumberedCommand}
 use Rattle.command_reader.specs.Configuration.{Configuration}
 use Rattle.command_reader.specs.Line.{line_of}
-use Rattle.command_reader.specs.Progress.{Progress, line_count, commands_in}
+use Rattle.command_reader.specs.Progress.{NumberedCommand, Progress, line_count, commands_in}
 use Rattle.command_reader.specs.Zones.{first_local_of}
 use Rattle.command_reader.specs.Reading.{command_fault, with_command, unless_fault, said_after, line_after, line_then, lines_after, names_unknown, fault_at, unknown_zone, local_zone_checked, zones_checked, finished, whole_of, nothing_read, reading_of}
 use Rattle.command_reader.specs.Printing.{command_words, text_of}
@@ -35,10 +34,10 @@ lines_after-append (x ∷ xs) ys before read h = by (λ p g. lines_after-append 
 line_kept : (before : Progress) (line : List ℕ) (command : Command) → line_count before < MOST_LINES → line_of line ≡ Ok (Some command)
     → command_fault (commands_in before) command ≡ None → line_after before line ≡ Ok (with_command before command)
 unfolding line_after
-line_kept before line command room said well =
+line_kept before line command room said free =
     ap (λ b. cond b (Err TooMany) (said_after before (line_of line))) (lt-leb MOST_LINES (line_count before) room)
     ∙ ap (said_after before) said
-    ∙ ap (λ fault. unless_fault fault (with_command before command)) well
+    ∙ ap (λ fault. unless_fault fault (with_command before command)) free
 
 line_then-ok : (n : ℕ) (r : Result Progress FaultKind) (read : Progress) → r ≡ Ok read → line_then n (λ p. lines_after p []) r ≡ Ok read
 line_then-ok n r read h = ap (line_then n (λ p. lines_after p [])) h
@@ -54,13 +53,13 @@ none_printable = record { each = All-nil PrintsBack; read = nothing_read; whole 
 -- one more command
 pub one_more_printable : (lines : List Command) (command : Command) → IsPrintable lines → length lines < MOST_LINES → PrintsBack command
     → command_fault lines command ≡ None → IsPrintable (lines ++ command ∷ [])
-one_more_printable lines command p room back well =
+one_more_printable lines command p room back free =
     let count : length p.read.kept ≡ length lines = sym (length-map p.read.kept (λ n. n.command)) ∙ ap length p.same in
     let fewer : line_count p.read < MOST_LINES = omega (arith, count, p.none_passed, room) in
     let front : List (List ℕ) = map canonical_line lines in
     let last : List (List ℕ) = canonical_line command ∷ [] in
     let next : line_after p.read (canonical_line command) ≡ Ok (with_command p.read command) =
-    line_kept p.read (canonical_line command) command fewer back.said (ap (λ ls. command_fault ls command) p.same ∙ well) in
+    line_kept p.read (canonical_line command) command fewer back.said (ap (λ ls. command_fault ls command) p.same ∙ free) in
     record {
       each = All-push PrintsBack lines command p.each back;
       read = with_command p.read command;
@@ -74,10 +73,10 @@ one_more_printable lines command p room back well =
 -- the same in the words of the reader
 pub kept_printable : (before : Progress) (command : Command) → IsPrintable (commands_in before) → line_count before < MOST_LINES → PrintsBack command
     → command_fault (commands_in before) command ≡ None → IsPrintable (commands_in (with_command before command))
-kept_printable before command p room back well =
+kept_printable before command p room back free =
     let count : length (commands_in before) ≡ length before.kept = length-map before.kept (λ n. n.command) in
     subst IsPrintable (sym (commands_more before command))
-    (one_more_printable (commands_in before) command p (omega (arith, count, room)) back well)
+    (one_more_printable (commands_in before) command p (omega (arith, count, room)) back free)
 
 -- ---- the zones of all
 found_none : (p : Command → Bool) (kept : List NumberedCommand) (f : NumberedCommand → LineFault)
@@ -100,9 +99,9 @@ none_found p (n ∷ kept) f h = by (λ g. none_found p kept f g) (p n.command) h
     by rest true g = absurd (let no : ⊥ = cc in no)
     by rest false g = rest g
 
--- what is known of lines whose zones were found well
+-- what is known of lines whose zones were found ok
 pub record AreFinished (read : Progress) (configuration : Configuration) : Type 0 where
-  pub same : record { lines = commands_in read; passed = read.passed } ≡ configuration
+  pub same : record { commands = commands_in read; passed = read.passed } ≡ configuration
   pub declared : list_any (names_unknown (commands_in read)) (commands_in read) ≡ false
   pub has_local : is_some (first_local_of (commands_in read)) ≡ true
 
@@ -111,31 +110,31 @@ local_checked : (read : Progress) (configuration : Configuration) → local_zone
 local_checked read configuration h declared = by (is_some (first_local_of (commands_in read))) refl h
   where
     by : (b : Bool) → is_some (first_local_of (commands_in read)) ≡ b
-        → cond b (Ok (record { lines = commands_in read; passed = read.passed })) (Err (fault_at (line_count read + 1) NoLocalZone)) ≡ Ok configuration → AreFinished read configuration
+        → cond b (Ok (record { commands = commands_in read; passed = read.passed })) (Err (fault_at (line_count read + 1) NoLocalZone)) ≡ Ok configuration → AreFinished read configuration
     by true e f = record { same = cc; declared = declared; has_local = e }
     by false e f = absurd (let no : ⊥ = cc in no)
 
-pub finished_well : (read : Progress) (configuration : Configuration) → finished read ≡ Ok configuration → AreFinished read configuration
-finished_well read configuration h = by (unknown_zone read) refl h
+pub finished_ok : (read : Progress) (configuration : Configuration) → finished read ≡ Ok configuration → AreFinished read configuration
+finished_ok read configuration h = by (unknown_zone read) refl h
   where
     by : (o : Option LineFault) → unknown_zone read ≡ o → zones_checked read o ≡ Ok configuration → AreFinished read configuration
     by (Some fault) e f = absurd (let no : ⊥ = cc in no)
     by None e f = local_checked read configuration f (found_none (names_unknown (commands_in read)) read.kept (λ n. fault_at n.line UnknownZone) e)
 
--- commands that were read to the end, and whose zones were found well, are accepted
+-- commands that were read to the end, and whose zones were found ok, are accepted
 pub accepted_lines : (read : Progress) → IsPrintable (commands_in read) → unknown_zone read ≡ None → is_some (first_local_of (commands_in read)) ≡ true
     → IsAccepted (commands_in read)
-accepted_lines read p well has_local = record {
+accepted_lines read p free has_local = record {
   printable = p;
-  declared = found_none (names_unknown (commands_in read)) read.kept (λ n. fault_at n.line UnknownZone) well;
+  declared = found_none (names_unknown (commands_in read)) read.kept (λ n. fault_at n.line UnknownZone) free;
   has_local = has_local;
 }
 
-pub accepted : (read : Progress) (configuration : Configuration) → IsPrintable (commands_in read) → finished read ≡ Ok configuration → IsAccepted configuration.lines
+pub accepted : (read : Progress) (configuration : Configuration) → IsPrintable (commands_in read) → finished read ≡ Ok configuration → IsAccepted configuration.commands
 accepted read configuration p h =
-    let f = finished_well read configuration h in
+    let f = finished_ok read configuration h in
     let is : IsAccepted (commands_in read) = record { printable = p; declared = f.declared; has_local = f.has_local } in
-    subst (λ (c : Configuration). IsAccepted c.lines) f.same is
+    subst (λ (c : Configuration). IsAccepted c.commands) f.same is
 
 -- ---- the whole
 words_of_each : (lines : List Command) → AllByRecursion PrintsBack lines → list_all (λ c. list_all is_word (command_words c)) lines ≡ true
@@ -145,20 +144,20 @@ words_of_each (command ∷ lines) h = and_from _ _ h.0.words (words_of_each line
 lines_printed : (lines : List Command) → IsPrintable lines → lines_of (text_of lines) ≡ map canonical_line lines
 lines_printed lines p = lines_back command_words lines (words_of_each lines (recursion_from_All PrintsBack lines p.each))
 
-finished_again : (lines : List Command) (a : IsAccepted lines) → finished a.printable.read ≡ Ok (record { lines = lines; passed = 0 })
+finished_again : (lines : List Command) (a : IsAccepted lines) → finished a.printable.read ≡ Ok (record { commands = lines; passed = 0 })
 finished_again lines a =
     let read : Progress = a.printable.read in
     let same : commands_in read ≡ lines = a.printable.same in
     let declared : list_any (names_unknown (commands_in read)) (commands_in read) ≡ false = ap (λ ls. list_any (names_unknown ls) ls) same ∙ a.declared in
     let has_local : is_some (first_local_of (commands_in read)) ≡ true = ap (λ ls. is_some (first_local_of ls)) same ∙ a.has_local in
-    let configuration : Configuration = record { lines = commands_in read; passed = read.passed } in
+    let configuration : Configuration = record { commands = commands_in read; passed = read.passed } in
     ap (zones_checked read) (none_found (names_unknown (commands_in read)) read.kept (λ n. fault_at n.line UnknownZone) declared)
     ∙ ap (λ b. cond b (Ok configuration) (Err (fault_at (line_count read + 1) NoLocalZone))) has_local
-    ∙ ap (λ ls. Ok (record { lines = ls; passed = read.passed })) same
-    ∙ ap (λ n. Ok (record { lines = lines; passed = n })) a.printable.none_passed
+    ∙ ap (λ ls. Ok (record { commands = ls; passed = read.passed })) same
+    ∙ ap (λ n. Ok (record { commands = lines; passed = n })) a.printable.none_passed
 
 -- what is printed of accepted commands reads as those commands, with nothing passed over
-pub file_back : (lines : List Command) → IsAccepted lines → reading_of (text_of lines) ≡ Ok (record { lines = lines; passed = 0 })
+pub file_back : (lines : List Command) → IsAccepted lines → reading_of (text_of lines) ≡ Ok (record { commands = lines; passed = 0 })
 unfolding reading_of
 file_back lines a =
     ap (λ ls. whole_of (lines_after nothing_read ls)) (lines_printed lines a.printable)

@@ -14,7 +14,7 @@ use Rattle.command_reader.specs.declared.faults.FaultKind.{FaultKind}
 use Rattle.command_reader.specs.declared.faults.FaultKind.TheVariants.{NoMemory}
 use Rattle.command_reader.specs.Progress.{Progress, commands_in}
 use Rattle.command_reader.specs.Reading.{fault_of_name, zone_fault, command_fault, unless_fault, with_command, said_after}
-use Rattle.command_reader.specs.Index.{AreDeclared, AddsDeclared, IsRefusedFor, fault_by_names}
+use Rattle.command_reader.specs.Index.{AreDeclared, AddsDeclared, MayRefuseCommand, fault_by_names}
 
 fault_of_zone : (names : List (List ℕ)) (lines : List Command) (name : List ℕ) → AreDeclared names lines → fault_of_name (list_any (bytes_eq name) names) (length names) ≡ zone_fault lines name
 fault_of_zone names lines name h =
@@ -71,12 +71,12 @@ one_more_declared names new lines (BandwidthZone kind zone size) h p = no_zone n
 one_more_declared names new lines (BandwidthRemote size) h p = no_zone names new lines (BandwidthRemote size) refl h p
 
 -- without a fault by the names the command is added
-pub well_line : (names : List (List ℕ)) (before : Progress) (command : Command) → AreDeclared names (commands_in before) → fault_by_names names command ≡ None → said_after before (Ok (Some command)) ≡ Ok (with_command before command)
-well_line names before command h none =
+pub ok_line : (names : List (List ℕ)) (before : Progress) (command : Command) → AreDeclared names (commands_in before) → fault_by_names names command ≡ None → said_after before (Ok (Some command)) ≡ Ok (with_command before command)
+ok_line names before command h none =
     ap (λ found. unless_fault found (with_command before command)) (sym (same_fault names (commands_in before) command h) ∙ none)
 
--- a fault by the names is the fault of the line, and where memory is refused the line has none
-pub faulty_line : (names : List (List ℕ)) (before : Progress) (command : Command) (kind : FaultKind) → AreDeclared names (commands_in before) → IsRefusedFor (fault_by_names names command) kind → (said_after before (Ok (Some command)) ≡ Err kind) ⊎ ((kind ≡ NoMemory) × (said_after before (Ok (Some command)) ≡ Ok (with_command before command)))
+-- a fault by the names is the fault of the line, and if memory is refused the line has none
+pub faulty_line : (names : List (List ℕ)) (before : Progress) (command : Command) (kind : FaultKind) → AreDeclared names (commands_in before) → MayRefuseCommand (fault_by_names names command) kind → (said_after before (Ok (Some command)) ≡ Err kind) ⊎ ((kind ≡ NoMemory) × (said_after before (Ok (Some command)) ≡ Ok (with_command before command)))
 faulty_line names before command kind h (inl fault) =
     inl (ap (λ found. unless_fault found (with_command before command)) (sym (same_fault names (commands_in before) command h) ∙ fault))
-faulty_line names before command kind h (inr (lacks, none)) = inr (lacks, well_line names before command h none)
+faulty_line names before command kind h (inr (lacks, none)) = inr (lacks, ok_line names before command h none)

@@ -6,7 +6,7 @@ use Rattle.std.proofs.lemmas.Bool.{cases_Bool}
 use Rattle.std.proofs.lemmas.List.Splits.{slice_split-cons_yes, slice_split-cons_no}
 use Rattle.gk_terms.specs.Text.{is_blank, is_empty, words_of, spaced}
 
--- the bytes of words, and one behind each
+-- the bytes of words, and one after each
 abbrev pub cost : List (List ℕ) → ℕ
 cost [] = 0
 cost (word ∷ words) = 1 + length word + cost words

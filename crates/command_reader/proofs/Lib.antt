@@ -1,5 +1,6 @@
 pub mod AddressBack
 pub mod BandwidthBack
+pub mod CanonicalLemmas
 pub mod CommandBack
 pub mod FieldsBack
 pub mod FileBack
@@ -8,18 +9,17 @@ pub mod HopoffsBack
 pub mod IndexLemmas
 pub mod LengthsBack
 pub mod LineBack
-pub mod LineTextLemmas
 pub mod LocalZoneBack
 pub mod LocalZones
-pub mod MemoryLemmas
 pub mod NameLemmas
+pub mod NumberLemmas
 pub mod NumbersBack
 pub mod OptionLemmas
 pub mod OptionsBack
 pub mod PatternBack
-pub mod PlainLemmas
 pub mod PrefixZoneBack
 pub mod PrintingLemmas
+pub mod ReadOnLemmas
 pub mod RemoteZoneBack
 pub mod TechPrefixBack
 pub mod TechnologyBack

@@ -9,11 +9,11 @@ use Rattle.command_reader.specs.Fields.{is_one_of}
 use Rattle.command_reader.specs.ZoneLine.{left_out_of_zone, zone_at}
 use Rattle.command_reader.specs.TechnologyLine.{gw_type_prefix_at}
 use Rattle.command_reader.specs.BandwidthLine.{bandwidth_at}
-use Rattle.command_reader.specs.Line.{arq_at, no_at, kept, is_remark, passed_alone, passed_whole, left_out_commands, passed_by, opened_by, said_by, line_of}
+use Rattle.command_reader.specs.Line.{arq_at, no_at, kept_command_of, is_remark, passed_alone, passed_whole, left_out_commands, passed_at, named_command_at, command_at, line_of}
 use Rattle.command_reader.specs.Accepted.{PrintsBack}
 use Rattle.command_reader.specs.Printing.{command_words}
 use Rattle.command_reader.proofs.WordsBack.{AreWords}
-use Rattle.command_reader.proofs.FieldsBack.{chosen, same_word, ended_read}
+use Rattle.command_reader.proofs.FieldsBack.{chosen, same_word, nothing_more_read}
 use Rattle.command_reader.proofs.LengthsBack.{cost}
 use Rattle.command_reader.proofs.CommandBack.{IsSaidAgain, IsSpelledBy, prints_as_read, line_said, prints_back}
 use Rattle.command_reader.proofs.LocalZoneBack.{zone_local_spelled}
@@ -22,7 +22,7 @@ use Rattle.command_reader.proofs.PrefixZoneBack.{zone_prefix_back}
 use Rattle.command_reader.proofs.TechnologyBack.{gw_type_prefix_back}
 use Rattle.command_reader.proofs.BandwidthBack.{bandwidth_spelled}
 
-kept_some : (r : Result Command FaultKind) (command : Command) → kept r ≡ Ok (Some command) → r ≡ Ok command
+kept_some : (r : Result Command FaultKind) (command : Command) → kept_command_of r ≡ Ok (Some command) → r ≡ Ok command
 kept_some (Ok c) command h = cc
 kept_some (Err kind) command h = absurd (let no : ⊥ = cc in no)
 
@@ -34,7 +34,7 @@ zone_back (word ∷ words) command h fits =
     (λ is f.
     let same : word ≡ codes "local" = same_word word _ is in
     prints_as_read (codes "zone" ∷ codes "local" ∷ words) command (zone_local_spelled words command f)
-    (ap kept f) (subst (λ w. cost (codes "zone" ∷ w ∷ words) ≤ 513) same fits))
+    (ap kept_command_of f) (subst (λ w. cost (codes "zone" ∷ w ∷ words) ≤ 513) same fits))
     (λ _ g. chosen (bytes_eq word (codes "remote")) _ _ (Ok command) g
     (λ _ f. zone_remote_back words command f)
     (λ _ i. chosen (bytes_eq word (codes "prefix")) _ _ (Ok command) i
@@ -49,7 +49,7 @@ arq_spelled [] command h = absurd (let no : ⊥ = cc in no)
 arq_spelled (word ∷ words) command h =
     chosen (bytes_eq word (codes "reject-unknown-prefix")) _ _ (Ok command) h
     (λ is f.
-    let e = ended_read [] RejectUnknownPrefix words command f in
+    let e = nothing_more_read [] RejectUnknownPrefix words command f in
     let whole : word ∷ words ≡ codes "reject-unknown-prefix" ∷ [] =
     ap (λ w. w ∷ words) (same_word word _ is) ∙ ap (λ ws. codes "reject-unknown-prefix" ∷ ws) e.none in
     record {
@@ -63,21 +63,21 @@ no_said : (words : List (List ℕ)) (command : Command) → no_at words ≡ Ok (
 no_said [] command h = cc
 no_said (word ∷ words) command h =
     chosen (bytes_eq word (codes "shutdown")) _ _ (Ok (Some command)) h
-    (λ _ f. cc ((ended_read [] None words (Some command) f).same))
+    (λ _ f. cc ((nothing_more_read [] None words (Some command) f).same))
     (λ _ g. chosen (bytes_eq word (codes "use-proxy")) _ _ (Ok (Some command)) g (λ _ f. cc) (λ _ f. cc))
 
-passed_said : (word : List ℕ) (words : List (List ℕ)) (command : Command) → passed_by word words ≡ Ok (Some command) → ⊥
+passed_said : (word : List ℕ) (words : List (List ℕ)) (command : Command) → passed_at word words ≡ Ok (Some command) → ⊥
 passed_said word words command h =
     chosen (bytes_eq word (codes "no")) _ _ (Ok (Some command)) h
     (λ _ f. no_said words command f)
     (λ _ g. chosen (is_one_of passed_alone word) _ _ (Ok (Some command)) g
-    (λ _ f. cc ((ended_read [] None words (Some command) f).same))
+    (λ _ f. cc ((nothing_more_read [] None words (Some command) f).same))
     (λ _ i. chosen (is_one_of passed_whole word) _ _ (Ok (Some command)) i
     (λ _ f. cc)
     (λ _ j. chosen (is_one_of left_out_commands word) _ _ (Ok (Some command)) j (λ _ f. cc) (λ _ f. cc))))
 
 -- ---- the line
-opened_back : (word : List ℕ) (words : List (List ℕ)) (command : Command) → opened_by word words ≡ Ok (Some command) → cost (word ∷ words) ≤ 513 → IsSaidAgain command
+opened_back : (word : List ℕ) (words : List (List ℕ)) (command : Command) → named_command_at word words ≡ Ok (Some command) → cost (word ∷ words) ≤ 513 → IsSaidAgain command
 opened_back word words command h fits =
     chosen (bytes_eq word (codes "zone")) _ _ (Ok (Some command)) h
     (λ is f. zone_back words command (kept_some (zone_at words) command f) (subst (λ w. cost (w ∷ words) ≤ 513) (same_word word _ is) fits))
@@ -94,7 +94,7 @@ opened_back word words command h fits =
     (subst (λ w. cost (w ∷ words) ≤ 513) (same_word word _ is) fits))
     (λ _ f. absurd (passed_said word words command f)))))
 
-said_back : (words : List (List ℕ)) (command : Command) → said_by words ≡ Ok (Some command) → cost words ≤ 513 → IsSaidAgain command
+said_back : (words : List (List ℕ)) (command : Command) → command_at words ≡ Ok (Some command) → cost words ≤ 513 → IsSaidAgain command
 said_back [] command h fits = absurd (let no : ⊥ = cc in no)
 said_back (word ∷ words) command h fits =
     chosen (is_remark word) _ _ (Ok (Some command)) h

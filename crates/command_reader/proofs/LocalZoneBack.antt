@@ -5,17 +5,18 @@ use Rattle.std.proofs.lemmas.Bool.{and_from}
 use Rattle.gk_terms.specs.Name.{name_of}
 use Rattle.gk_terms.specs.Address.{ip_of, ip_text, port_of}
 use Rattle.command_reader.specs.declared.faults.FaultKind.{FaultKind}
-use Rattle.command_reader.specs.declared.faults.FaultKind.TheVariants.{BadName, BadNumber, BadAddress}
+use Rattle.command_reader.specs.declared.faults.FaultKind.TheVariants.{BadName, BadNumber, BadAddress, Missing}
 use Rattle.command_reader.specs.declared.commands.Command.{Command}
 use Rattle.command_reader.specs.declared.commands.Command.TheVariants.{ZoneLocal}
 use Rattle.command_reader.specs.declared.commands.LocalAddress.{LocalAddress}
-use Rattle.command_reader.specs.Fields.{◌>>=◌, field, value_but, ended_but}
+use Rattle.gk_terms.specs.Fields.{◌>>=◌, field}
+use Rattle.command_reader.specs.Fields.{value_but, nothing_more_but}
 use Rattle.command_reader.specs.ZoneLine.{left_out_of_local, local_port_at, local_address_at, zone_local_at}
 use Rattle.command_reader.specs.Printing.{command_words, local_words}
 use Rattle.command_reader.proofs.WordsBack.{AreWords}
 use Rattle.command_reader.proofs.NumbersBack.{number_spelled}
 use Rattle.command_reader.proofs.AddressBack.{ip_spelled}
-use Rattle.command_reader.proofs.FieldsBack.{IsNamed, bound, field_read, value_read, ended_read, name_read}
+use Rattle.command_reader.proofs.FieldsBack.{IsNamed, bound, field_read, value_read, nothing_more_read, name_read}
 use Rattle.command_reader.proofs.CommandBack.{IsSpelledBy}
 
 -- the address of a local zone, as its words
@@ -23,7 +24,7 @@ record IsLocalAddress (words : List (List ℕ)) (address : Option LocalAddress) 
   same : local_words address ≡ words
   solid : AreWords words
 
--- the words behind the address
+-- the words after the address
 record IsLocalPort (ip : List ℕ) (words : List (List ℕ)) (address : Option LocalAddress) : Type 0 where
   same : local_words address ≡ ip_text ip ∷ words
   solid : AreWords words
@@ -33,9 +34,9 @@ local_port_spelled ip [] address h =
     let is : Some (record { ip = ip; port = None }) ≡ address = cc in
     record { same = ap local_words (sym is); solid = refl }
 local_port_spelled ip (word ∷ words) address h =
-    let b = bound (value_but left_out_of_local port_of BadNumber word) (λ port. ended_but left_out_of_local (Some (record { ip = ip; port = Some port })) words) address h in
+    let b = bound (value_but left_out_of_local port_of BadNumber word) (λ port. nothing_more_but left_out_of_local (Some (record { ip = ip; port = Some port })) words) address h in
     let v = value_read left_out_of_local port_of BadNumber word b.value b.read in
-    let e = ended_read left_out_of_local (Some (record { ip = ip; port = Some b.value })) words address b.next in
+    let e = nothing_more_read left_out_of_local (Some (record { ip = ip; port = Some b.value })) words address b.next in
     let n = number_spelled 1 65535 word b.value (omega arith) v.spelled in
     let whole : word ∷ words ≡ word ∷ [] = ap (λ rest. word ∷ rest) e.none in
     record {
@@ -54,15 +55,15 @@ local_address_spelled (word ∷ words) address h =
     let p = local_port_spelled b.value words address b.next in
     record { same = p.same ∙ ap (λ w. w ∷ words) i.same; solid = and_from _ _ i.word p.solid }
 
--- the steps behind each field
-abbrev behind_address : List ℕ → List ℕ → Option LocalAddress → Result Command FaultKind
-behind_address name domain address = Ok (ZoneLocal name domain address)
+-- the steps after each field
+abbrev after_address : List ℕ → List ℕ → Option LocalAddress → Result Command FaultKind
+after_address name domain address = Ok (ZoneLocal name domain address)
 
-abbrev behind_domain : List ℕ → List ℕ × List (List ℕ) → Result Command FaultKind
-behind_domain name domain = local_address_at domain.1 >>= behind_address name domain.0
+abbrev after_domain : List ℕ → List ℕ × List (List ℕ) → Result Command FaultKind
+after_domain name domain = local_address_at domain.1 >>= after_address name domain.0
 
-abbrev behind_name : List ℕ × List (List ℕ) → Result Command FaultKind
-behind_name name = field name_of BadName name.1 >>= behind_domain name.0
+abbrev after_name : List ℕ × List (List ℕ) → Result Command FaultKind
+after_name name = field Missing name_of BadName name.1 >>= after_domain name.0
 
 -- what a `zone local` line says, by its fields
 record IsLocal (words : List (List ℕ)) (command : Command) : Type 0 where
@@ -78,13 +79,13 @@ record IsLocal (words : List (List ℕ)) (command : Command) : Type 0 where
 
 local_read : (words : List (List ℕ)) (command : Command) → zone_local_at words ≡ Ok command → IsLocal words command
 local_read words command h =
-    let n = bound (field name_of BadName words) behind_name command h in
+    let n = bound (field Missing name_of BadName words) after_name command h in
     let f = field_read [] name_of BadName words n.value n.read in
     let name = name_read f.word n.value.0 f.taken.spelled in
-    let d = bound (field name_of BadName n.value.1) (behind_domain n.value.0) command n.next in
+    let d = bound (field Missing name_of BadName n.value.1) (after_domain n.value.0) command n.next in
     let g = field_read [] name_of BadName n.value.1 d.value d.read in
     let domain = name_read g.word d.value.0 g.taken.spelled in
-    let a = bound (local_address_at d.value.1) (behind_address n.value.0 d.value.0) command d.next in
+    let a = bound (local_address_at d.value.1) (after_address n.value.0 d.value.0) command d.next in
     record {
       name = n.value.0;
       domain = d.value.0;

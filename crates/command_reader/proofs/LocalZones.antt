@@ -1,10 +1,9 @@
 -- Whether commands declare a local zone.
-use Rattle.std.proofs.Common.{◌≡◌, List, [], ◌∷◌, refl, sym, ap, ◌∙◌}
-use Rattle.std.specs.Prelude.{◌||◌, map, is_some}
+use Rattle.std.proofs.Common.{◌≡◌, List, [], ◌∷◌, refl, sym}
+use Rattle.std.specs.Prelude.{is_some}
 use Rattle.std.specs.List.{list_any}
 use Rattle.command_reader.specs.declared.commands.Command.{Command}
 use Rattle.command_reader.specs.declared.commands.Command.TheVariants.{ZoneLocal, ZoneRemote, ZonePrefix, GwTypePrefix, RejectUnknownPrefix, BandwidthDefault, BandwidthZone, BandwidthRemote}
-use Rattle.command_reader.specs.declared.commands.NumberedCommand.{NumberedCommand}
 use Rattle.command_reader.specs.Zones.{first_local_of, is_local_command}
 
 one_more : (command : Command) (lines : List Command) → (is_some (first_local_of lines) ≡ list_any is_local_command lines) → is_some (first_local_of (command ∷ lines)) ≡ list_any is_local_command (command ∷ lines)
@@ -17,14 +16,7 @@ one_more (BandwidthDefault kind size) lines h = h
 one_more (BandwidthZone kind zone size) lines h = h
 one_more (BandwidthRemote size) lines h = h
 
-some_in : (lines : List Command) → is_some (first_local_of lines) ≡ list_any is_local_command lines
-some_in [] = refl
-some_in (command ∷ lines) = one_more command lines (some_in lines)
-
-any_in : (kept : List NumberedCommand) → list_any (λ n. is_local_command n.command) kept ≡ list_any is_local_command (map (λ n. n.command) kept)
-any_in [] = refl
-any_in (n ∷ kept) = ap (λ found. is_local_command n.command || found) (any_in kept)
-
--- a local zone is found where a command declares one
-pub some_local : (kept : List NumberedCommand) → list_any (λ n. is_local_command n.command) kept ≡ is_some (first_local_of (map (λ n. n.command) kept))
-some_local kept = any_in kept ∙ sym (some_in (map (λ n. n.command) kept))
+-- a local zone is found if a command declares one
+pub some_local : (commands : List Command) → list_any is_local_command commands ≡ is_some (first_local_of commands)
+some_local [] = refl
+some_local (command ∷ commands) = sym (one_more command commands (sym (some_local commands)))

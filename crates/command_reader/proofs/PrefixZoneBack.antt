@@ -8,13 +8,14 @@ use Rattle.gk_terms.specs.Number.{number_of}
 use Rattle.digit_patterns.specs.PatternParts.{PatternParts}
 use Rattle.digit_patterns.specs.Pattern.{pattern_text, pattern_of}
 use Rattle.command_reader.specs.declared.faults.FaultKind.{FaultKind}
-use Rattle.command_reader.specs.declared.faults.FaultKind.TheVariants.{BadName, BadNumber, BadPattern}
+use Rattle.command_reader.specs.declared.faults.FaultKind.TheVariants.{BadName, BadNumber, BadPattern, Missing}
 use Rattle.command_reader.specs.declared.commands.Command.{Command}
 use Rattle.command_reader.specs.declared.commands.Command.TheVariants.{ZonePrefix}
 use Rattle.command_reader.specs.declared.commands.GatewayPriority.{GatewayPriority}
-use Rattle.command_reader.specs.Fields.{◌>>=◌, is_one_of, field, with_name, names_in, some_names_in}
+use Rattle.gk_terms.specs.Fields.{◌>>=◌, field}
+use Rattle.command_reader.specs.Fields.{is_one_of, with_name, names_in, some_names_in}
 use Rattle.command_reader.specs.ZoneLine.{hunt_words, after_hunt_word, with_gateways, gateways_at, zone_prefix_at}
-use Rattle.command_reader.specs.Line.{kept, said_by}
+use Rattle.command_reader.specs.Line.{kept_command_of, command_at}
 use Rattle.command_reader.specs.Printing.{command_words, gateway_words}
 use Rattle.command_reader.specs.Accepted.{is_word}
 use Rattle.command_reader.proofs.WordsBack.{AreWords}
@@ -47,17 +48,17 @@ some_names_read [] names h = absurd (let no : ⊥ = cc in no)
 some_names_read (word ∷ words) names h = names_read (word ∷ words) names h
 
 -- ---- gateways
--- gateways that were read: their words, which are read again where a hunt word may stand
+-- gateways that were read: their words, which are read again at the place of a hunt word
 record AreGateways (words : List (List ℕ)) (gateways : Option GatewayPriority) : Type 0 where
   same : gateway_words gateways ≡ words
   solid : AreWords words
   no_hunt_word : after_hunt_word words ≡ words
 
 priority_read : (words : List (List ℕ)) (gateways : Option GatewayPriority)
-    → field (number_of 0 10) BadNumber words >>= (λ priority. with_gateways priority.0 priority.1) ≡ Ok gateways
+    → field Missing (number_of 0 10) BadNumber words >>= (λ priority. with_gateways priority.0 priority.1) ≡ Ok gateways
     → AreGateways (codes "gw-priority" ∷ words) gateways
 priority_read words gateways h =
-    let b = bound (field (number_of 0 10) BadNumber words) (λ priority. with_gateways priority.0 priority.1) gateways h in
+    let b = bound (field Missing (number_of 0 10) BadNumber words) (λ priority. with_gateways priority.0 priority.1) gateways h in
     let f = field_read [] (number_of 0 10) BadNumber words b.value b.read in
     let n = number_spelled 0 10 f.word b.value.0 (omega arith) f.taken.spelled in
     let g = bound (some_names_in b.value.1) (λ gateways. Ok (Some (record { priority = b.value.0; gateways = gateways }))) gateways b.next in
@@ -88,14 +89,14 @@ cost_after_hunt_word (word ∷ words) = by (is_one_of hunt_words word)
     by false = omega arith
 
 -- ---- the line
-abbrev behind_gateways : List ℕ → PatternParts → Option GatewayPriority → Result Command FaultKind
-behind_gateways name pattern gateways = Ok (ZonePrefix name pattern gateways)
+abbrev after_gateways : List ℕ → PatternParts → Option GatewayPriority → Result Command FaultKind
+after_gateways name pattern gateways = Ok (ZonePrefix name pattern gateways)
 
-abbrev behind_pattern : List ℕ → PatternParts × List (List ℕ) → Result Command FaultKind
-behind_pattern name pattern = gateways_at (after_hunt_word pattern.1) >>= behind_gateways name pattern.0
+abbrev after_pattern : List ℕ → PatternParts × List (List ℕ) → Result Command FaultKind
+after_pattern name pattern = gateways_at (after_hunt_word pattern.1) >>= after_gateways name pattern.0
 
-abbrev behind_name : List ℕ × List (List ℕ) → Result Command FaultKind
-behind_name name = field pattern_of BadPattern name.1 >>= behind_pattern name.0
+abbrev after_name : List ℕ × List (List ℕ) → Result Command FaultKind
+after_name name = field Missing pattern_of BadPattern name.1 >>= after_pattern name.0
 
 -- what a `zone prefix` line says, by its fields
 record IsPrefix (words : List (List ℕ)) (command : Command) : Type 0 where
@@ -112,13 +113,13 @@ record IsPrefix (words : List (List ℕ)) (command : Command) : Type 0 where
 
 prefix_read : (words : List (List ℕ)) (command : Command) → zone_prefix_at words ≡ Ok command → IsPrefix words command
 prefix_read words command h =
-    let n = bound (field name_of BadName words) behind_name command h in
+    let n = bound (field Missing name_of BadName words) after_name command h in
     let f = field_read [] name_of BadName words n.value n.read in
     let name = name_read f.word n.value.0 f.taken.spelled in
-    let p = bound (field pattern_of BadPattern n.value.1) (behind_pattern n.value.0) command n.next in
+    let p = bound (field Missing pattern_of BadPattern n.value.1) (after_pattern n.value.0) command n.next in
     let e = field_read [] pattern_of BadPattern n.value.1 p.value p.read in
     let pattern = pattern_read e.word p.value.0 e.taken.spelled in
-    let g = bound (gateways_at (after_hunt_word p.value.1)) (behind_gateways n.value.0 p.value.0) command p.next in
+    let g = bound (gateways_at (after_hunt_word p.value.1)) (after_gateways n.value.0 p.value.0) command p.next in
     let gateways = gateways_read (after_hunt_word p.value.1) g.value g.read in
     let whole : words ≡ n.value.0 ∷ pattern_text p.value.0 ∷ p.value.1 =
     f.whole ∙ ap (λ w. w ∷ n.value.1) (sym name.same) ∙ ap (λ ws. n.value.0 ∷ ws) (e.whole ∙ ap (λ w. w ∷ p.value.1) (sym pattern.same)) in
@@ -140,11 +141,11 @@ tail_again : (words : List (List ℕ)) (command : Command) (r : IsPrefix words c
 tail_again words command r =
     let rest : List (List ℕ) = gateway_words r.gateways in
     let pattern_words : List (List ℕ) = pattern_text r.pattern ∷ rest in
-    bind_at (field name_of BadName (r.name ∷ pattern_words)) behind_name (r.name, pattern_words)
+    bind_at (field Missing name_of BadName (r.name ∷ pattern_words)) after_name (r.name, pattern_words)
     (field_again [] name_of BadName r.name pattern_words r.name (record { kept = refl; spelled = r.named.spelled }))
-    ∙ bind_at (field pattern_of BadPattern pattern_words) (behind_pattern r.name) (r.pattern, rest)
+    ∙ bind_at (field Missing pattern_of BadPattern pattern_words) (after_pattern r.name) (r.pattern, rest)
     (field_again [] pattern_of BadPattern (pattern_text r.pattern) rest r.pattern (record { kept = refl; spelled = r.pattern_spelled }))
-    ∙ bind_at (gateways_at (after_hunt_word rest)) (behind_gateways r.name r.pattern) r.gateways r.again
+    ∙ bind_at (gateways_at (after_hunt_word rest)) (after_gateways r.name r.pattern) r.gateways r.again
     ∙ ap (λ c. Ok c) r.is
 
 -- a `zone prefix` line prints back
@@ -156,7 +157,7 @@ zone_prefix_back words command h fits =
     let same : codes "zone" ∷ codes "prefix" ∷ tail ≡ command_words command = ap command_words r.is in
     let short : cost (codes "zone" ∷ codes "prefix" ∷ tail) ≤ 513 = omega (arith, fits, r.fits) in
     record {
-      said = ap said_by (sym same) ∙ ap kept (tail_again words command r);
+      said = ap command_at (sym same) ∙ ap kept_command_of (tail_again words command r);
       solid = subst AreWords same (and_from _ _ r.named.solid (and_from _ _ r.pattern_solid r.solid));
       fits = subst (λ ws. cost ws ≤ 513) same short;
     }

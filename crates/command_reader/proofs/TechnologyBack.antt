@@ -4,12 +4,13 @@ use Rattle.std.specs.Prelude.{codes}
 use Rattle.std.proofs.lemmas.Bool.{and_from}
 use Rattle.gk_terms.specs.TechPrefix.{tech_prefix_of}
 use Rattle.command_reader.specs.declared.faults.FaultKind.{FaultKind}
-use Rattle.command_reader.specs.declared.faults.FaultKind.TheVariants.{BadPattern}
+use Rattle.command_reader.specs.declared.faults.FaultKind.TheVariants.{BadPattern, Missing}
 use Rattle.command_reader.specs.declared.commands.Command.{Command}
 use Rattle.command_reader.specs.declared.commands.Command.TheVariants.{GwTypePrefix}
-use Rattle.command_reader.specs.Fields.{◌>>=◌, field}
-use Rattle.command_reader.specs.TechnologyLine.{OptionsRead, options_at, gw_type_prefix_at}
-use Rattle.command_reader.specs.Line.{kept, said_by}
+use Rattle.command_reader.specs.declared.technology_lines.Expected.TheVariants.{AnOption}
+use Rattle.gk_terms.specs.Fields.{◌>>=◌, field}
+use Rattle.command_reader.specs.TechnologyLine.{TechnologyOptions, options_at, gw_type_prefix_at}
+use Rattle.command_reader.specs.Line.{kept_command_of, command_at}
 use Rattle.command_reader.specs.Printing.{command_words, hopoff_words, default_words}
 use Rattle.command_reader.specs.Accepted.{is_word}
 use Rattle.command_reader.proofs.WordsBack.{AreWords}
@@ -17,23 +18,23 @@ use Rattle.command_reader.proofs.FieldsBack.{bound, bind_at, field_read, field_a
 use Rattle.command_reader.proofs.LengthsBack.{cost}
 use Rattle.command_reader.proofs.TechPrefixBack.{tech_prefix_read}
 use Rattle.command_reader.proofs.HopoffsBack.{AreNamed, options_read}
-use Rattle.command_reader.proofs.OptionsBack.{options_of, options_again, options_solid}
+use Rattle.command_reader.proofs.OptionsBack.{options_again, options_solid}
 use Rattle.command_reader.proofs.CommandBack.{IsSaidAgain}
 
-abbrev behind_options : List ℕ → OptionsRead → Result Command FaultKind
-behind_options prefix options = Ok (GwTypePrefix prefix options.hopoffs options.is_default)
+abbrev after_options : List ℕ → TechnologyOptions → Result Command FaultKind
+after_options prefix options = Ok (GwTypePrefix prefix options.hopoffs options.is_default)
 
-abbrev behind_prefix : List ℕ × List (List ℕ) → Result Command FaultKind
-behind_prefix prefix = options_at prefix.1 >>= behind_options prefix.0
+abbrev after_prefix : List ℕ × List (List ℕ) → Result Command FaultKind
+after_prefix prefix = options_at AnOption prefix.1 >>= after_options prefix.0
 
--- the canonical words behind `gw-type-prefix`
-abbrev tail_of : List ℕ → OptionsRead → List (List ℕ)
+-- the canonical words after `gw-type-prefix`
+abbrev tail_of : List ℕ → TechnologyOptions → List (List ℕ)
 tail_of prefix options = prefix ∷ hopoff_words options.hopoffs ++ default_words options.is_default
 
 -- what a `gw-type-prefix` line says, by its fields
 record IsTechnology (words : List (List ℕ)) (command : Command) : Type 0 where
   prefix : List ℕ
-  options : OptionsRead
+  options : TechnologyOptions
   is : GwTypePrefix prefix options.hopoffs options.is_default ≡ command
   prefix_solid : is_word prefix ≡ true
   prefix_spelled : tech_prefix_of prefix ≡ Some prefix
@@ -42,10 +43,10 @@ record IsTechnology (words : List (List ℕ)) (command : Command) : Type 0 where
 
 technology_read : (words : List (List ℕ)) (command : Command) → gw_type_prefix_at words ≡ Ok command → IsTechnology words command
 technology_read words command h =
-    let p = bound (field tech_prefix_of BadPattern words) behind_prefix command h in
+    let p = bound (field Missing tech_prefix_of BadPattern words) after_prefix command h in
     let f = field_read [] tech_prefix_of BadPattern words p.value p.read in
     let prefix = tech_prefix_read f.word p.value.0 f.taken.spelled in
-    let o = bound (options_at p.value.1) (behind_options p.value.0) command p.next in
+    let o = bound (options_at AnOption p.value.1) (after_options p.value.0) command p.next in
     let options = options_read p.value.1 o.value o.read in
     record {
       prefix = p.value.0;
@@ -60,9 +61,9 @@ technology_read words command h =
 tail_again : (words : List (List ℕ)) (command : Command) (r : IsTechnology words command) → gw_type_prefix_at (tail_of r.prefix r.options) ≡ Ok command
 tail_again words command r =
     let rest : List (List ℕ) = hopoff_words r.options.hopoffs ++ default_words r.options.is_default in
-    bind_at (field tech_prefix_of BadPattern (r.prefix ∷ rest)) behind_prefix (r.prefix, rest)
+    bind_at (field Missing tech_prefix_of BadPattern (r.prefix ∷ rest)) after_prefix (r.prefix, rest)
     (field_again [] tech_prefix_of BadPattern r.prefix rest r.prefix (record { kept = refl; spelled = r.prefix_spelled }))
-    ∙ bind_at (options_at rest) (behind_options r.prefix) (options_of r.options.hopoffs r.options.is_default)
+    ∙ bind_at (options_at AnOption rest) (after_options r.prefix) r.options
     (options_again r.options.hopoffs r.options.is_default r.names)
     ∙ ap (λ c. Ok c) r.is
 
@@ -75,7 +76,7 @@ gw_type_prefix_back words command h fits =
     let same : codes "gw-type-prefix" ∷ tail ≡ command_words command = ap command_words r.is in
     let short : cost (codes "gw-type-prefix" ∷ tail) ≤ 513 = omega (arith, fits, r.fits) in
     record {
-      said = ap said_by (sym same) ∙ ap kept (tail_again words command r);
+      said = ap command_at (sym same) ∙ ap kept_command_of (tail_again words command r);
       solid = subst AreWords same (and_from _ _ r.prefix_solid (options_solid r.options.hopoffs r.options.is_default r.names));
       fits = subst (λ ws. cost ws ≤ 513) same short;
     }

@@ -34,8 +34,8 @@ no_blanks [] h = tt
 no_blanks (b ∷ bs) h = let p = and_parts _ _ h in (not_blank b p.0, no_blanks bs p.1)
 
 -- what follows a first word
-abbrev behind : List (List ℕ) → List ℕ
-behind words = flat_map (λ next. 32 ∷ next) words
+abbrev after : List (List ℕ) → List ℕ
+after words = flat_map (λ next. 32 ∷ next) words
 
 -- between their spaces the words are the parts
 split_spaced : (word : List ℕ) (words : List (List ℕ)) → AreWords (word ∷ words) → slice_split is_blank (spaced (word ∷ words)) ≡ word ∷ words
@@ -46,7 +46,7 @@ split_spaced word [] h =
 split_spaced word (next ∷ words) h =
     let p = and_parts (is_word word) (list_all is_word (next ∷ words)) h in
     let free = All-from_recursion (λ b. is_blank b ≡ false) word (no_blanks word (and_parts _ _ p.0).1) in
-    slice_split_at is_blank word 32 (next ++ behind words) free refl ∙ ap (λ others. word ∷ others) (split_spaced next words p.1)
+    slice_split_at is_blank word 32 (next ++ after words) free refl ∙ ap (λ others. word ∷ others) (split_spaced next words p.1)
 
 -- no word is empty
 kept_words : (words : List (List ℕ)) → AreWords words → filter (λ word. not (is_empty word)) words ≡ words
@@ -75,17 +75,17 @@ printed_word : (word rest : List ℕ) → list_all is_visible word ≡ true → 
 printed_word [] rest h k = k
 printed_word (b ∷ bs) rest h k = let p = and_parts _ _ h in and_from _ _ (printed b p.0) (printed_word bs rest p.1 k)
 
-printed_behind : (words : List (List ℕ)) → AreWords words → list_all is_printed (behind words) ≡ true
+printed_behind : (words : List (List ℕ)) → AreWords words → list_all is_printed (after words) ≡ true
 printed_behind [] h = refl
 printed_behind (word ∷ words) h =
     let p = and_parts (is_word word) (list_all is_word words) h in
-    printed_word word (behind words) (and_parts _ _ p.0).1 (printed_behind words p.1)
+    printed_word word (after words) (and_parts _ _ p.0).1 (printed_behind words p.1)
 
 printed_spaced : (words : List (List ℕ)) → AreWords words → list_all is_printed (spaced words) ≡ true
 printed_spaced [] h = refl
 printed_spaced (word ∷ words) h =
     let p = and_parts (is_word word) (list_all is_word words) h in
-    printed_word word (behind words) (and_parts _ _ p.0).1 (printed_behind words p.1)
+    printed_word word (after words) (and_parts _ _ p.0).1 (printed_behind words p.1)
 
 no_feed : (b : ℕ) → is_printed b ≡ true → (b == 10) ≡ false
 no_feed b h = grind (arith, nat_tests)

@@ -26,15 +26,15 @@ pub record PrintsBack (command : Command) : Type 0 where
   pub fits : length (canonical_line command) ≤ MOST_LINE_BYTES
 
 -- commands whose canonical lines are read one after another as these commands
-pub record IsPrintable (lines : List Command) : Type 0 where
-  pub each : All PrintsBack lines
+pub record IsPrintable (commands : List Command) : Type 0 where
+  pub each : All PrintsBack commands
   pub read : Progress
-  pub whole : lines_after nothing_read (map canonical_line lines) ≡ Ok read
-  pub same : commands_in read ≡ lines
+  pub whole : lines_after nothing_read (map canonical_line commands) ≡ Ok read
+  pub same : commands_in read ≡ commands
   pub none_passed : read.passed ≡ 0
 
 -- commands of an accepted configuration: each zone that one names is declared by one, and one is local
-pub record IsAccepted (lines : List Command) : Type 0 where
-  pub printable : IsPrintable lines
-  pub declared : list_any (names_unknown lines) lines ≡ false
-  pub has_local : is_some (first_local_of lines) ≡ true
+pub record IsAccepted (commands : List Command) : Type 0 where
+  pub printable : IsPrintable commands
+  pub declared : list_any (names_unknown commands) commands ≡ false
+  pub has_local : is_some (first_local_of commands) ≡ true

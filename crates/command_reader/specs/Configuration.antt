@@ -4,5 +4,5 @@ use Rattle.command_reader.specs.declared.commands.Command.{Command}
 
 -- the kept commands in line order, and how many lines were passed over
 pub record Configuration : Type 0 where
-  pub lines : List Command
+  pub commands : List Command
   pub passed : ℕ

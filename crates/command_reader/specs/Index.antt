@@ -9,18 +9,22 @@ use Rattle.command_reader.specs.Zones.{zones_of, declared_by, is_declared}
 use Rattle.command_reader.specs.Reading.{fault_of_name}
 
 -- the names are those of the zones that the commands declare, each once
-pub record AreDeclared (names : List (List ℕ)) (lines : List Command) : Type 0 where
-  pub same : (name : List ℕ) → list_any (bytes_eq name) names ≡ is_declared lines name
-  pub count : length names ≡ length (zones_of lines)
+pub record AreDeclared (names : List (List ℕ)) (commands : List Command) : Type 0 where
+  pub same : (name : List ℕ) → list_any (bytes_eq name) names ≡ is_declared commands name
+  pub count : length names ≡ length (zones_of commands)
+
+-- the fault of one more zone of this name, by the names alone
+abbrev pub fault_of_one_more : List (List ℕ) → List ℕ → Option FaultKind
+fault_of_one_more names name = fault_of_name (list_any (bytes_eq name) names) (length names)
 
 -- the fault of a command, by the names alone
 abbrev pub fault_by_names : List (List ℕ) → Command → Option FaultKind
 fault_by_names names command =
-    option_and_then (λ zone. fault_of_name (list_any (bytes_eq zone.0) names) (length names)) (declared_by command)
+    option_and_then (λ zone. fault_of_one_more names zone.0) (declared_by command)
 
--- why a command is not added: its fault, or want of memory where it has none
-abbrev pub IsRefusedFor : Option FaultKind → FaultKind → Type 0
-IsRefusedFor fault kind = (fault ≡ Some kind) ⊎ ((kind ≡ NoMemory) × (fault ≡ None))
+-- why a command is not added: its fault; or out of memory, if it has none
+abbrev pub MayRefuseCommand : Option FaultKind → FaultKind → Type 0
+MayRefuseCommand fault kind = (fault ≡ Some kind) ⊎ ((kind ≡ NoMemory) × (fault ≡ None))
 
 -- new has the name that the command declares, if it declares one, beside those of old
 abbrev pub AddsDeclared : List (List ℕ) → List (List ℕ) → Command → Type 0

@@ -4,11 +4,8 @@ pub mod Configuration
 pub mod Fields
 pub mod Index
 pub mod Line
-pub mod LineText
 pub mod Memory
-pub mod NextWord
 pub mod Options
-pub mod Plain
 pub mod Printing
 pub mod Progress
 pub mod Reading

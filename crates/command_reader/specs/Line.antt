@@ -1,11 +1,12 @@
--- What one line says: a command, nothing where it is passed over, or its first fault from the left.
+-- What one line says: a command, nothing if it is passed over, or its first fault from the left.
 use Rattle.std.specs.Prelude.{ℕ, ◌==◌, Bool, List, [], ◌∷◌, Option, Some, None, Result, Ok, Err, codes, bytes_eq, slice_index, if◌then◌else◌}
 use Rattle.gk_terms.specs.Text.{words_of, is_too_long}
 use Rattle.command_reader.specs.declared.faults.FaultKind.{FaultKind}
-use Rattle.command_reader.specs.declared.faults.FaultKind.TheVariants.{TooLong, UnknownCommand, Unsupported, Missing}
+use Rattle.command_reader.specs.declared.faults.FaultKind.TheVariants.{TooLong, UnknownCommand, Unsupported, Missing, Extra}
 use Rattle.command_reader.specs.declared.commands.Command.{Command}
 use Rattle.command_reader.specs.declared.commands.Command.TheVariants.{RejectUnknownPrefix}
-use Rattle.command_reader.specs.Fields.{is_one_of, ended}
+use Rattle.gk_terms.specs.Fields.{nothing_more}
+use Rattle.command_reader.specs.Fields.{is_one_of}
 use Rattle.command_reader.specs.ZoneLine.{zone_at}
 use Rattle.command_reader.specs.TechnologyLine.{gw_type_prefix_at}
 use Rattle.command_reader.specs.BandwidthLine.{bandwidth_at}
@@ -14,27 +15,27 @@ use Rattle.command_reader.specs.BandwidthLine.{bandwidth_at}
 abbrev pub arq_at : List (List ℕ) → Result Command FaultKind
 arq_at [] = Err Missing
 arq_at (word ∷ words) =
-    if bytes_eq word (codes "reject-unknown-prefix") then ended RejectUnknownPrefix words else Err UnknownCommand
+    if bytes_eq word (codes "reject-unknown-prefix") then nothing_more Extra RejectUnknownPrefix words else Err UnknownCommand
 
 -- ---- no shutdown, no use-proxy
 -- of the lines that take a command back, these two change nothing here and are passed over
 abbrev pub no_at : List (List ℕ) → Result (Option Command) FaultKind
 no_at [] = Err Missing
 no_at (word ∷ words) =
-    if bytes_eq word (codes "shutdown") then ended None words
+    if bytes_eq word (codes "shutdown") then nothing_more Extra None words
     else (if bytes_eq word (codes "use-proxy") then Ok None else Err Unsupported)
 
 -- ---- a line
 -- a command that a line says
-abbrev pub kept : Result Command FaultKind → Result (Option Command) FaultKind
-kept (Ok command) = Ok (Some command)
-kept (Err kind) = Err kind
+abbrev pub kept_command_of : Result Command FaultKind → Result (Option Command) FaultKind
+kept_command_of (Ok command) = Ok (Some command)
+kept_command_of (Err kind) = Err kind
 
 -- a word that begins with an exclamation mark
 abbrev pub is_remark : List ℕ → Bool
 is_remark word = slice_index word 0 == 33
 
--- first words of lines that change nothing here, and stand alone
+-- first words of lines that change nothing here, and have no further word
 abbrev pub passed_alone : List (List ℕ)
 passed_alone = codes "gatekeeper" ∷ codes "exit" ∷ codes "end" ∷ []
 
@@ -49,26 +50,26 @@ left_out_commands =
     ∷ codes "security" ∷ codes "server" ∷ codes "shutdown" ∷ codes "use-proxy" ∷ []
 
 -- what a line says that begins with none of the words that are kept
-abbrev pub passed_by : List ℕ → List (List ℕ) → Result (Option Command) FaultKind
-passed_by word words =
+abbrev pub passed_at : List ℕ → List (List ℕ) → Result (Option Command) FaultKind
+passed_at word words =
     if bytes_eq word (codes "no") then no_at words
-    else (if is_one_of passed_alone word then ended None words
+    else (if is_one_of passed_alone word then nothing_more Extra None words
     else (if is_one_of passed_whole word then Ok None
     else (if is_one_of left_out_commands word then Err Unsupported else Err UnknownCommand)))
 
--- what a line says by its first word, and the words behind it
-abbrev pub opened_by : List ℕ → List (List ℕ) → Result (Option Command) FaultKind
-opened_by word words =
-    if bytes_eq word (codes "zone") then kept (zone_at words)
-    else (if bytes_eq word (codes "gw-type-prefix") then kept (gw_type_prefix_at words)
-    else (if bytes_eq word (codes "arq") then kept (arq_at words)
-    else (if bytes_eq word (codes "bandwidth") then kept (bandwidth_at words) else passed_by word words)))
+-- what a line says by its first word, and the words after it
+abbrev pub named_command_at : List ℕ → List (List ℕ) → Result (Option Command) FaultKind
+named_command_at word words =
+    if bytes_eq word (codes "zone") then kept_command_of (zone_at words)
+    else (if bytes_eq word (codes "gw-type-prefix") then kept_command_of (gw_type_prefix_at words)
+    else (if bytes_eq word (codes "arq") then kept_command_of (arq_at words)
+    else (if bytes_eq word (codes "bandwidth") then kept_command_of (bandwidth_at words) else passed_at word words)))
 
--- what the words of a line say; None where it is passed over
-abbrev pub said_by : List (List ℕ) → Result (Option Command) FaultKind
-said_by [] = Ok None
-said_by (word ∷ words) = if is_remark word then Ok None else opened_by word words
+-- what the words of a line say; None if it is passed over
+abbrev pub command_at : List (List ℕ) → Result (Option Command) FaultKind
+command_at [] = Ok None
+command_at (word ∷ words) = if is_remark word then Ok None else named_command_at word words
 
 -- what a line says
 unfoldable pub line_of : List ℕ → Result (Option Command) FaultKind
-line_of line = if is_too_long line then Err TooLong else said_by (words_of line)
+line_of line = if is_too_long line then Err TooLong else command_at (words_of line)

@@ -1,4 +1,4 @@
--- What may be answered where memory is taken while a line is read.
+-- What may be answered if memory is taken while a line is read.
 use Rattle.std.specs.Prelude.{◌≡◌, ◌⊎◌, ℕ, List, Option, Some, None, Result, Ok, Err, MatchResult, IfOk}
 use Rattle.std.specs.declared.alloc.AllocError.{AllocError}
 use Rattle.command_reader.specs.declared.faults.FaultKind.{FaultKind}
@@ -6,20 +6,20 @@ use Rattle.command_reader.specs.declared.faults.FaultKind.TheVariants.{NoMemory}
 use Rattle.command_reader.specs.declared.commands.Command.{Command}
 use Rattle.command_reader.specs.Zones.{declared_by}
 
--- want of memory is answered in the place of something without a fault, of which P holds
-pub record LacksMemoryAt {A : Type 0} (P : A → Type 0) (right : Result A FaultKind) (kind : FaultKind) : Type 0 where
+-- out of memory is answered in place of something without a fault, of which P holds
+pub record LacksMemoryInPlace {A : Type 0} (P : A → Type 0) (right : Result A FaultKind) (kind : FaultKind) : Type 0 where
   pub named : kind ≡ NoMemory
   pub said : A
-  pub well : right ≡ Ok said
+  pub free : right ≡ Ok said
   pub holds : P said
 
--- why it is not given: its first fault; or want of memory, where it has none
-abbrev pub IsRefusedAs : {A : Type 0} → (A → Type 0) → Result A FaultKind → FaultKind → Type 0
-IsRefusedAs P right kind = (right ≡ Err kind) ⊎ LacksMemoryAt P right kind
+-- why it is not given: its first fault; or out of memory, if it has none
+abbrev pub MayRefuse : {A : Type 0} → (A → Type 0) → Result A FaultKind → FaultKind → Type 0
+MayRefuse P right kind = (right ≡ Err kind) ⊎ LacksMemoryInPlace P right kind
 
--- just what is right; or want of memory in its place, where it has no fault and P holds of it
-abbrev pub SaysUnlessMemory : {A : Type 0} → (A → Type 0) → Result A FaultKind → Result A FaultKind → Type 0
-SaysUnlessMemory P right result = MatchResult result (λ x. right ≡ Ok x) (IsRefusedAs P right)
+-- just what is right; or out of memory in its place, if it has no fault and P holds of it
+abbrev pub UnlessMemory : {A : Type 0} → (A → Type 0) → Result A FaultKind → Result A FaultKind → Type 0
+UnlessMemory P right result = MatchResult result (λ x. right ≡ Ok x) (MayRefuse P right)
 
 -- anything
 abbrev pub Any : {A : Type 0} → A → Type 0
@@ -29,11 +29,11 @@ Any x = Unit {0}
 abbrev pub DeclaresNone : Command → Type 0
 DeclaresNone command = declared_by command ≡ None
 
--- a command that declares no zone, and no line that is passed over
-abbrev pub SaysAndDeclaresNone : Option Command → Type 0
-SaysAndDeclaresNone None = ⊥
-SaysAndDeclaresNone (Some command) = DeclaresNone command
+-- a command that declares no zone, and not a line that is passed over
+abbrev pub KeptAndDeclaresNone : Option Command → Type 0
+KeptAndDeclaresNone None = ⊥
+KeptAndDeclaresNone (Some command) = DeclaresNone command
 
 -- the names are held, unless memory was refused for one of them
-abbrev pub Holds : Result (List (List ℕ)) AllocError → List (List ℕ) → Type 0
-Holds held names = IfOk held (λ kept. kept ≡ names)
+abbrev pub HoldsNames : Result (List (List ℕ)) AllocError → List (List ℕ) → Type 0
+HoldsNames held names = IfOk held (λ kept. kept ≡ names)

@@ -1,4 +1,4 @@
--- Commands as canonical lines: each in words with one space between, and a line feed behind.
+-- Commands as canonical lines: each in words with one space between, and a line feed after them.
 use Rattle.std.specs.Prelude.{ℕ, Bool, true, false, List, [], ◌∷◌, ◌++◌, Option, Some, None, codes, decimal, flat_map, if◌then◌else◌}
 use Rattle.gk_terms.specs.Text.{line_text}
 use Rattle.gk_terms.specs.Address.{AddressParts, ip_text}
@@ -12,12 +12,12 @@ use Rattle.command_reader.specs.declared.commands.LimitKind.TheVariants.{Session
 use Rattle.command_reader.specs.Fields.{is_one_of}
 
 -- ---- zones
--- the port, where one was given
+-- the port, if one was given
 abbrev pub port_words : Option ℕ → List (List ℕ)
 port_words None = []
 port_words (Some port) = decimal port ∷ []
 
--- the address, where one was given
+-- the address, if one was given
 abbrev pub local_words : Option LocalAddress → List (List ℕ)
 local_words None = []
 local_words (Some address) = ip_text address.ip ∷ port_words address.port
@@ -27,17 +27,17 @@ abbrev pub remote_words : AddressParts → ℕ → ℕ → List (List ℕ)
 remote_words address cost priority =
     ip_text address.ip ∷ decimal address.port ∷ codes "cost" ∷ decimal cost ∷ codes "priority" ∷ decimal priority ∷ []
 
--- the gateways with their priority, where they were given
+-- the gateways with their priority, if they were given
 abbrev pub gateway_words : Option GatewayPriority → List (List ℕ)
 gateway_words None = []
 gateway_words (Some g) = codes "gw-priority" ∷ decimal g.priority ∷ g.gateways
 
 -- ---- technology prefixes
--- names that would be read as an option behind another name
+-- names that would be read as an option after another name
 abbrev pub option_words : List (List ℕ)
 option_words = codes "hopoff" ∷ codes "seq" ∷ codes "blast" ∷ codes "default-technology" ∷ codes "gw" ∷ []
 
--- a further name of a hopoff: such a name stands behind the word `hopoff` again
+-- a further name of a hopoff: such a name comes after the word `hopoff` again
 abbrev pub further_words : List ℕ → List (List ℕ)
 further_words name = if is_one_of option_words name then codes "hopoff" ∷ name ∷ [] else name ∷ []
 
@@ -71,4 +71,4 @@ command_words (BandwidthRemote size) = codes "bandwidth" ∷ codes "remote" ∷ 
 
 -- a line for each command
 abbrev pub text_of : List Command → List ℕ
-text_of lines = flat_map (λ command. line_text (command_words command)) lines
+text_of commands = flat_map (λ command. line_text (command_words command)) commands

@@ -1,5 +1,5 @@
 -- Whether a configuration is accepted: its commands, or its first fault.
-use Rattle.std.specs.Prelude.{◌≡◌, ℕ, ◌+◌, Bool, not, nat_le, List, [], ◌∷◌, ◌++◌, length, Option, Some, None, Result, Ok, Err, find, option_map, option_and_then, is_some, ◌⊎◌, if◌then◌else◌}
+use Rattle.std.specs.Prelude.{◌≡◌, ℕ, ◌+◌, Bool, not, nat_le, List, [], ◌∷◌, ◌++◌, length, Option, Some, None, Result, Ok, Err, MatchResult, find, option_map, option_and_then, is_some, ◌⊎◌, if◌then◌else◌}
 use Rattle.std.specs.List.{list_any}
 use Rattle.gk_terms.specs.declared.limits.TheConstants.{MOST_LINES, MOST_ZONES}
 use Rattle.gk_terms.specs.Text.{lines_of}
@@ -13,12 +13,12 @@ use Rattle.command_reader.specs.Configuration.{Configuration}
 use Rattle.command_reader.specs.Zones.{zones_of, declared_by, is_declared, named_by, first_local_of}
 
 -- ---- one line
--- the fault of one more zone: its name is declared before, or there are as many as there may be
+-- the fault of one more zone: its name is declared before, or no more are allowed
 abbrev pub fault_of_name : Bool → ℕ → Option FaultKind
 fault_of_name declared count =
     if declared then Some DuplicateZone else (if nat_le MOST_ZONES count then Some TooMany else None)
 
--- the fault of a zone that is declared behind these commands
+-- the fault of a zone that is declared after these commands
 abbrev pub zone_fault : List Command → List ℕ → Option FaultKind
 zone_fault before name = fault_of_name (is_declared before name) (length (zones_of before))
 
@@ -38,13 +38,13 @@ abbrev pub unless_fault : Option FaultKind → Progress → Result Progress Faul
 unless_fault None read = Ok read
 unless_fault (Some kind) read = Err kind
 
--- behind a line that says this
+-- after a line that says this
 abbrev pub said_after : Progress → Result (Option Command) FaultKind → Result Progress FaultKind
 said_after before (Err kind) = Err kind
 said_after before (Ok None) = Ok (with_passed before)
 said_after before (Ok (Some command)) = unless_fault (command_fault (commands_in before) command) (with_command before command)
 
--- one line behind those before it
+-- one line after those before it
 unfoldable pub line_after : Progress → List ℕ → Result Progress FaultKind
 line_after before line = if nat_le MOST_LINES (line_count before) then Err TooMany else said_after before (line_of line)
 
@@ -53,7 +53,7 @@ line_after before line = if nat_le MOST_LINES (line_count before) then Err TooMa
 abbrev pub fault_at : ℕ → FaultKind → LineFault
 fault_at number kind = record { line = number; kind = kind }
 
--- the rest is read where this line has no fault
+-- the rest is read if this line has no fault
 abbrev pub line_then : ℕ → (Progress → Result Progress LineFault) → Result Progress FaultKind → Result Progress LineFault
 line_then number rest (Ok read) = rest read
 line_then number rest (Err kind) = Err (fault_at number kind)
@@ -66,24 +66,24 @@ lines_after before (line ∷ lines) = line_then (line_count before + 1) (λ read
 -- ---- the whole
 -- whether a command names a zone that none of these declares
 abbrev pub names_unknown : List Command → Command → Bool
-names_unknown lines command = list_any (λ name. not (is_declared lines name)) (named_by command)
+names_unknown commands command = list_any (λ name. not (is_declared commands name)) (named_by command)
 
 -- the first line that names a zone which no line declares
 abbrev pub unknown_zone : Progress → Option LineFault
 unknown_zone read =
     option_map (λ n. fault_at n.line UnknownZone) (find (λ n. names_unknown (commands_in read) n.command) read.kept)
 
--- a file without a local zone is at fault behind its last line
+-- a file without a local zone is at fault one past its last line
 abbrev pub local_zone_checked : Progress → Result Configuration LineFault
 local_zone_checked read =
-    if is_some (first_local_of (commands_in read)) then Ok (record { lines = commands_in read; passed = read.passed })
+    if is_some (first_local_of (commands_in read)) then Ok (record { commands = commands_in read; passed = read.passed })
     else Err (fault_at (line_count read + 1) NoLocalZone)
 
 abbrev pub zones_checked : Progress → Option LineFault → Result Configuration LineFault
 zones_checked read (Some fault) = Err fault
 zones_checked read None = local_zone_checked read
 
--- the configuration, where no line has a fault of its own
+-- the configuration, if no line has a fault of its own
 abbrev pub finished : Progress → Result Configuration LineFault
 finished read = zones_checked read (unknown_zone read)
 
@@ -102,31 +102,43 @@ reading_in lines = whole_of (lines_after nothing_read lines)
 
 -- what the bytes of a configuration say
 unfoldable pub reading_of : List ℕ → Result Configuration LineFault
-reading_of bytes = whole_of (lines_after nothing_read (lines_of bytes))
+reading_of bytes = reading_in (lines_of bytes)
 
--- ---- want of memory
--- the line says a command that is kept, and want of memory is answered in its place
+-- ---- reading, or out of memory
+-- memory is refused only at a line whose command would be kept, and then that is its fault
 abbrev pub LacksMemoryFor : Progress → List ℕ → FaultKind → Type 0
 LacksMemoryFor before line kind = (kind ≡ NoMemory) × ((command : Command) × (line_after before line ≡ Ok (with_command before command)))
 
--- memory was refused at one of these lines: those before it were read without a fault, it says a command that is
--- kept, and it is the one that is named
+-- memory was refused at one of these lines: those before it have no fault, its command would be kept, and the fault
+-- names it
 pub record LacksMemory (before : Progress) (lines : List (List ℕ)) (fault : LineFault) : Type 0 where
   pub front : List (List ℕ)
   pub line : List ℕ
   pub rest : List (List ℕ)
   pub split : lines ≡ front ++ line ∷ rest
   pub read : Progress
-  pub well : lines_after before front ≡ Ok read
+  pub read_is : lines_after before front ≡ Ok read
   pub named : fault.line ≡ line_count read + 1
   pub lacks : LacksMemoryFor read line fault.kind
 
--- why these lines are not read to their end: their first fault, or want of memory at one of them
-abbrev pub AreRefusedWith : Progress → List (List ℕ) → LineFault → Type 0
-AreRefusedWith before lines fault = (lines_after before lines ≡ Err fault) ⊎ LacksMemory before lines fault
+-- what a reader of one more line may answer: what has been read with it; its fault; or out of memory
+abbrev pub MayReadLine : Progress → List ℕ → Result Progress LineFault → Type 0
+MayReadLine before line result =
+    MatchResult result
+    (λ read. line_after before line ≡ Ok read)
+    (λ fault. (fault.line ≡ line_count before + 1) × ((line_after before line ≡ Err fault.kind) ⊎ LacksMemoryFor before line fault.kind))
 
--- what a reader of these bytes may answer: what they say; or want of memory, named with the line at which it was
--- refused
-abbrev pub ReadsAs : List ℕ → Result Configuration LineFault → Type 0
-ReadsAs bytes result =
-    (result ≡ reading_of bytes) ⊎ ((fault : LineFault) × (result ≡ Err fault) × LacksMemory nothing_read (lines_of bytes) fault)
+-- what a reader of these lines after earlier ones may answer: what has been read with them; their first fault; or out
+-- of memory
+abbrev pub MayReadOn : Progress → List (List ℕ) → Result Progress LineFault → Type 0
+MayReadOn before lines result =
+    MatchResult result
+    (λ read. lines_after before lines ≡ Ok read)
+    (λ fault. (lines_after before lines ≡ Err fault) ⊎ LacksMemory before lines fault)
+
+-- what a reader of a whole configuration may answer: what its lines say; its first fault; or out of memory
+abbrev pub MayRead : List (List ℕ) → Result Configuration LineFault → Type 0
+MayRead lines result =
+    MatchResult result
+    (λ configuration. reading_in lines ≡ Ok configuration)
+    (λ fault. (reading_in lines ≡ Err fault) ⊎ LacksMemory nothing_read lines fault)

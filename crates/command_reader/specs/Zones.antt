@@ -23,15 +23,15 @@ declared_by (BandwidthRemote size) = None
 
 -- all zones, in line order
 abbrev pub zones_of : List Command → List (List ℕ × Zone)
-zones_of lines = filter_map declared_by lines
+zones_of commands = filter_map declared_by commands
 
 -- whether a zone of that name is declared
 abbrev pub is_declared : List Command → List ℕ → Bool
-is_declared lines name = list_any (λ zone. bytes_eq name zone.0) (zones_of lines)
+is_declared commands name = list_any (λ zone. bytes_eq name zone.0) (zones_of commands)
 
--- what the line that declares the name says of it
+-- what the command that declares the name says of it
 abbrev pub zone_of : List Command → List ℕ → Option Zone
-zone_of lines name = option_map (λ zone. zone.1) (find (λ zone. bytes_eq name zone.0) (zones_of lines))
+zone_of commands name = option_map (λ zone. zone.1) (find (λ zone. bytes_eq name zone.0) (zones_of commands))
 
 abbrev pub is_local_zone : Zone → Bool
 is_local_zone Local = true
@@ -39,7 +39,7 @@ is_local_zone (Remote address) = false
 
 -- the first local zone in line order
 abbrev pub first_local_of : List Command → Option (List ℕ)
-first_local_of lines = option_map (λ zone. zone.0) (find (λ zone. is_local_zone zone.1) (zones_of lines))
+first_local_of commands = option_map (λ zone. zone.0) (find (λ zone. is_local_zone zone.1) (zones_of commands))
 
 -- whether a command declares a local zone
 abbrev pub is_local_command : Command → Bool
@@ -52,7 +52,7 @@ is_local_command (BandwidthDefault kind size) = false
 is_local_command (BandwidthZone kind zone size) = false
 is_local_command (BandwidthRemote size) = false
 
--- the zones that a command names and that some line must declare
+-- the zones that a command names and that some command must declare
 abbrev pub named_by : Command → List (List ℕ)
 named_by (ZoneLocal name domain address) = []
 named_by (ZoneRemote name domain address cost priority) = []

@@ -1,4 +1,4 @@
-//! Lines and texts that both readers accept, and what they say.
+//! Lines and texts that are accepted, and what they say.
 
 use crate::test_texts::{
     assert_accepted, assert_passed, assert_says, gateways, local, prefix, remote, technology,

@@ -2,18 +2,19 @@
 
 ghost use Rattle.std.specs.Prelude.{◌≡◌};
 ghost use Rattle.gk_terms.specs.Text.{words_of};
-ghost use Rattle.command_reader.specs.BandwidthLine.{most_of, default_at, of_zone_at, limit_at, remote_at, bandwidth_at};
+ghost use Rattle.command_reader.specs.BandwidthLine.{most_of, default_limit_at, zone_limit_at, limit_at, remote_limit_at, bandwidth_at};
 
 use crate::commands::{Command, LimitKind};
 use crate::faults::FaultKind;
-use crate::fields::{name_field, size_field, whole};
+use crate::fields::size_field;
+use gk_terms::fields::{name_field, nothing_more};
 use gk_terms::words::Words;
 
 /// The greatest size of a limit, in kbit/s.
-const MOST_SIZE: u32 = 10_000_000;
+pub const MOST_KBPS: u32 = 10_000_000;
 
 /// The greatest size of one call, in kbit/s.
-const MOST_SESSION_SIZE: u32 = 5_000;
+pub const MOST_SESSION_KBPS: u32 = 5_000;
 
 /// `bandwidth` and what follows it.
 pub fn bandwidth(words: &mut Words<'_>) -> Result<Command, FaultKind>
@@ -44,27 +45,27 @@ fn limit(kind: LimitKind, words: &mut Words<'_>) -> Result<Command, FaultKind>
 
 /// `SIZE`, the limit of each local zone that has none of its own.
 fn default_limit(kind: LimitKind, words: &mut Words<'_>) -> Result<Command, FaultKind>
-    ensures { result ≡ default_at kind (words_of words.old) }
+    ensures { result ≡ default_limit_at kind (words_of words.old) }
 {
-    let size = size_field(most_size(kind), words)?;
-    whole(Command::BandwidthDefault { kind, size }, words)
+    let size = size_field(words, most_size(kind))?;
+    nothing_more(Command::BandwidthDefault { kind, size }, words)
 }
 
 /// `NAME SIZE`, the limit of one zone.
 fn zone_limit(kind: LimitKind, words: &mut Words<'_>) -> Result<Command, FaultKind>
-    ensures { result ≡ of_zone_at kind (words_of words.old) }
+    ensures { result ≡ zone_limit_at kind (words_of words.old) }
 {
-    let zone = name_field(words)?;
-    let size = size_field(most_size(kind), words)?;
-    whole(Command::BandwidthZone { kind, zone, size }, words)
+    let zone = name_field(words, FaultKind::BadName)?;
+    let size = size_field(words, most_size(kind))?;
+    nothing_more(Command::BandwidthZone { kind, zone, size }, words)
 }
 
 /// `SIZE`, the limit of all calls to remote zones together.
 fn remote_limit(words: &mut Words<'_>) -> Result<Command, FaultKind>
-    ensures { result ≡ remote_at (words_of words.old) }
+    ensures { result ≡ remote_limit_at (words_of words.old) }
 {
-    let size = size_field(MOST_SIZE, words)?;
-    whole(Command::BandwidthRemote { size }, words)
+    let size = size_field(words, MOST_KBPS)?;
+    nothing_more(Command::BandwidthRemote { size }, words)
 }
 
 /// The greatest size of a limit of this kind, in kbit/s.
@@ -72,7 +73,7 @@ fn most_size(kind: LimitKind) -> u32
     ensures { result ≡ most_of kind }
 {
     match kind {
-        LimitKind::Session => MOST_SESSION_SIZE,
-        LimitKind::Total | LimitKind::Interzone => MOST_SIZE,
+        LimitKind::Session => MOST_SESSION_KBPS,
+        LimitKind::Total | LimitKind::Interzone => MOST_KBPS,
     }
 }

@@ -1,6 +1,6 @@
 //! The commands of a configuration.
 
-ghost use Rattle.std.specs.Prelude.{◌≡◌, ◌==◌, ◌≤◌, length, map, slice_get};
+ghost use Rattle.std.specs.Prelude.{◌≡◌, ◌==◌, ◌≤◌, length, slice_get};
 ghost use Rattle.std.specs.Option.{option_copied};
 ghost use Rattle.command_reader.specs.Accepted.{IsAccepted};
 
@@ -20,8 +20,8 @@ pub enum Command {
         domain: Name,
         address: Option<LocalAddress>,
     },
-    /// `zone remote NAME DOMAIN IP [PORT] [cost C [priority P]]`: a zone of another gatekeeper, at port 1719 where
-    /// none is given. Cost and priority are 1 to 100, and 50 where they are not given.
+    /// `zone remote NAME DOMAIN IP [PORT] [cost C [priority P]]`: a zone of another gatekeeper, at port 1719 if
+    /// none is given. Cost and priority are 1 to 100, and 50 if they are not given.
     ZoneRemote {
         name: Name,
         domain: Name,
@@ -121,77 +121,73 @@ pub struct GatewayPriority {
 pub struct LocalAddress {
     /// The IPv4 address.
     pub ip: [u8; 4],
-    /// The port, 1 to 65535, where one was given.
+    /// The port, 1 to 65535, if one was given.
     pub port: Option<u16>,
-}
-
-/// A kept line with its number.
-#[derive(Debug, PartialEq, Eq, Drop)]
-pub(crate) struct NumberedCommand {
-    pub(crate) line: u32,
-    pub(crate) command: Command,
 }
 
 /// The commands of an accepted configuration, in line order, and how many of its lines were passed over.
 /// A contract sees both as a `Configuration`.
 #[derive(Drop)]
 pub struct Commands {
-    kept: Vec<NumberedCommand>,
+    commands: Vec<Command>,
     passed_over: u32,
 }
 
 impl Model for Commands {
-    ghost use Rattle.std.specs.Prelude.{◌≤◌, length, map};
+    ghost use Rattle.std.specs.Prelude.{◌≤◌, length};
     ghost use Rattle.gk_terms.specs.declared.limits.TheConstants.{MOST_LINES};
     ghost use Rattle.command_reader.specs.Accepted.{IsAccepted};
     ghost use Rattle.command_reader.specs.Configuration.{Configuration};
 
     ghost Value = { Configuration };
 
-    ghost view = { λ c. record { lines = map (λ n. n.command) c.kept.items; passed = c.passed_over } };
+    ghost view = { λ c. record { commands = c.commands.items; passed = c.passed_over } };
 
-    ghost invariant = { λ c. (length c.kept.items ≤ MOST_LINES) × IsAccepted (map (λ n. n.command) c.kept.items) };
+    ghost invariant = { λ c. (length c.commands.items ≤ MOST_LINES) × IsAccepted c.commands.items };
 }
 
 impl Commands {
-    pub(crate) fn new(kept: Vec<NumberedCommand>, passed_over: u32) -> Commands
-        requires within { length kept.items ≤ MOST_LINES }
-        requires accepted { IsAccepted (map (λ n. n.command) kept.items) }
-        ensures lines { result.lines ≡ map (λ n. n.command) kept.items }
+    pub(crate) fn new(commands: Vec<Command>, passed_over: u32) -> Commands
+        requires within { length commands.items ≤ MOST_LINES }
+        requires accepted { IsAccepted commands.items }
+        ensures commands { result.commands ≡ commands.items }
         ensures passed { result.passed ≡ passed_over }
     {
-        Commands { kept, passed_over }
+        Commands {
+            commands,
+            passed_over,
+        }
     }
 
-    /// The commands with the numbers of their lines.
-    pub(crate) fn kept(&self) -> &[NumberedCommand]
-        ensures lines { map (λ n. n.command) result.now ≡ self.now.lines }
-        ensures accepted { IsAccepted self.now.lines }
+    /// The commands as a slice.
+    pub fn as_slice(&self) -> &[Command]
+        ensures commands { result.now ≡ self.now.commands }
+        ensures accepted { IsAccepted self.now.commands }
     {
-        &self.kept
+        &self.commands
     }
 
     /// How many commands were kept: at most 20,000.
     pub fn len(&self) -> usize
-        ensures count { result ≡ length self.now.lines }
+        ensures count { result ≡ length self.now.commands }
         ensures within { result ≤ MOST_LINES }
+        ensures accepted { IsAccepted self.now.commands }
     {
-        self.kept.len()
+        self.commands.len()
     }
 
     /// Whether none was kept.
     pub fn is_empty(&self) -> bool
-        ensures { result ≡ (length self.now.lines == 0) }
+        ensures { result ≡ (length self.now.commands == 0) }
     {
-        self.kept.is_empty()
+        self.commands.is_empty()
     }
 
     /// The command at a place, counted from 0.
     pub fn get(&self, place: usize) -> Option<&Command>
-        ensures { option_copied result ≡ slice_get self.now.lines place }
+        ensures { option_copied result ≡ slice_get self.now.commands place }
     {
-        let numbered = self.kept.get(place)?;
-        Some(&numbered.command)
+        self.commands.get(place)
     }
 
     /// How many lines were passed over.

@@ -1,47 +1,54 @@
 //! A configuration as it is read, line by line.
 
-ghost use Rattle.std.specs.Prelude.{◌≡◌, true, ◌⊎◌, ◌+◌, ◌<◌, ◌≤◌, ◌==◌, ℕ, List, length, ◌∷◌, MatchResult, Ok, Err, Some, None, bytes_eq, is_some};
-ghost use Rattle.std.specs.List.{list_any};
+ghost use Rattle.std.specs.Prelude.{◌≡◌, true, ◌⊎◌, ◌+◌, ◌<◌, ◌≤◌, ◌==◌, ℕ, List, length, ◌∷◌, MatchResult, Ok, Err, Some, None, bytes_eq, is_some, option_map, slice_get};
+ghost use Rattle.std.specs.List.{list_any, position_or_len};
 ghost use Rattle.std.specs.List.Sorted.{IsPermutation};
 ghost use Rattle.std.specs.HashSet.{keys};
 ghost use Rattle.command_reader.specs.Accepted.{PrintsBack};
-ghost use Rattle.command_reader.specs.Index.{AddsDeclared, IsRefusedFor, fault_by_names};
+ghost use Rattle.command_reader.specs.Index.{AddsDeclared, MayRefuseCommand, fault_of_one_more, fault_by_names};
 ghost use Rattle.command_reader.specs.Progress.{Progress, line_count, commands_in};
 ghost use Rattle.command_reader.specs.Zones.{first_local_of, is_declared, is_local_command};
-ghost use Rattle.command_reader.specs.Reading.{nothing_read, line_after, said_after, fault_of_name, with_command, with_passed, finished, names_unknown, unknown_zone, LacksMemoryFor};
+ghost use Rattle.command_reader.specs.Reading.{nothing_read, line_after, said_after, fault_of_name, fault_at, with_command, with_passed, finished, names_unknown, unknown_zone, LacksMemoryFor, MayReadLine};
 
-use crate::commands::{Command, Commands, NumberedCommand};
+use crate::commands::{Command, Commands};
 use crate::faults::{FaultKind, LineFault};
-use crate::lines::command_in;
+use crate::first_words::command_in;
 use gk_terms::Name;
 use gk_terms::limits::{MOST_LINES, MOST_ZONES};
 use std::alloc::Global;
 use std::collections::HashSet;
 use std::marker::Model;
 
-/// The lines read so far. A contract sees them as `Progress`.
+/// The lines read so far: the kept commands, the number of each one's line, how many lines were passed over, and the
+/// names of the declared zones. A contract sees them as `Progress`.
 #[derive(Drop)]
 pub struct Draft {
     alloc: Global,
-    kept: Vec<NumberedCommand>,
+    commands: Vec<Command>,
+    numbers: Vec<u32>,
     passed: u32,
     declared: HashSet<Name>,
 }
 
 impl Model for Draft {
-    ghost use Rattle.std.specs.Prelude.{◌+◌, ◌≤◌, length, map};
+    ghost use Rattle.std.specs.Prelude.{◌≡◌, ◌+◌, ◌≤◌, length};
     ghost use Rattle.std.specs.HashSet.{keys};
     ghost use Rattle.gk_terms.specs.declared.limits.TheConstants.{MOST_LINES};
     ghost use Rattle.command_reader.specs.Accepted.{IsPrintable};
     ghost use Rattle.command_reader.specs.Index.{AreDeclared};
-    ghost use Rattle.command_reader.specs.Progress.{Progress};
+    ghost use Rattle.command_reader.specs.Progress.{Progress, with_numbers};
 
     ghost Value = { Progress };
 
-    ghost view = { λ d. record { kept = d.kept.items; passed = d.passed } };
+    ghost view = { λ d. record {
+      kept = with_numbers d.numbers.items d.commands.items;
+      passed = d.passed;
+    } };
 
-    ghost invariant = { λ d. (length d.kept.items + d.passed ≤ MOST_LINES) × AreDeclared (keys d.declared) (map (λ n. n.command) d.kept.items)
-        × IsPrintable (map (λ n. n.command) d.kept.items) };
+    ghost invariant = { λ d. (length d.numbers.items ≡ length d.commands.items)
+        × (length d.commands.items + d.passed ≤ MOST_LINES)
+        × AreDeclared (keys d.declared) d.commands.items
+        × IsPrintable d.commands.items };
 }
 
 impl Draft {
@@ -52,7 +59,8 @@ impl Draft {
     {
         Draft {
             alloc,
-            kept: Vec::new(alloc),
+            commands: Vec::new(alloc),
+            numbers: Vec::new(alloc),
             passed: 0,
             declared: HashSet::new(alloc),
         }
@@ -63,16 +71,13 @@ impl Draft {
         ensures count { result ≡ line_count self.now }
         ensures within { result ≤ MOST_LINES }
     {
-        self.kept.len() + self.passed as usize
+        self.commands().len() + self.passed as usize
     }
 
     /// With the next line, or the line's first fault. Where memory is refused for the command of a line without a
     /// fault, the fault is `NoMemory` in its place.
     pub fn with_line(self, line: &[u8]) -> Result<Draft, LineFault>
-        ensures { MatchResult result
-            (λ read. line_after self line.now ≡ Ok read)
-            (λ fault. (fault.line ≡ line_count self + 1)
-            × ((line_after self line.now ≡ Err fault.kind) ⊎ LacksMemoryFor self line.now fault.kind)) }
+        ensures { MayReadLine self line.now result }
     {
         let number = self.line_count() as u32 + 1;
         match self.with_text(line) {
@@ -97,7 +102,7 @@ impl Draft {
         }
     }
 
-    /// The configuration, where each line was read: its commands, or the fault of its zones.
+    /// The configuration of the lines that were read: its commands, or the fault of its zones.
     pub fn finish(self) -> Result<Commands, LineFault>
         ensures { result ≡ finished self }
     {
@@ -117,14 +122,25 @@ impl Draft {
     pub fn unknown_zone(&self) -> Option<LineFault>
         ensures { result ≡ unknown_zone self.now }
     {
-        let kept = self
-            .kept
+        unknown_at(&self.numbers, self.place_of_unknown())
+    }
+
+    /// The place of the first command that names a zone which no line declares; their number if there is none.
+    fn place_of_unknown(&self) -> usize
+        ensures { result ≡
+            position_or_len (names_unknown (commands_in self.now)) (commands_in self.now) }
+    {
+        self.commands()
             .iter()
-            .find(|kept| self.names_unknown(&kept.command))?;
-        Some(LineFault {
-            line: kept.line,
-            kind: FaultKind::UnknownZone,
-        })
+            .take_while(|command| !self.names_unknown(command))
+            .count()
+    }
+
+    /// The kept commands.
+    fn commands(&self) -> &[Command]
+        ensures { result.now ≡ commands_in self.now }
+    {
+        &self.commands
     }
 
     /// Whether a command names a zone that no line declares.
@@ -146,17 +162,21 @@ impl Draft {
     pub fn has_local_zone(&self) -> bool
         ensures { result ≡ is_some (first_local_of (commands_in self.now)) }
     {
-        has_local(&self.kept)
+        has_local(self.commands())
     }
 
     /// The commands, and how many lines were passed over.
     fn into_commands(self) -> Commands
         requires declared { unknown_zone self ≡ None }
         requires has_local { is_some (first_local_of (commands_in self)) ≡ true }
-        ensures { result ≡ record { lines = commands_in self; passed = self.passed } }
+        ensures { result ≡ record { commands = commands_in self; passed = self.passed } }
     {
-        let Draft { kept, passed, .. } = self;
-        Commands::new(kept, passed)
+        let Draft {
+            commands,
+            passed,
+            ..
+        } = self;
+        Commands::new(commands, passed)
     }
 
     /// With the next line passed over.
@@ -175,27 +195,42 @@ impl Draft {
         ensures { MatchResult result
             (λ read. said_after self (Ok (Some command)) ≡ Ok read)
             (λ kind. (said_after self (Ok (Some command)) ≡ Err kind)
-            ⊎ ((kind ≡ FaultKind.NoMemory) × (said_after self (Ok (Some command)) ≡ Ok (with_command self command)))) }
+            ⊎ ((kind ≡ FaultKind.NoMemory)
+            × (said_after self (Ok (Some command)) ≡ Ok (with_command self command)))) }
     {
-        let line = self.line_count() as u32 + 1;
+        let number = self.line_count() as u32 + 1;
         index(&mut self.declared, &command)?;
-        self.kept.push(NumberedCommand { line, command })?;
+        self.commands.push(command)?;
+        self.numbers.push(number)?;
         Ok(self)
     }
 }
 
-/// Whether one of the commands declares a local zone.
-fn has_local(kept: &[NumberedCommand]) -> bool
-    ensures { result ≡ list_any (λ n. is_local_command n.command) kept.now }
+/// The fault of naming an unknown zone, at the line of the command at a place, by the numbers of the lines.
+fn unknown_at(numbers: &[u32], place: usize) -> Option<LineFault>
+    ensures { result ≡
+        option_map (λ number. fault_at number FaultKind.UnknownZone) (slice_get numbers.now place) }
 {
-    kept.iter().any(|kept| kept.command.is_local_zone())
+    let line = *numbers.get(place)?;
+    Some(LineFault {
+        line,
+        kind: FaultKind::UnknownZone,
+    })
+}
+
+/// Whether one of the commands declares a local zone.
+fn has_local(commands: &[Command]) -> bool
+    ensures { result ≡ list_any is_local_command commands.now }
+{
+    commands.iter().any(|command| command.is_local_zone())
 }
 
 /// Adds the name of the zone that a command declares, if it declares one.
 fn index(declared: &mut HashSet<Name>, command: &Command) -> Result<(), FaultKind>
     ensures { MatchResult result
-        (λ _. (fault_by_names (keys declared.old) command.now ≡ None) × AddsDeclared (keys declared.old) (keys declared.new) command.now)
-        (λ kind. IsRefusedFor (fault_by_names (keys declared.old) command.now) kind) }
+        (λ _. (fault_by_names (keys declared.old) command.now ≡ None)
+        × AddsDeclared (keys declared.old) (keys declared.new) command.now)
+        (λ kind. MayRefuseCommand (fault_by_names (keys declared.old) command.now) kind) }
 {
     match command.declares() {
         None => Ok(()),
@@ -206,9 +241,9 @@ fn index(declared: &mut HashSet<Name>, command: &Command) -> Result<(), FaultKin
 /// Adds the name of one more zone.
 fn declare(declared: &mut HashSet<Name>, name: Name) -> Result<(), FaultKind>
     ensures { MatchResult result
-        (λ _. (fault_of_name (list_any (bytes_eq name) (keys declared.old)) (length (keys declared.old)) ≡ None)
+        (λ _. (fault_of_one_more (keys declared.old) name ≡ None)
         × IsPermutation (name ∷ keys declared.old) (keys declared.new))
-        (λ kind. IsRefusedFor (fault_of_name (list_any (bytes_eq name) (keys declared.old)) (length (keys declared.old))) kind) }
+        (λ kind. MayRefuseCommand (fault_of_one_more (keys declared.old) name) kind) }
 {
     if declared.contains(&name) {
         return Err(FaultKind::DuplicateZone);

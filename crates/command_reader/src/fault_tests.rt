@@ -1,4 +1,4 @@
-//! Faults of single lines and of whole texts, by both readers.
+//! Faults of single lines and of whole texts.
 
 use crate::FaultKind;
 use crate::test_texts::{assert_fault, assert_line_fault};

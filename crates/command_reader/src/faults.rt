@@ -1,5 +1,6 @@
 //! Why a configuration is refused.
 
+use gk_terms::fields::FieldFault;
 use std::alloc::{AllocError, AllocFailed};
 use thiserror::Error;
 
@@ -18,19 +19,19 @@ pub enum FaultKind {
     /// A field is absent.
     #[error("Missing")]
     Missing,
-    /// A word stands behind the last field.
+    /// A word comes after the last field.
     #[error("Extra")]
     Extra,
-    /// A field is no name.
+    /// A field is not a name.
     #[error("BadName")]
     BadName,
-    /// A field is no pattern of digits, or no technology prefix.
+    /// A field is not a pattern of digits, or not a technology prefix.
     #[error("BadPattern")]
     BadPattern,
-    /// A field is no number in its range.
+    /// A field is not a number in its range.
     #[error("BadNumber")]
     BadNumber,
-    /// A field is no IPv4 address.
+    /// A field is not an IPv4 address.
     #[error("BadAddress")]
     BadAddress,
     /// The line names a zone that no line declares.
@@ -48,6 +49,22 @@ pub enum FaultKind {
     /// Memory was refused while the line was read.
     #[error("NoMemory")]
     NoMemory,
+}
+
+impl FieldFault for FaultKind {
+    ghost use Rattle.command_reader.specs.declared.faults.FaultKind.TheVariants.{Missing, Extra};
+
+    ghost missing = { Missing };
+
+    ghost extra = { Extra };
+
+    fn missing() -> FaultKind {
+        FaultKind::Missing
+    }
+
+    fn extra() -> FaultKind {
+        FaultKind::Extra
+    }
 }
 
 impl<T: Drop> From<AllocFailed<T>> for FaultKind {
@@ -76,7 +93,7 @@ impl From<AllocError> for FaultKind {
 #[derive(Clone, Copy, Debug, PartialEq, Eq, Error)]
 #[error("line {line}: {kind}")]
 pub struct LineFault {
-    /// The number of the line, from 1. `NoLocalZone` is named one behind the last line.
+    /// The number of the line, from 1. `NoLocalZone` is numbered one past the last line.
     pub line: u32,
     /// What is wrong there.
     pub kind: FaultKind,

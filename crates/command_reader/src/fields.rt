@@ -1,6 +1,6 @@
 //! The fields of a line.
 
-ghost use Rattle.std.specs.Prelude.{◌≡◌, [], ◌∷◌, ◌++◌, IsErr, MatchResult};
+ghost use Rattle.std.specs.Prelude.{◌≡◌, ◌≤◌, [], ◌∷◌, ◌++◌, IsErr, MatchResult};
 ghost use Rattle.std.specs.Option.{ok_or};
 ghost use Rattle.gk_terms.specs.Text.{words_of};
 ghost use Rattle.gk_terms.specs.Name.{name_of};
@@ -8,16 +8,17 @@ ghost use Rattle.gk_terms.specs.Number.{number_of};
 ghost use Rattle.gk_terms.specs.TechPrefix.{tech_prefix_of};
 ghost use Rattle.gk_terms.specs.Address.{ip_of};
 ghost use Rattle.digit_patterns.specs.Pattern.{pattern_of};
-ghost use Rattle.command_reader.specs.Fields.{Gives, field, ended, names_in, some_names_in};
-ghost use Rattle.command_reader.specs.Memory.{SaysUnlessMemory, Any, Holds};
+ghost use Rattle.gk_terms.specs.Fields.{Gives, field};
+ghost use Rattle.command_reader.specs.Fields.{names_in, some_names_in};
+ghost use Rattle.command_reader.specs.Memory.{UnlessMemory, Any, HoldsNames};
 
-use crate::commands::Command;
 use crate::faults::FaultKind;
 use crate::names::Names;
 use digit_patterns::Pattern;
 use gk_terms::addresses::read_ip;
+use gk_terms::fields::number_field;
 use gk_terms::words::Words;
-use gk_terms::{Kbps, Name, TechPrefix, read_number};
+use gk_terms::{Kbps, Name, TechPrefix};
 use std::alloc::{AllocError, Global};
 
 /// A word as a name.
@@ -27,17 +28,10 @@ pub fn name(word: &[u8]) -> Result<Name, FaultKind>
     Name::read(word).map_err(|_| FaultKind::BadName)
 }
 
-/// The next word as a name.
-pub fn name_field(words: &mut Words<'_>) -> Result<Name, FaultKind>
-    ensures { Gives (field name_of FaultKind.BadName (words_of words.old)) result (words_of words.new) }
-{
-    let word = words.next().ok_or(FaultKind::Missing)?;
-    name(word)
-}
-
 /// The next word as a pattern.
 pub fn pattern_field(words: &mut Words<'_>) -> Result<Pattern, FaultKind>
-    ensures { Gives (field pattern_of FaultKind.BadPattern (words_of words.old)) result (words_of words.new) }
+    ensures { Gives (field FaultKind.Missing pattern_of FaultKind.BadPattern (words_of words.old))
+        result (words_of words.new) }
 {
     let word = words.next().ok_or(FaultKind::Missing)?;
     Pattern::parse(word).map_err(|_| FaultKind::BadPattern)
@@ -45,7 +39,8 @@ pub fn pattern_field(words: &mut Words<'_>) -> Result<Pattern, FaultKind>
 
 /// The next word as a technology prefix.
 pub fn technology_field(words: &mut Words<'_>) -> Result<TechPrefix, FaultKind>
-    ensures { Gives (field tech_prefix_of FaultKind.BadPattern (words_of words.old)) result (words_of words.new) }
+    ensures { Gives (field FaultKind.Missing tech_prefix_of FaultKind.BadPattern (words_of words.old))
+        result (words_of words.new) }
 {
     let word = words.next().ok_or(FaultKind::Missing)?;
     TechPrefix::read(word).map_err(|_| FaultKind::BadPattern)
@@ -53,44 +48,35 @@ pub fn technology_field(words: &mut Words<'_>) -> Result<TechPrefix, FaultKind>
 
 /// The next word as an IPv4 address.
 pub fn ip_field(words: &mut Words<'_>) -> Result<[u8; 4], FaultKind>
-    ensures { Gives (field ip_of FaultKind.BadAddress (words_of words.old)) result (words_of words.new) }
+    ensures { Gives (field FaultKind.Missing ip_of FaultKind.BadAddress (words_of words.old))
+        result (words_of words.new) }
 {
     let word = words.next().ok_or(FaultKind::Missing)?;
     read_ip(word).ok_or(FaultKind::BadAddress)
 }
 
 /// The next word as a bandwidth, 1 to so many kbit/s.
-pub fn size_field(most: u32, words: &mut Words<'_>) -> Result<Kbps, FaultKind>
-    ensures { Gives (field (number_of 1 most) FaultKind.BadNumber (words_of words.old)) result (words_of words.new) }
+pub fn size_field(words: &mut Words<'_>, most: u32) -> Result<Kbps, FaultKind>
+    ensures { Gives (field FaultKind.Missing (number_of 1 most) FaultKind.BadNumber (words_of words.old))
+        result (words_of words.new) }
 {
-    let word = words.next().ok_or(FaultKind::Missing)?;
-    let size = read_number(word, 1, most).map_err(|_| FaultKind::BadNumber)?;
+    let size = number_field(words, 1, most, FaultKind::BadNumber)?;
     Ok(Kbps::new(size))
 }
 
 /// The next word as the priority of gateways, 0 to 10.
 pub fn gateway_priority_field(words: &mut Words<'_>) -> Result<u8, FaultKind>
-    ensures { Gives (field (number_of 0 10) FaultKind.BadNumber (words_of words.old)) result (words_of words.new) }
+    ensures { Gives (field FaultKind.Missing (number_of 0 10) FaultKind.BadNumber (words_of words.old))
+        result (words_of words.new) }
 {
-    let word = words.next().ok_or(FaultKind::Missing)?;
-    let priority = read_number(word, 0, 10).map_err(|_| FaultKind::BadNumber)?;
+    let priority = number_field(words, 0, 10, FaultKind::BadNumber)?;
     Ok(priority as u8)
 }
 
-/// The command, where no word stands behind its last field.
-pub fn whole(command: Command, words: &mut Words<'_>) -> Result<Command, FaultKind>
-    ensures { result ≡ ended command (words_of words.old) }
-{
-    match words.next() {
-        None => Ok(command),
-        Some(_) => Err(FaultKind::Extra),
-    }
-}
-
-/// All further words as names, of which there is at least one. Where memory is refused for one, the words are read
-/// to their end all the same, since a fault of theirs comes first.
+/// All further words as names; at least one is needed. If memory is refused for one, the words are read to their
+/// end all the same, since a fault of theirs comes first.
 pub fn some_names(alloc: Global, words: &mut Words<'_>) -> Result<Names, FaultKind>
-    ensures { SaysUnlessMemory Any (some_names_in (words_of words.old)) result }
+    ensures { UnlessMemory Any (some_names_in (words_of words.old)) result }
 {
     let first = words.next().ok_or(FaultKind::Missing)?;
     names_from(alloc, first, words)
@@ -98,7 +84,7 @@ pub fn some_names(alloc: Global, words: &mut Words<'_>) -> Result<Names, FaultKi
 
 /// The same, with the first word.
 fn names_from(alloc: Global, first: &[u8], words: &mut Words<'_>) -> Result<Names, FaultKind>
-    ensures { SaysUnlessMemory Any (names_in (first.now ∷ words_of words.old)) result }
+    ensures { UnlessMemory Any (names_in (first.now ∷ words_of words.old)) result }
 {
     let mut names = Names::new(alloc).with(name(first)?);
     for word in words {
@@ -107,9 +93,11 @@ fn names_from(alloc: Global, first: &[u8], words: &mut Words<'_>) -> Result<Name
     Ok(names?)
 }
 
-/// With one more name, unless memory was refused for one before it.
+/// With one more name, unless memory was refused for an earlier one.
 pub fn with_name(names: Result<Names, AllocError>, name: Name) -> Result<Names, AllocError>
-    ensures { MatchResult names (λ front. Holds result (front ++ name ∷ [])) (λ _. IsErr result) }
+    ensures { MatchResult names
+        (λ front. HoldsNames result (front ++ name ∷ []))
+        (λ _. IsErr result) }
 {
     names?.with(name)
 }

@@ -13,13 +13,10 @@ pub mod draft;
 mod fault_tests;
 pub mod faults;
 mod fields;
+mod first_words;
 #[cfg(test)]
 mod limit_tests;
-mod line_text;
-mod lines;
 pub mod names;
-mod options;
-pub mod plain;
 #[cfg(test)]
 mod print_tests;
 pub mod printing;
@@ -32,6 +29,7 @@ mod zone_lines;
 pub use commands::{Command, Commands, GatewayPriority, LimitKind, LocalAddress};
 pub use draft::Draft;
 pub use faults::{FaultKind, LineFault};
+pub use gk_lines::WriteFault;
 pub use names::Names;
-pub use printing::{WriteFault, print};
+pub use printing::print;
 pub use reading::read;

@@ -1,6 +1,5 @@
 //! How long a line, a text and its zones may be.
 
-use crate::plain::read_plainly;
 use crate::test_texts::{assert_accepted, assert_fault, local, prefix, remote, repeated};
 use crate::{Commands, FaultKind, read};
 use std::alloc::Global;
@@ -107,6 +106,5 @@ fn assert_full(rt: &impl Abort, read: &Commands) -> Result<(), Fail> {
 #[test]
 fn takes_1024_zones(rt: HostRuntime) -> Result<(), Fail> {
     let text = zones(rt.alloc(), 1024, "zone prefix z1023 9*\n")?;
-    assert_full(&rt, &read(rt.alloc(), &text)?)?;
-    assert_full(&rt, &read_plainly(rt.alloc(), &text)?)
+    assert_full(&rt, &read(rt.alloc(), &text)?)
 }

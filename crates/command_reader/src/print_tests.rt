@@ -1,8 +1,8 @@
 //! What is printed of configurations.
 
-use crate::printing::{WriteFault, print};
-use crate::{Commands, read};
-use gk_streams::{EndFailed, Noted, Sink};
+use crate::{Commands, WriteFault, print, read};
+use gk_lines::Noted;
+use gk_lines::fakes::Piecewise;
 use std::alloc::Global;
 use std::process::Abort;
 use std::test::Fail;
@@ -165,46 +165,26 @@ fn prints_limits(rt: HostRuntime) -> Result<(), Fail> {
     Ok(())
 }
 
-/// A sink that takes so many calls, and then fails.
-#[derive(Drop)]
-struct FailingSink {
-    calls: u32,
-    failed: bool,
-}
-
-impl Sink for FailingSink {
-    ghost use Rattle.std.specs.Prelude.{None};
-
-    ghost contents = { λ _. None };
-
-    ghost has_failed = { λ sink. sink.failed };
-
-    fn write(&mut self, bytes: &[u8]) -> Result<usize, EndFailed> {
-        if self.calls == 0 {
-            self.failed = true;
-            return Err(EndFailed);
-        }
-        self.calls -= 1;
-        Ok(bytes.len())
-    }
-}
-
-/// Twelve lines are printed to a sink that takes so many calls.
-fn assert_written(rt: &impl Abort, commands: &Commands, calls: u32, want: Result<(), WriteFault>) {
-    let mut sink = FailingSink {
-        calls,
-        failed: false,
-    };
-    assert_eq!(rt; print(commands, &mut sink), want, "after {calls} calls");
-    assert_eq!(rt; sink.failed, want.is_err(), "after {calls} calls");
+/// Twelve lines are printed to a writer that fails at its call of this number.
+fn assert_written(
+    rt: &impl Abort,
+    alloc: Global,
+    commands: &Commands,
+    call: u64,
+    want: Result<(), WriteFault>,
+) {
+    let mut output = Vec::new(alloc);
+    let mut writer = Noted::new(Piecewise::failing_at(&mut output, 1_000, call));
+    assert_eq!(rt; print(commands, &mut writer), want, "at call {call}");
+    assert_eq!(rt; writer.has_failed(), want.is_err(), "at call {call}");
 }
 
 #[test]
 fn names_a_writer_that_fails(rt: HostRuntime) -> Result<(), Fail> {
     let commands = read(rt.alloc(), CONFIGURATION.as_bytes())?;
-    for calls in 0..12 {
-        assert_written(&rt, &commands, calls, Err(WriteFault));
+    for call in 1..13 {
+        assert_written(&rt, rt.alloc(), &commands, call, Err(WriteFault));
     }
-    assert_written(&rt, &commands, 12, Ok(()));
+    assert_written(&rt, rt.alloc(), &commands, 13, Ok(()));
     Ok(())
 }

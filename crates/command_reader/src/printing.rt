@@ -1,58 +1,48 @@
 //! Commands, printed as canonical lines.
 
-ghost use Rattle.std.specs.Prelude.{◌≡◌, ◌∷◌, Ok, OnOk, OnErr, map};
+ghost use Rattle.std.specs.Prelude.{◌≡◌, ◌∷◌, Ok, OnOk, OnErr};
 ghost use Rattle.std.specs.List.{All};
 ghost use Rattle.std.specs.Io.KnownBytes.{Appends};
-ghost use Rattle.gk_streams.specs.Ends.{Notes, AppendsFront};
-ghost use Rattle.command_reader.specs.Accepted.{PrintsBack, IsAccepted};
+ghost use Rattle.gk_lines.specs.Streams.{Notes, AppendsFront};
+ghost use Rattle.command_reader.specs.Accepted.{PrintsBack};
 ghost use Rattle.command_reader.specs.Printing.{text_of};
 ghost use Rattle.command_reader.specs.Reading.{reading_of};
 
-use crate::commands::{Commands, NumberedCommand};
-use crate::line_text::LineText;
-use gk_streams::{Sink, write_whole};
-use thiserror::Error;
-
-/// The writer failed, or took no byte.
-#[derive(Clone, Copy, Debug, PartialEq, Eq, Error)]
-#[error("the writer failed")]
-pub struct WriteFault;
+use crate::canonical_lines::make_line;
+use crate::commands::{Command, Commands};
+use gk_lines::{LineBuffer, Sink, WriteFault, write_whole};
 
 /// Prints commands as their canonical lines, in order: the words of each with one space between, and a line feed.
-/// A default is written where the reader puts one in, as the port of a remote zone. The text is a configuration of its
-/// own: `read` gives the same commands for it, and no line of it is passed over.
+/// A default is written out, as the port of a remote zone. The text is a configuration of its own: `read` gives the
+/// same commands for it, and no line of it is passed over.
 ///
-/// For a writer that had not failed before, `WriteFault` comes exactly where it fails in this call, and a front of the
-/// text then stands there. Takes no memory.
+/// For a writer that had not failed before, `WriteFault` comes exactly if it fails in this call, and the writer then
+/// holds a front of the text. Takes no memory.
 pub fn print<W: Sink>(commands: &Commands, writer: &mut W) -> Result<(), WriteFault>
-    ensures whole { OnOk result (Appends (W.contents writer.old) (W.contents writer.new) (text_of commands.now.lines)) }
-    ensures front { OnErr result (AppendsFront (W.contents writer.old) (W.contents writer.new) (text_of commands.now.lines)) }
+    ensures whole { OnOk result (Appends (W.contents writer.old) (W.contents writer.new)
+        (text_of commands.now.commands)) }
+    ensures front { OnErr result (AppendsFront (W.contents writer.old) (W.contents writer.new)
+        (text_of commands.now.commands)) }
     ensures noted { Notes (W.has_failed writer.old) (W.has_failed writer.new) result }
-    ensures reads_back { reading_of (text_of commands.now.lines) ≡ Ok (record { lines = commands.now.lines; passed = 0 }) }
+    ensures reads_back { reading_of (text_of commands.now.commands)
+        ≡ Ok (record { commands = commands.now.commands; passed = 0 }) }
 {
-    print_lines(commands.kept(), writer)
+    print_lines(commands.as_slice(), writer)
 }
 
 /// Prints commands that print back.
-fn print_lines<W: Sink>(kept: &[NumberedCommand], writer: &mut W) -> Result<(), WriteFault>
-    requires { All (λ n. PrintsBack n.command) kept.now }
-    ensures whole { OnOk result (Appends (W.contents writer.old) (W.contents writer.new) (text_of (map (λ n. n.command) kept.now))) }
-    ensures front { OnErr result (AppendsFront (W.contents writer.old) (W.contents writer.new) (text_of (map (λ n. n.command) kept.now))) }
+fn print_lines<W: Sink>(commands: &[Command], writer: &mut W) -> Result<(), WriteFault>
+    requires { All PrintsBack commands.now }
+    ensures whole { OnOk result (Appends (W.contents writer.old) (W.contents writer.new)
+        (text_of commands.now)) }
+    ensures front { OnErr result (AppendsFront (W.contents writer.old) (W.contents writer.new)
+        (text_of commands.now)) }
     ensures noted { Notes (W.has_failed writer.old) (W.has_failed writer.new) result }
 {
-    let mut line = LineText::new();
-    for numbered in kept {
-        line.show(&numbered.command);
-        write_line(line.as_bytes(), writer)?;
+    let mut line = LineBuffer::new();
+    for command in commands {
+        make_line(&mut line, command);
+        write_whole(writer, line.as_bytes())?;
     }
     Ok(())
-}
-
-/// Writes the bytes of a line.
-fn write_line<W: Sink>(line: &[u8], writer: &mut W) -> Result<(), WriteFault>
-    ensures whole { OnOk result (Appends (W.contents writer.old) (W.contents writer.new) line.now) }
-    ensures front { OnErr result (AppendsFront (W.contents writer.old) (W.contents writer.new) line.now) }
-    ensures noted { Notes (W.has_failed writer.old) (W.has_failed writer.new) result }
-{
-    write_whole(writer, line).map_err(|_| WriteFault)
 }

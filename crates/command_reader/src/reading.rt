@@ -1,8 +1,7 @@
 //! A configuration, read whole.
 
-ghost use Rattle.std.specs.Prelude.{◌≡◌, MatchResult, Ok};
 ghost use Rattle.gk_terms.specs.Text.{lines_of};
-ghost use Rattle.command_reader.specs.Reading.{nothing_read, lines_after, AreRefusedWith, ReadsAs};
+ghost use Rattle.command_reader.specs.Reading.{nothing_read, MayReadOn, MayRead};
 
 use crate::commands::Commands;
 use crate::draft::Draft;
@@ -14,23 +13,21 @@ use std::alloc::Global;
 ///
 /// First the lines are looked at one by one, in order. The 20,001st line is `TooMany`, and one of more than 512 bytes
 /// `TooLong`; then its fields are read from the left; a zone that is declared a second time is `DuplicateZone`, and the
-/// 1,025th zone `TooMany`. Where every line is well for itself, the first that names an undeclared zone is `UnknownZone`.
-/// Where there is none either, a configuration without a local zone is `NoLocalZone`, one behind its last line.
+/// 1,025th zone `TooMany`. If no line has such a fault, the first that names an undeclared zone is `UnknownZone`.
+/// If there is none either, a configuration without a local zone is `NoLocalZone`, numbered one past its last line.
 ///
-/// `NoMemory` is answered only at a line whose command would be kept, behind lines without a fault, whatever stands
-/// behind it. It names that line.
-#[tactic(auto, unfolding(crate::specs::Reading::reading_of))]
+/// `NoMemory` is answered only at a line whose command would be kept, after lines without a fault, whatever comes
+/// after it. It names that line.
+#[tactic(auto, using(crate::proofs::ReadOnLemmas::finishes, crate::proofs::ReadOnLemmas::refuses))]
 pub fn read(alloc: Global, bytes: &[u8]) -> Result<Commands, LineFault>
-    ensures { ReadsAs bytes.now result }
+    ensures { MayRead (lines_of bytes.now) result }
 {
     lines_in(alloc, bytes)?.finish()
 }
 
 /// The lines, each looked at for itself.
 fn lines_in(alloc: Global, bytes: &[u8]) -> Result<Draft, LineFault>
-    ensures { MatchResult result
-        (λ read. lines_after nothing_read (lines_of bytes.now) ≡ Ok read)
-        (λ fault. AreRefusedWith nothing_read (lines_of bytes.now) fault) }
+    ensures { MayReadOn nothing_read (lines_of bytes.now) result }
 {
     let mut draft = Draft::new(alloc);
     for line in RawLines::of(bytes) {

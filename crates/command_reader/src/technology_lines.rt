@@ -1,38 +1,48 @@
 //! What a line says that begins with `gw-type-prefix`.
 
-ghost use Rattle.std.specs.Prelude.{◌≡◌, false, MatchResult};
+ghost use Rattle.std.specs.Prelude.{◌≡◌};
 ghost use Rattle.gk_terms.specs.Text.{words_of};
-ghost use Rattle.command_reader.specs.TechnologyLine.{option_word_of, other_word, option_then, with_word, options_at, gw_type_prefix_at};
-ghost use Rattle.command_reader.specs.Options.{none_where, alone, IsSaid, AddsOptions, hopoffs_and_default};
-ghost use Rattle.command_reader.specs.Memory.{SaysUnlessMemory, Any, DeclaresNone};
+ghost use Rattle.command_reader.specs.TechnologyLine.{hopoff_name_of, option_of, option_at, options_at, gw_type_prefix_at};
+ghost use Rattle.command_reader.specs.Options.{AddsOption, hopoffs_and_default};
+ghost use Rattle.command_reader.specs.Memory.{UnlessMemory, Any, DeclaresNone};
 
 use crate::commands::Command;
 use crate::faults::FaultKind;
 use crate::fields::{name, technology_field, with_name};
 use crate::names::Names;
-use crate::options::{Expected, OptionWord};
 use crate::zone_lines::is_hunt_word;
 use gk_terms::Name;
 use gk_terms::words::Words;
 use std::alloc::{AllocError, Global};
 
-/// What one word of the options says.
+/// What may come next.
+#[derive(Clone, Copy, Debug, PartialEq, Eq)]
+pub enum Expected {
+    /// An option.
+    AnOption,
+    /// A name, whatever the word is: right after `hopoff`.
+    AName,
+    /// An option, or another name of the hopoff.
+    OptionOrName,
+}
+
+/// One word of the options.
 #[derive(Clone, Copy)]
-pub enum Said {
-    /// A name of a hopoff follows.
+pub enum TechnologyOption {
+    /// `hopoff`: a name follows.
     Hopoff,
     /// The name of a zone to hop off to.
     HopoffName(Name),
-    /// `seq` or `blast`: no effect.
+    /// `seq` or `blast`: accepted without effect.
     Hunt,
-    /// Gateways of the prefix take the calls that nothing else takes.
+    /// `default-technology`: gateways of the prefix take the calls that nothing else takes.
     DefaultTechnology,
 }
 
-/// The options so far, and what may stand next. The names are held unless memory was refused for one of them.
+/// The options so far, and what may come next. The names are held unless memory was refused for one of them.
 #[derive(Drop)]
 pub struct OpenOptions {
-    /// What may stand next.
+    /// What may come next.
     pub expected: Expected,
     /// The names of all hopoffs.
     pub hopoffs: Result<Names, AllocError>,
@@ -42,7 +52,7 @@ pub struct OpenOptions {
 
 /// `gw-type-prefix PREFIX [hopoff NAME ...] [seq|blast] [default-technology]`, the options in any order.
 pub fn gw_type_prefix(alloc: Global, words: &mut Words<'_>) -> Result<Command, FaultKind>
-    ensures { SaysUnlessMemory DeclaresNone (gw_type_prefix_at (words_of words.old)) result }
+    ensures { UnlessMemory DeclaresNone (gw_type_prefix_at (words_of words.old)) result }
 {
     let prefix = technology_field(words)?;
     let (hopoffs, is_default) = options(alloc, words)?;
@@ -53,10 +63,11 @@ pub fn gw_type_prefix(alloc: Global, words: &mut Words<'_>) -> Result<Command, F
     })
 }
 
-/// The names of all hopoffs, and whether `default-technology` was given. Where memory is refused for a name, the
-/// words are read to their end all the same, since a fault of theirs comes first.
+/// The names of all hopoffs, and whether `default-technology` was given. If memory is refused for a name, the words
+/// are read to their end all the same, since a fault of theirs comes first.
 fn options(alloc: Global, words: &mut Words<'_>) -> Result<(Names, bool), FaultKind>
-    ensures { SaysUnlessMemory Any (hopoffs_and_default (options_at (words_of words.old))) result }
+    ensures { UnlessMemory Any
+        (hopoffs_and_default (options_at Expected.AnOption (words_of words.old))) result }
 {
     let mut options = OpenOptions {
         expected: Expected::AnOption,
@@ -64,8 +75,8 @@ fn options(alloc: Global, words: &mut Words<'_>) -> Result<(Names, bool), FaultK
         is_default: false,
     };
     for word in words {
-        let said = said_where(options.expected, word)?;
-        options = options.with(said);
+        let option = option_at(options.expected, word)?;
+        options = options.with(option);
     }
     if matches!(options.expected, Expected::AName) {
         return Err(FaultKind::Missing);
@@ -74,25 +85,25 @@ fn options(alloc: Global, words: &mut Words<'_>) -> Result<(Names, bool), FaultK
 }
 
 impl OpenOptions {
-    /// With what one more word says.
-    fn with(self, said: Said) -> OpenOptions
-        ensures { AddsOptions self (alone said) result }
+    /// With one more option.
+    fn with(self, option: TechnologyOption) -> OpenOptions
+        ensures { AddsOption self option result }
     {
-        match said {
-            Said::Hopoff => OpenOptions {
+        match option {
+            TechnologyOption::Hopoff => OpenOptions {
                 expected: Expected::AName,
                 ..self
             },
-            Said::HopoffName(name) => OpenOptions {
+            TechnologyOption::HopoffName(name) => OpenOptions {
                 expected: Expected::OptionOrName,
                 hopoffs: with_name(self.hopoffs, name),
                 is_default: self.is_default,
             },
-            Said::Hunt => OpenOptions {
+            TechnologyOption::Hunt => OpenOptions {
                 expected: Expected::AnOption,
                 ..self
             },
-            Said::DefaultTechnology => OpenOptions {
+            TechnologyOption::DefaultTechnology => OpenOptions {
                 expected: Expected::AnOption,
                 is_default: true,
                 ..self
@@ -101,52 +112,40 @@ impl OpenOptions {
     }
 }
 
-/// What a word says: right behind `hopoff` it is a name, whatever it is.
-fn said_where(expected: Expected, word: &[u8]) -> Result<Said, FaultKind>
-    ensures { IsSaid (with_word (none_where expected) word.now) result }
+/// A word, by what may come next: right after `hopoff` it is a name, whatever it is.
+fn option_at(expected: Expected, word: &[u8]) -> Result<TechnologyOption, FaultKind>
+    ensures { result ≡ option_at expected word.now }
 {
     match expected {
-        Expected::AName => Ok(Said::HopoffName(name(word)?)),
-        Expected::AnOption | Expected::OptionOrName => said_by_option(expected, word),
+        Expected::AName => hopoff_name(word),
+        Expected::AnOption => option_of(word)?.ok_or(FaultKind::Extra),
+        Expected::OptionOrName => match option_of(word)? {
+            Some(option) => Ok(option),
+            None => hopoff_name(word),
+        },
     }
 }
 
-/// The same, where an option may stand.
-fn said_by_option(expected: Expected, word: &[u8]) -> Result<Said, FaultKind>
-    ensures { IsSaid (option_then (option_word_of word.now) (none_where expected) word.now) result }
+/// The word as the name of a hopoff.
+fn hopoff_name(word: &[u8]) -> Result<TechnologyOption, FaultKind>
+    ensures { result ≡ hopoff_name_of word.now }
 {
-    match option_word(word) {
-        OptionWord::Hopoff => Ok(Said::Hopoff),
-        OptionWord::Hunt => Ok(Said::Hunt),
-        OptionWord::DefaultTechnology => Ok(Said::DefaultTechnology),
-        OptionWord::LeftOut => Err(FaultKind::Unsupported),
-        OptionWord::Other => said_by_other(expected, word),
-    }
+    Ok(TechnologyOption::HopoffName(name(word)?))
 }
 
-/// The same of a word that is no option: it is another name where a hopoff is open.
-fn said_by_other(expected: Expected, word: &[u8]) -> Result<Said, FaultKind>
-    ensures { IsSaid (other_word expected (none_where expected) word.now) result }
-{
-    match expected {
-        Expected::AnOption => Err(FaultKind::Extra),
-        Expected::AName | Expected::OptionOrName => Ok(Said::HopoffName(name(word)?)),
-    }
-}
-
-/// What an option word does.
-fn option_word(word: &[u8]) -> OptionWord
-    ensures { result ≡ option_word_of word.now }
+/// The option that a word is, if it is one.
+fn option_of(word: &[u8]) -> Result<Option<TechnologyOption>, FaultKind>
+    ensures { result ≡ option_of word.now }
 {
     if word == b"hopoff".as_slice() {
-        OptionWord::Hopoff
+        Ok(Some(TechnologyOption::Hopoff))
     } else if is_hunt_word(word) {
-        OptionWord::Hunt
+        Ok(Some(TechnologyOption::Hunt))
     } else if word == b"default-technology".as_slice() {
-        OptionWord::DefaultTechnology
+        Ok(Some(TechnologyOption::DefaultTechnology))
     } else if word == b"gw".as_slice() {
-        OptionWord::LeftOut
+        Err(FaultKind::Unsupported)
     } else {
-        OptionWord::Other
+        Ok(None)
     }
 }

@@ -1,6 +1,5 @@
-//! What the tests share: both readers on a text, and commands made of words.
+//! What the tests share: the reader on a text, and commands made of words.
 
-use crate::plain::read_plainly;
 use crate::{Command, Commands, FaultKind, GatewayPriority, LineFault, LocalAddress, Names, read};
 use digit_patterns::Pattern;
 use gk_terms::{Address, Name, TechPrefix};
@@ -12,19 +11,13 @@ use std::test::Fail;
 const ZONES: &str = "zone local a d\nzone local b d\nzone local seq d\nzone local blast d\n\
     zone local gw d\nzone local hopoff d\nzone local default-technology d\n";
 
-/// Both readers name this fault of the text.
+/// The text has this fault.
 pub fn assert_fault(rt: &impl Abort, alloc: Global, text: &[u8], line: u32, kind: FaultKind) {
     let want = Some(LineFault { line, kind });
     assert_eq!(rt; read(alloc, text).err(), want, "at {}", text.escape_ascii());
-    assert_eq!(rt;
-        read_plainly(alloc, text).err(),
-        want,
-        "plainly at {}",
-        text.escape_ascii()
-    );
 }
 
-/// The line has this fault, wherever it stands; an earlier fault comes before it.
+/// The line has this fault, wherever it is; an earlier fault comes before it.
 pub fn assert_line_fault(
     rt: &impl Abort,
     alloc: Global,
@@ -35,8 +28,8 @@ pub fn assert_line_fault(
     assert_fault(rt, alloc, second.as_bytes(), 2, kind);
     let first = format!(in alloc; "{line}\r\nzone local a d\n")?;
     assert_fault(rt, alloc, first.as_bytes(), 1, kind);
-    let behind = format!(in alloc; "zone prefix q 9*\n!\nend x\n{line}\n")?;
-    assert_fault(rt, alloc, behind.as_bytes(), 3, FaultKind::Extra);
+    let later = format!(in alloc; "zone prefix q 9*\n!\nend x\n{line}\n")?;
+    assert_fault(rt, alloc, later.as_bytes(), 3, FaultKind::Extra);
     Ok(())
 }
 
@@ -51,7 +44,7 @@ fn assert_read(rt: &impl Abort, read: &Commands, commands: &[Command], passed: u
     assert_eq!(rt; read.get(commands.len()), None);
 }
 
-/// Both readers accept the text as these commands, with so many lines passed over.
+/// The text is accepted as these commands, with so many lines passed over.
 pub fn assert_accepted(
     rt: &impl Abort,
     alloc: Global,
@@ -60,7 +53,6 @@ pub fn assert_accepted(
     passed: u32,
 ) -> Result<(), LineFault> {
     assert_read(rt, &read(alloc, text)?, commands, passed);
-    assert_read(rt, &read_plainly(alloc, text)?, commands, passed);
     Ok(())
 }
 
@@ -70,7 +62,7 @@ fn assert_last(rt: &impl Abort, read: &Commands, line: &str, command: &Command) 
     assert_eq!(rt; read.get(7), Some(command), "at {line}");
 }
 
-/// Behind the zones `a`, `b`, and those that are named as option words, both readers take the line as this command.
+/// After the zones `a`, `b`, and those that are named as option words, the line says this command.
 pub fn assert_says(
     rt: &impl Abort,
     alloc: Global,
@@ -79,23 +71,18 @@ pub fn assert_says(
 ) -> Result<(), Fail> {
     let text = format!(in alloc; "{ZONES}{line}\n")?;
     assert_last(rt, &read(alloc, text.as_bytes())?, line, &command);
-    assert_last(rt, &read_plainly(alloc, text.as_bytes())?, line, &command);
     Ok(())
 }
 
-/// Behind one zone both readers pass the line over.
+/// After one zone the line is passed over.
 pub fn assert_passed(rt: &impl Abort, alloc: Global, line: &str) -> Result<(), Fail> {
     let text = format!(in alloc; "zone local a d\n{line}\n")?;
-    for read in [
-        read(alloc, text.as_bytes())?,
-        read_plainly(alloc, text.as_bytes())?,
-    ] {
-        assert_eq!(rt; (read.len(), read.passed()), (1, 1), "at {line}");
-    }
+    let read = read(alloc, text.as_bytes())?;
+    assert_eq!(rt; (read.len(), read.passed()), (1, 1), "at {line}");
     Ok(())
 }
 
-/// A text so many times over, behind another.
+/// A text, and after it another so many times over.
 pub fn repeated(
     alloc: Global,
     first: &str,

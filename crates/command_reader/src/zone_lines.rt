@@ -4,31 +4,33 @@ ghost use Rattle.std.specs.Prelude.{◌≡◌, ◌≤◌, [], ◌∷◌, codes, 
 ghost use Rattle.std.specs.Option.{option_copied};
 ghost use Rattle.gk_terms.specs.Text.{words_of};
 ghost use Rattle.gk_terms.specs.Address.{port_of};
-ghost use Rattle.command_reader.specs.Fields.{Gives, is_one_of, value_but, field_but, ended_but};
-ghost use Rattle.command_reader.specs.Memory.{SaysUnlessMemory, Any, DeclaresNone};
+ghost use Rattle.gk_terms.specs.Fields.{Gives};
+ghost use Rattle.command_reader.specs.Fields.{is_one_of, value_but, field_but, nothing_more_but};
+ghost use Rattle.command_reader.specs.Memory.{UnlessMemory, Any, DeclaresNone};
 ghost use Rattle.command_reader.specs.ZoneLine.{left_out_of_local, left_out_of_remote, left_out_of_zone, hunt_words, cost_of, local_port_at, local_address_at, zone_local_at, remote_port_at, remote_priority_at, remote_cost_at, zone_remote_at, after_hunt_word, gateways_at, zone_prefix_at, zone_at};
-ghost use Rattle.command_reader.specs.NextWord.{with_next};
+ghost use Rattle.command_reader.specs.Fields.{with_next};
 
 use crate::commands::{Command, GatewayPriority, LocalAddress};
 use crate::faults::FaultKind;
-use crate::fields::{gateway_priority_field, ip_field, name_field, pattern_field, some_names};
+use crate::fields::{gateway_priority_field, ip_field, pattern_field, some_names};
 use gk_terms::addresses::{read_ip, read_port};
+use gk_terms::fields::name_field;
 use gk_terms::words::Words;
 use gk_terms::{Address, read_number};
 use std::alloc::Global;
 
-/// The port of a remote gatekeeper where its line gives none: that of H.225.0's RAS.
-const USUAL_RAS_PORT: u16 = 1719;
+/// The port of a remote gatekeeper whose line gives none: that of H.225.0's RAS.
+pub const DEFAULT_RAS_PORT: u16 = 1719;
 
-/// The cost of a remote zone where its line gives none.
-const USUAL_COST: u8 = 50;
+/// The cost of a remote zone whose line gives none.
+pub const DEFAULT_COST: u8 = 50;
 
-/// The priority of a remote zone where its line gives none.
-const USUAL_PRIORITY: u8 = 50;
+/// The priority of a remote zone whose line gives none.
+pub const DEFAULT_PRIORITY: u8 = 50;
 
 /// `zone` and what follows it.
 pub fn zone(alloc: Global, words: &mut Words<'_>) -> Result<Command, FaultKind>
-    ensures { SaysUnlessMemory DeclaresNone (zone_at (words_of words.old)) result }
+    ensures { UnlessMemory DeclaresNone (zone_at (words_of words.old)) result }
 {
     match words.next() {
         None => Err(FaultKind::Missing),
@@ -44,8 +46,8 @@ pub fn zone(alloc: Global, words: &mut Words<'_>) -> Result<Command, FaultKind>
 fn zone_local(words: &mut Words<'_>) -> Result<Command, FaultKind>
     ensures { result ≡ zone_local_at (words_of words.old) }
 {
-    let name = name_field(words)?;
-    let domain = name_field(words)?;
+    let name = name_field(words, FaultKind::BadName)?;
+    let domain = name_field(words, FaultKind::BadName)?;
     let address = local_address(words)?;
     Ok(Command::ZoneLocal {
         name,
@@ -54,7 +56,7 @@ fn zone_local(words: &mut Words<'_>) -> Result<Command, FaultKind>
     })
 }
 
-/// The address of a `zone local` line, where it has one.
+/// The address of a `zone local` line, if it has one.
 fn local_address(words: &mut Words<'_>) -> Result<Option<LocalAddress>, FaultKind>
     ensures { result ≡ local_address_at (words_of words.old) }
 {
@@ -68,7 +70,7 @@ fn local_address(words: &mut Words<'_>) -> Result<Option<LocalAddress>, FaultKin
     local_port(ip, words)
 }
 
-/// The port behind it, where there is one, and the end of the line.
+/// The port after it, if there is one, and the end of the line.
 fn local_port(ip: [u8; 4], words: &mut Words<'_>) -> Result<Option<LocalAddress>, FaultKind>
     ensures { result ≡ local_port_at ip (words_of words.old) }
 {
@@ -93,8 +95,8 @@ fn local_port(ip: [u8; 4], words: &mut Words<'_>) -> Result<Option<LocalAddress>
 fn zone_remote(words: &mut Words<'_>) -> Result<Command, FaultKind>
     ensures { result ≡ zone_remote_at (words_of words.old) }
 {
-    let name = name_field(words)?;
-    let domain = name_field(words)?;
+    let name = name_field(words, FaultKind::BadName)?;
+    let domain = name_field(words, FaultKind::BadName)?;
     let ip = ip_field(words)?;
     let (port, next) = remote_port(words)?;
     let (cost, priority) = remote_cost(next, words)?;
@@ -107,18 +109,19 @@ fn zone_remote(words: &mut Words<'_>) -> Result<Command, FaultKind>
     })
 }
 
-/// The port of a `zone remote` line, where `cost` does not stand in its place, and the word behind it.
+/// The port of a `zone remote` line, unless `cost` is the next word, and the word after it.
 fn remote_port<'a>(words: &mut Words<'a>) -> Result<(u16, Option<&'a [u8]>), FaultKind>
     ensures value { MatchResult result
-        (λ read. remote_port_at (words_of words.old) ≡ Ok (read.0, with_next (option_copied read.1) (words_of words.new)))
+        (λ read. remote_port_at (words_of words.old)
+        ≡ Ok (read.0, with_next (option_copied read.1) (words_of words.new)))
         (λ kind. remote_port_at (words_of words.old) ≡ Err kind) }
     ensures least { MatchResult result (λ read. 1 ≤ read.0) (λ _. Unit {0}) }
 {
     let Some(word) = words.next() else {
-        return Ok((USUAL_RAS_PORT, None));
+        return Ok((DEFAULT_RAS_PORT, None));
     };
     if word == b"cost".as_slice() {
-        return Ok((USUAL_RAS_PORT, Some(word)));
+        return Ok((DEFAULT_RAS_PORT, Some(word)));
     }
     if is_left_out_of_remote(word) {
         return Err(FaultKind::Unsupported);
@@ -132,14 +135,14 @@ fn remote_cost(next: Option<&[u8]>, words: &mut Words<'_>) -> Result<(u8, u8), F
     ensures { result ≡ remote_cost_at (with_next (option_copied next.entry) (words_of words.old)) }
 {
     match next {
-        None => Ok((USUAL_COST, USUAL_PRIORITY)),
+        None => Ok((DEFAULT_COST, DEFAULT_PRIORITY)),
         Some(word) if word == b"cost".as_slice() => cost_and_priority(words),
         Some(word) if is_left_out_of_remote(word) => Err(FaultKind::Unsupported),
         Some(_) => Err(FaultKind::Extra),
     }
 }
 
-/// What stands behind `cost`.
+/// What comes after `cost`.
 fn cost_and_priority(words: &mut Words<'_>) -> Result<(u8, u8), FaultKind>
     ensures { result ≡ remote_cost_at (codes "cost" ∷ words_of words.old) }
 {
@@ -148,19 +151,19 @@ fn cost_and_priority(words: &mut Words<'_>) -> Result<(u8, u8), FaultKind>
     Ok((cost, priority))
 }
 
-/// The priority behind the cost, where there is one, and the end of the line.
+/// The priority after the cost, if there is one, and the end of the line.
 fn remote_priority(words: &mut Words<'_>) -> Result<u8, FaultKind>
     ensures { result ≡ remote_priority_at (words_of words.old) }
 {
     match words.next() {
-        None => Ok(USUAL_PRIORITY),
+        None => Ok(DEFAULT_PRIORITY),
         Some(word) if word == b"priority".as_slice() => last_priority(words),
         Some(word) if is_left_out_of_remote(word) => Err(FaultKind::Unsupported),
         Some(_) => Err(FaultKind::Extra),
     }
 }
 
-/// What stands behind `priority`.
+/// What comes after `priority`.
 fn last_priority(words: &mut Words<'_>) -> Result<u8, FaultKind>
     ensures { result ≡ remote_priority_at (codes "priority" ∷ words_of words.old) }
 {
@@ -174,7 +177,8 @@ fn last_priority(words: &mut Words<'_>) -> Result<u8, FaultKind>
 
 /// The next word as a cost or a priority, 1 to 100.
 fn cost_field(words: &mut Words<'_>) -> Result<u8, FaultKind>
-    ensures { Gives (field_but left_out_of_remote cost_of FaultKind.BadNumber (words_of words.old)) result (words_of words.new) }
+    ensures { Gives (field_but left_out_of_remote cost_of FaultKind.BadNumber (words_of words.old))
+        result (words_of words.new) }
 {
     let word = words.next().ok_or(FaultKind::Missing)?;
     if is_left_out_of_remote(word) {
@@ -186,9 +190,9 @@ fn cost_field(words: &mut Words<'_>) -> Result<u8, FaultKind>
 
 /// `zone prefix NAME PATTERN [seq|blast] [gw-priority N GW [GW ...]]`.
 fn zone_prefix(alloc: Global, words: &mut Words<'_>) -> Result<Command, FaultKind>
-    ensures { SaysUnlessMemory DeclaresNone (zone_prefix_at (words_of words.old)) result }
+    ensures { UnlessMemory DeclaresNone (zone_prefix_at (words_of words.old)) result }
 {
-    let zone = name_field(words)?;
+    let zone = name_field(words, FaultKind::BadName)?;
     let pattern = pattern_field(words)?;
     let gateways = gateways(alloc, words)?;
     Ok(Command::ZonePrefix {
@@ -198,19 +202,19 @@ fn zone_prefix(alloc: Global, words: &mut Words<'_>) -> Result<Command, FaultKin
     })
 }
 
-/// The gateways of a `zone prefix` line with their priority, where it has them, and the end of the line.
+/// The gateways of a `zone prefix` line with their priority, if it has them, and the end of the line.
 fn gateways(alloc: Global, words: &mut Words<'_>) -> Result<Option<GatewayPriority>, FaultKind>
-    ensures { SaysUnlessMemory Any (gateways_at (after_hunt_word (words_of words.old))) result }
+    ensures { UnlessMemory Any (gateways_at (after_hunt_word (words_of words.old))) result }
 {
-    match behind_hunt_word(words) {
+    match next_after_hunt_word(words) {
         None => Ok(None),
         Some(word) if word == b"gw-priority".as_slice() => gateway_priority(alloc, words),
         Some(_) => Err(FaultKind::Extra),
     }
 }
 
-/// The next word, or the one behind it where `seq` or `blast` stands there.
-fn behind_hunt_word<'a>(words: &mut Words<'a>) -> Option<&'a [u8]>
+/// The next word, or the one after it if that is `seq` or `blast`.
+fn next_after_hunt_word<'a>(words: &mut Words<'a>) -> Option<&'a [u8]>
     ensures { MatchOption result
         (after_hunt_word (words_of words.old) ≡ [])
         (λ word. after_hunt_word (words_of words.old) ≡ word.now ∷ words_of words.new) }
@@ -221,12 +225,12 @@ fn behind_hunt_word<'a>(words: &mut Words<'a>) -> Option<&'a [u8]>
     }
 }
 
-/// What stands behind `gw-priority`.
+/// What comes after `gw-priority`.
 fn gateway_priority(
     alloc: Global,
     words: &mut Words<'_>,
 ) -> Result<Option<GatewayPriority>, FaultKind>
-    ensures { SaysUnlessMemory Any (gateways_at (codes "gw-priority" ∷ words_of words.old)) result }
+    ensures { UnlessMemory Any (gateways_at (codes "gw-priority" ∷ words_of words.old)) result }
 {
     let priority = gateway_priority_field(words)?;
     let gateways = some_names(alloc, words)?;
@@ -251,7 +255,7 @@ fn is_left_out_of_remote(word: &[u8]) -> bool
         || word == b"outvia".as_slice()
 }
 
-/// Whether a word behind `zone` begins a command that is left out.
+/// Whether a word after `zone` begins a command that is left out.
 fn is_left_out_of_zone(word: &[u8]) -> bool
     ensures { result ≡ is_one_of left_out_of_zone word.now }
 {

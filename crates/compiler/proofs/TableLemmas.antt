@@ -1,4 +1,4 @@
--- The tables stand for the lines: line by line, and at each look-up.
+-- The tables stand for the commands: command by command, and at each look-up.
 use Rattle.std.proofs.Common.{◌≡◌, ℕ, zero, suc, ◌||◌, ◌+◌, ◌<◌, Bool, true, false, cond, List, [], ◌∷◌, ◌++◌, length, take, drop, map, slice_get, refl, sym, ap, ◌∙◌, arith, append-nil}
 use Rattle.std.specs.Prelude.{Option, Some, None, option_map, option_and_then, is_some, bytes_eq, find}
 use Rattle.std.specs.Option.{option_or}
@@ -16,78 +16,111 @@ use Rattle.digit_patterns.specs.Duplicate.{has_pattern, duplicate_of}
 use Rattle.command_reader.specs.declared.commands.Command.{Command}
 use Rattle.command_reader.specs.declared.commands.Command.TheVariants.{ZoneLocal, ZoneRemote, ZonePrefix, GwTypePrefix, RejectUnknownPrefix, BandwidthDefault, BandwidthZone, BandwidthRemote}
 use Rattle.command_reader.specs.Zones.{Zone, zones_of, declared_by, zone_of, first_local_of, is_local_zone}
-use Rattle.command_reader.specs.Zones.{Local as LocalZone, Remote as RemoteZone}
+use Rattle.command_reader.specs.Zones as Declared
 use Rattle.compiler.specs.declared.tables.ZoneKind.{ZoneKind}
 use Rattle.compiler.specs.declared.tables.Plan.{Plan}
 use Rattle.compiler.specs.declared.tables.Plan.TheVariants.{Caller}
 use Rattle.compiler.specs.Zones.{is_local, is_local_option}
-use Rattle.compiler.specs.Plan.{Row, row_in, rows_of, row_for, plan_to, plan_by, plan_of}
-use Rattle.compiler.specs.TablesIndex.{kind_of, kind_at, kind_in, Zones, AreZonesOf, AddsZone, is_local_kind, local_at, Aim, plan_for, aim_by, aim_at, aims_by, with_new, first_rows, numbered, plan_of_aim, plan_of_hit, IsIndex}
-use Rattle.compiler.proofs.FirstRows.{beside, at_place, best_of-first_rows, best_of-beside, best_of-numbered, duplicate_of-numbered, distinct-first_rows}
+use Rattle.compiler.specs.Plan.{Row, row_of, rows_of, longest_row_of, plan_of_zone, plan_of_row, plan_of}
+use Rattle.compiler.specs.TablesIndex.{zone_kind_of, declared_kind_of, kept_kind_of, Zones, AreZonesOf, AddsZone, is_local_kind, local_of_place, PlannedRow, plan_of_kind, planned_row_of, planned_row_of_place, planned_rows_of, with_row, first_rows_of, places_of, plan_of_planned_row, plan_of_hit, IsIndex}
+use Rattle.compiler.proofs.FirstRows.{beside, at_place, best_of-first_rows_of, best_of-beside, best_of-places_of, duplicate_of-places_of, distinct-first_rows_of}
 
--- ---- one more line
--- the lines before a place, with the line there
-pub take_with : (lines : List Command) (place : ℕ) (line : Command) → slice_get lines place ≡ Some line → take (place + 1) lines ≡ take place lines ++ line ∷ []
-take_with lines place line h =
-    take_more lines place line (slice_get_within lines place line h)
-    ∙ ap (λ l. take place lines ++ l ∷ []) (get_or_from_slice_get lines place line line h)
+-- ---- one more command
+-- the commands before a place, with the command there
+pub take_with : (commands : List Command) (place : ℕ) (command : Command)
+    → slice_get commands place ≡ Some command
+    → take (place + 1) commands ≡ take place commands ++ command ∷ []
+take_with commands place command h =
+    take_more commands place command (slice_get_within commands place command h)
+    ∙ ap (λ l. take place commands ++ l ∷ [])
+    (get_or_from_slice_get commands place command command h)
 
-map-or : {A B : Type 0} (f : A → B) (o p : Option A) → option_map f (option_or o p) ≡ option_or (option_map f o) (option_map f p)
+map-or : {A B : Type 0} (f : A → B) (o p : Option A)
+    → option_map f (option_or o p) ≡ option_or (option_map f o) (option_map f p)
 map-or f None p = refl
 map-or f (Some x) p = refl
 
--- the first of more lines that finds is in the front, or behind it
-find-more : {B : Type 0} (test : List ℕ × Zone → Bool) (f : List ℕ × Zone → B) (lines more : List Command)
-    → option_map f (find test (zones_of (lines ++ more))) ≡ option_or (option_map f (find test (zones_of lines))) (option_map f (find test (zones_of more)))
-find-more test f lines more =
-    ap (λ zones. option_map f (find test zones)) (filter_map-append declared_by lines more)
-    ∙ ap (option_map f) (find-append test (zones_of lines) (zones_of more))
-    ∙ map-or f (find test (zones_of lines)) (find test (zones_of more))
+-- the first of more commands that finds is in the front, or after it
+find-more : {B : Type 0} (test : List ℕ × Zone → Bool) (f : List ℕ × Zone → B)
+    (commands more : List Command)
+    → option_map f (find test (zones_of (commands ++ more)))
+    ≡ option_or (option_map f (find test (zones_of commands)))
+    (option_map f (find test (zones_of more)))
+find-more test f commands more =
+    ap (λ zones. option_map f (find test zones)) (filter_map-append declared_by commands more)
+    ∙ ap (option_map f) (find-append test (zones_of commands) (zones_of more))
+    ∙ map-or f (find test (zones_of commands)) (find test (zones_of more))
 
-pub kind_at-more : (lines more : List Command) (name : List ℕ) → kind_at (lines ++ more) name ≡ option_or (kind_at lines name) (kind_at more name)
-kind_at-more lines more name =
-    ap (option_map kind_of) (find-more (λ zone. bytes_eq name zone.0) (λ zone. zone.1) lines more)
-    ∙ map-or kind_of (zone_of lines name) (zone_of more name)
+pub declared_kind_of-more : (commands more : List Command) (name : List ℕ)
+    → declared_kind_of (commands ++ more) name
+    ≡ option_or (declared_kind_of commands name) (declared_kind_of more name)
+declared_kind_of-more commands more name =
+    ap (option_map zone_kind_of)
+    (find-more (λ zone. bytes_eq name zone.0) (λ zone. zone.1) commands more)
+    ∙ map-or zone_kind_of (zone_of commands name) (zone_of more name)
 
--- the map with the zone of one more line
-pub zones_more : (old new : Zones) (lines : List Command) (place : ℕ) (line : Command) → AreZonesOf old (take place lines) → AddsZone old new line → slice_get lines place ≡ Some line → AreZonesOf new (take (place + 1) lines)
-zones_more old new lines place line h adds there name =
+-- the map with the zone of one more command
+pub zones_more : (old new : Zones) (commands : List Command) (place : ℕ) (command : Command)
+    → AreZonesOf old (take place commands) → AddsZone old new command
+    → slice_get commands place ≡ Some command → AreZonesOf new (take (place + 1) commands)
+zones_more old new commands place command h adds there name =
     adds name
-    ∙ ap (λ o. option_or o (kind_at (line ∷ []) name)) (h name)
-    ∙ sym (kind_at-more (take place lines) (line ∷ []) name)
-    ∙ ap (λ front. kind_at front name) (sym (take_with lines place line there))
+    ∙ ap (λ o. option_or o (declared_kind_of (command ∷ []) name)) (h name)
+    ∙ sym (declared_kind_of-more (take place commands) (command ∷ []) name)
+    ∙ ap (λ front. declared_kind_of front name) (sym (take_with commands place command there))
 
--- a line stands at each place within the list
-pub stands : (lines : List Command) (place : ℕ) → place < length lines → slice_get lines place ≡ None → ⊥
+-- there is a command at each place within the list
+pub stands : (commands : List Command) (place : ℕ) → place < length commands
+    → slice_get commands place ≡ None → ⊥
 stands [] place within h = absurd (omega arith)
-stands (line ∷ lines) zero within h = cc
-stands (line ∷ lines) (suc place) within h = let rest : place < length lines = omega arith in stands lines place rest h
+stands (command ∷ commands) zero within h = cc
+stands (command ∷ commands) (suc place) within h =
+    let rest : place < length commands = omega arith in stands commands place rest h
 
-local-more : (lines more : List Command) → first_local_of (lines ++ more) ≡ option_or (first_local_of lines) (first_local_of more)
-local-more lines more = find-more (λ zone. is_local_zone zone.1) (λ zone. zone.0) lines more
+local-more : (commands more : List Command)
+    → first_local_of (commands ++ more) ≡ option_or (first_local_of commands) (first_local_of more)
+local-more commands more = find-more (λ zone. is_local_zone zone.1) (λ zone. zone.0) commands more
 
--- the first local zone with one more line
-local_with : (lines : List Command) (place : ℕ) → place < length lines → first_local_of (take (place + 1) lines) ≡ option_or (first_local_of (take place lines)) (local_at lines place)
-local_with lines place within = by (slice_get lines place) refl
+-- the first local zone with one more command
+local_with : (commands : List Command) (place : ℕ) → place < length commands
+    → first_local_of (take (place + 1) commands)
+    ≡ option_or (first_local_of (take place commands)) (local_of_place commands place)
+local_with commands place within = by (slice_get commands place) refl
   where
-    by : (line : Option Command) → slice_get lines place ≡ line → first_local_of (take (place + 1) lines) ≡ option_or (first_local_of (take place lines)) (option_and_then (λ line. first_local_of (line ∷ [])) line)
-    by None e = absurd (stands lines place within e)
-    by (Some line) e = ap first_local_of (take_with lines place line e) ∙ local-more (take place lines) (line ∷ [])
+    by : (command : Option Command) → slice_get commands place ≡ command
+        → first_local_of (take (place + 1) commands)
+        ≡ option_or (first_local_of (take place commands))
+        (option_and_then (λ command. first_local_of (command ∷ [])) command)
+    by None e = absurd (stands commands place within e)
+    by (Some command) e =
+        ap first_local_of (take_with commands place command e)
+        ∙ local-more (take place commands) (command ∷ [])
 
 -- none so far, and none at this place
-pub no_local_more : (lines : List Command) (place : ℕ) → place < length lines → first_local_of (take place lines) ≡ None → local_at lines place ≡ None → first_local_of (take (place + 1) lines) ≡ None
-no_local_more lines place within h none =
-    local_with lines place within ∙ ap (λ o. option_or o (local_at lines place)) h ∙ none
+pub no_local_more : (commands : List Command) (place : ℕ) → place < length commands
+    → first_local_of (take place commands) ≡ None → local_of_place commands place ≡ None
+    → first_local_of (take (place + 1) commands) ≡ None
+no_local_more commands place within h none =
+    local_with commands place within ∙ ap (λ o. option_or o (local_of_place commands place)) h
+    ∙ none
 
 -- none so far, and one at this place
-pub local_found : (lines : List Command) (place : ℕ) (name : List ℕ) → place < length lines → first_local_of (take place lines) ≡ None → local_at lines place ≡ Some name → first_local_of lines ≡ Some name
-local_found lines place name within h found =
-    ap first_local_of (sym (take-append-drop (place + 1) lines))
-    ∙ local-more (take (place + 1) lines) (drop (place + 1) lines)
-    ∙ ap (λ o. option_or o (first_local_of (drop (place + 1) lines))) (local_with lines place within ∙ ap (λ o. option_or o (local_at lines place)) h ∙ found)
+pub local_found : (commands : List Command) (place : ℕ) (name : List ℕ) → place < length commands
+    → first_local_of (take place commands) ≡ None → local_of_place commands place ≡ Some name
+    → first_local_of commands ≡ Some name
+local_found commands place name within h found =
+    ap first_local_of (sym (take-append-drop (place + 1) commands))
+    ∙ local-more (take (place + 1) commands) (drop (place + 1) commands)
+    ∙ ap (λ o. option_or o (first_local_of (drop (place + 1) commands)))
+    (local_with commands place within ∙ ap (λ o. option_or o (local_of_place commands place)) h
+    ∙ found)
 
 -- ---- a name that is new or not
-pub added_name : (old new : Zones) (name : List ℕ) (kind : ZoneKind) → is_some (kind_in old name) ≡ false → ((q : List ℕ) → kind_in new q ≡ cond (bytes_eq name q) (Some kind) (kind_in old q)) → (q : List ℕ) → kind_in new q ≡ option_or (kind_in old q) (cond (bytes_eq q name) (Some kind) None)
+pub added_name : (old new : Zones) (name : List ℕ) (kind : ZoneKind)
+    → is_some (kept_kind_of old name) ≡ false
+    → ((q : List ℕ) → kept_kind_of new q ≡ cond (bytes_eq name q) (Some kind) (kept_kind_of old q))
+    → (q : List ℕ)
+    → kept_kind_of new q ≡ option_or (kept_kind_of old q) (cond (bytes_eq q name) (Some kind) None)
 added_name old new name kind absent added q = added q ∙ by (bytes_eq name q) refl
   where
     or_none : (o : Option ZoneKind) → o ≡ option_or o None
@@ -98,35 +131,51 @@ added_name old new name kind absent added q = added q ∙ by (bytes_eq name q) r
     none_from None e = refl
     none_from (Some x) e = cc
 
-    turned : bytes_eq q name ≡ bytes_eq name q
-    turned = nat_list_eq_equiv.symm q name
+    flipped_test : bytes_eq q name ≡ bytes_eq name q
+    flipped_test = nat_list_eq_equiv.symm q name
 
-    by : (t : Bool) → bytes_eq name q ≡ t → cond t (Some kind) (kind_in old q) ≡ option_or (kind_in old q) (cond (bytes_eq q name) (Some kind) None)
+    by : (t : Bool) → bytes_eq name q ≡ t
+        → cond t (Some kind) (kept_kind_of old q)
+        ≡ option_or (kept_kind_of old q) (cond (bytes_eq q name) (Some kind) None)
     by true e =
-        let none : kind_in old q ≡ None = ap (kind_in old) (sym (same_text name q (sym e))) ∙ none_from (kind_in old name) absent in
-        sym (ap (λ o. option_or o (cond (bytes_eq q name) (Some kind) None)) none ∙ ap (λ t. cond t (Some kind) None) (turned ∙ e))
-    by false e = or_none (kind_in old q) ∙ sym (ap (λ t. option_or (kind_in old q) (cond t (Some kind) None)) (turned ∙ e))
+        let none : kept_kind_of old q ≡ None =
+        ap (kept_kind_of old) (sym (same_text name q (sym e)))
+        ∙ none_from (kept_kind_of old name) absent in
+        sym (ap (λ o. option_or o (cond (bytes_eq q name) (Some kind) None)) none
+        ∙ ap (λ t. cond t (Some kind) None) (flipped_test ∙ e))
+    by false e =
+        or_none (kept_kind_of old q)
+        ∙ sym (ap (λ t. option_or (kept_kind_of old q) (cond t (Some kind) None))
+        (flipped_test ∙ e))
 
 -- ---- the local zone
-same_kind : (zone : Option Zone) → is_local_kind (option_map kind_of zone) ≡ is_local_option zone
+same_kind : (zone : Option Zone)
+    → is_local_kind (option_map zone_kind_of zone) ≡ is_local_option zone
 same_kind None = refl
-same_kind (Some LocalZone) = refl
-same_kind (Some (RemoteZone address)) = refl
+same_kind (Some Declared.Local) = refl
+same_kind (Some (Declared.Remote address)) = refl
 
 -- the map tells local zones from others
-pub is_local_by : (zones : Zones) (lines : List Command) (name : List ℕ) → AreZonesOf zones lines → is_local_kind (kind_in zones name) ≡ is_local lines name
-is_local_by zones lines name h = ap is_local_kind (h name) ∙ same_kind (zone_of lines name)
+pub is_local_by : (zones : Zones) (commands : List Command) (name : List ℕ)
+    → AreZonesOf zones commands → is_local_kind (kept_kind_of zones name) ≡ is_local commands name
+is_local_by zones commands name h = ap is_local_kind (h name) ∙ same_kind (zone_of commands name)
 
 -- ---- rows
-abbrev pub one_or_none : Option Aim → List Aim
+abbrev pub one_or_none : Option PlannedRow → List PlannedRow
 one_or_none None = []
-one_or_none (Some aim) = aim ∷ []
+one_or_none (Some planned) = planned ∷ []
 
--- the aims with that of one more line, if it is a row
-pub aims_more : (zones : Zones) (lines : List Command) (place : ℕ) → place < length lines → aims_by zones (take (place + 1) lines) ≡ aims_by zones (take place lines) ++ one_or_none (aim_at zones lines place)
-aims_more zones lines place within = by (slice_get lines place) refl
+-- the plans with that of one more command, if it is a row
+pub planned_rows_more : (zones : Zones) (commands : List Command) (place : ℕ)
+    → place < length commands
+    → planned_rows_of zones (take (place + 1) commands)
+    ≡ planned_rows_of zones (take place commands)
+    ++ one_or_none (planned_row_of_place zones commands place)
+planned_rows_more zones commands place within = by (slice_get commands place) refl
   where
-    alone : (line : Command) → aims_by zones (line ∷ []) ≡ one_or_none (option_map (aim_by zones) (row_in line))
+    alone : (command : Command)
+        → planned_rows_of zones (command ∷ [])
+        ≡ one_or_none (option_map (planned_row_of zones) (row_of command))
     alone (ZoneLocal name domain address) = refl
     alone (ZoneRemote name domain address cost priority) = refl
     alone (ZonePrefix zone pattern gateways) = refl
@@ -136,30 +185,45 @@ aims_more zones lines place within = by (slice_get lines place) refl
     alone (BandwidthZone kind zone size) = refl
     alone (BandwidthRemote size) = refl
 
-    by : (line : Option Command) → slice_get lines place ≡ line → aims_by zones (take (place + 1) lines) ≡ aims_by zones (take place lines) ++ one_or_none (option_map (aim_by zones) (option_and_then row_in line))
-    by None e = absurd (stands lines place within e)
-    by (Some line) e =
-        ap (aims_by zones) (take_with lines place line e)
-        ∙ ap (map (aim_by zones)) (filter_map-append row_in (take place lines) (line ∷ []))
-        ∙ map-append (aim_by zones) (rows_of (take place lines)) (rows_of (line ∷ []))
-        ∙ ap (λ more. aims_by zones (take place lines) ++ more) (alone line)
+    by : (command : Option Command) → slice_get commands place ≡ command
+        → planned_rows_of zones (take (place + 1) commands)
+        ≡ planned_rows_of zones (take place commands)
+        ++ one_or_none (option_map (planned_row_of zones) (option_and_then row_of command))
+    by None e = absurd (stands commands place within e)
+    by (Some command) e =
+        ap (planned_rows_of zones) (take_with commands place command e)
+        ∙ ap (map (planned_row_of zones))
+        (filter_map-append row_of (take place commands) (command ∷ []))
+        ∙ map-append (planned_row_of zones) (rows_of (take place commands)) (rows_of (command ∷ []))
+        ∙ ap (λ more. planned_rows_of zones (take place commands) ++ more) (alone command)
 
--- a line that is no row
-pub first_rows-same : (zones : Zones) (lines : List Command) (place : ℕ) → place < length lines → aim_at zones lines place ≡ None → first_rows (aims_by zones (take (place + 1) lines)) ≡ first_rows (aims_by zones (take place lines))
-first_rows-same zones lines place within none =
-    ap first_rows (aims_more zones lines place within)
-    ∙ ap (λ aim. first_rows (aims_by zones (take place lines) ++ one_or_none aim)) none
-    ∙ ap first_rows (append-nil (aims_by zones (take place lines)))
+-- a command that is no row
+pub first_rows_of-same : (zones : Zones) (commands : List Command) (place : ℕ)
+    → place < length commands → planned_row_of_place zones commands place ≡ None
+    → first_rows_of (planned_rows_of zones (take (place + 1) commands))
+    ≡ first_rows_of (planned_rows_of zones (take place commands))
+first_rows_of-same zones commands place within none =
+    ap first_rows_of (planned_rows_more zones commands place within)
+    ∙ ap (λ planned. first_rows_of
+    (planned_rows_of zones (take place commands) ++ one_or_none planned)) none
+    ∙ ap first_rows_of (append-nil (planned_rows_of zones (take place commands)))
 
--- a line that is a row
-pub first_rows-more : (zones : Zones) (lines : List Command) (place : ℕ) (aim : Aim) → place < length lines → aim_at zones lines place ≡ Some aim → first_rows (aims_by zones (take (place + 1) lines)) ≡ with_new (first_rows (aims_by zones (take place lines))) aim
-first_rows-more zones lines place aim within one =
-    ap first_rows (aims_more zones lines place within)
-    ∙ ap (λ aim. first_rows (aims_by zones (take place lines) ++ one_or_none aim)) one
-    ∙ fold-append with_new [] (aims_by zones (take place lines)) (aim ∷ [])
+-- a command that is a row
+pub first_rows_of-more : (zones : Zones) (commands : List Command) (place : ℕ)
+    (planned : PlannedRow)
+    → place < length commands → planned_row_of_place zones commands place ≡ Some planned
+    → first_rows_of (planned_rows_of zones (take (place + 1) commands))
+    ≡ with_row (first_rows_of (planned_rows_of zones (take place commands))) planned
+first_rows_of-more zones commands place planned within one =
+    ap first_rows_of (planned_rows_more zones commands place within)
+    ∙ ap (λ planned. first_rows_of
+    (planned_rows_of zones (take place commands) ++ one_or_none planned)) one
+    ∙ fold-append with_row [] (planned_rows_of zones (take place commands)) (planned ∷ [])
 
 -- one more pattern that was seen
-pub seen_more : (p : PatternParts) (rows : List Aim) (row : Aim) (seen : Bool) → seen ≡ has_pattern p rows → cond (same_pattern row.0 p) true seen ≡ has_pattern p (rows ++ row ∷ [])
+pub seen_more : (p : PatternParts) (rows : List PlannedRow) (row : PlannedRow) (seen : Bool)
+    → seen ≡ has_pattern p rows
+    → cond (same_pattern row.0 p) true seen ≡ has_pattern p (rows ++ row ∷ [])
 seen_more p rows row seen h =
     flipped (same_pattern row.0 p) seen
     ∙ ap (λ t. t || (same_pattern row.0 p || false)) h
@@ -171,38 +235,58 @@ seen_more p rows row seen h =
     flipped false true = refl
     flipped false false = refl
 
--- the numbered rows are of different patterns
-pub no_duplicate : (rows : List (PatternParts × ℕ)) (aims all : List Aim) → rows ≡ numbered aims → aims ≡ first_rows all → duplicate_of rows ≡ None
-no_duplicate rows aims all h i = ap duplicate_of h ∙ duplicate_of-numbered aims ∙ ap duplicate_of i ∙ distinct-first_rows all
+-- the places_of rows are of different patterns
+pub no_duplicate : (rows : List (PatternParts × ℕ)) (plans all : List PlannedRow)
+    → rows ≡ places_of plans → plans ≡ first_rows_of all → duplicate_of rows ≡ None
+no_duplicate rows plans all h i =
+    ap duplicate_of h
+    ∙ duplicate_of-places_of plans
+    ∙ ap duplicate_of i
+    ∙ distinct-first_rows_of all
 
 -- ---- the plan
-same_plan : (zone : List ℕ) (declared : Option Zone) → plan_for zone (option_map kind_of declared) ≡ plan_to zone declared
+same_plan : (zone : List ℕ) (declared : Option Zone)
+    → plan_of_kind zone (option_map zone_kind_of declared) ≡ plan_of_zone zone declared
 same_plan zone None = refl
-same_plan zone (Some LocalZone) = refl
-same_plan zone (Some (RemoteZone address)) = refl
+same_plan zone (Some Declared.Local) = refl
+same_plan zone (Some (Declared.Remote address)) = refl
 
 -- where a row leads whose place was looked up
-read : Option (PatternParts × Option Aim) → Plan
+read : Option (PatternParts × Option PlannedRow) → Plan
 read None = Caller
-read (Some row) = plan_of_aim row.1
+read (Some row) = plan_of_planned_row row.1
 
-read_hit : (aims : List Aim) (found : Option (PatternParts × ℕ)) → plan_of_hit aims (option_map hit_of found) ≡ read (option_map (beside (at_place aims)) found)
+read_hit : (plans : List PlannedRow) (found : Option (PatternParts × ℕ))
+    → plan_of_hit plans (option_map hit_of found)
+    ≡ read (option_map (beside (at_place plans)) found)
 unfolding read
-read_hit aims None = refl
-read_hit aims (Some row) = refl
+read_hit plans None = refl
+read_hit plans (Some row) = refl
 
-read_row : (zones : Zones) (lines : List Command) (found : Option Row) → AreZonesOf zones lines → read (option_map (beside (λ aim. Some aim)) (option_map (aim_by zones) found)) ≡ plan_by lines found
+read_row : (zones : Zones) (commands : List Command) (found : Option Row)
+    → AreZonesOf zones commands
+    → read (option_map (beside (λ planned. Some planned)) (option_map (planned_row_of zones) found))
+    ≡ plan_of_row commands found
 unfolding read
-read_row zones lines None h = refl
-read_row zones lines (Some row) h = ap (plan_for row.1) (h row.1) ∙ same_plan row.1 (zone_of lines row.1)
+read_row zones commands None h = refl
+read_row zones commands (Some row) h =
+    ap (plan_of_kind row.1) (h row.1)
+    ∙ same_plan row.1 (zone_of commands row.1)
 
--- what the tables find is the plan of the lines
-pub plan_by_tables : (lines : List Command) (zones : Zones) (first_local : Option (List ℕ)) (prefixes : List (PatternParts × ℕ)) (aims : List Aim) → IsIndex lines zones first_local prefixes aims → (text : List ℕ) → plan_of_hit aims (best_hit prefixes text) ≡ plan_of lines text
+-- what the tables find is the plan of the commands
+pub plan_by_tables : (commands : List Command) (zones : Zones) (first_local : Option (List ℕ))
+    (prefixes : List (PatternParts × ℕ)) (plans : List PlannedRow)
+    → IsIndex commands zones first_local prefixes plans → (text : List ℕ)
+    → plan_of_hit plans (best_hit prefixes text) ≡ plan_of commands text
 unfolding plan_of
-plan_by_tables lines zones first_local prefixes aims h text =
-    ap (λ rows. plan_of_hit aims (best_hit rows text)) h.prefixes_are
-    ∙ read_hit aims (best_of (numbered aims) text)
-    ∙ ap read (best_of-numbered aims text)
-    ∙ ap (λ all. read (option_map (beside (λ aim. Some aim)) (best_of all text))) h.aims_are
-    ∙ ap (λ found. read (option_map (beside (λ aim. Some aim)) found)) (best_of-first_rows (aims_by zones lines) text ∙ best_of-beside (λ row. plan_for row.1 (kind_in zones row.1)) (rows_of lines) text)
-    ∙ read_row zones lines (row_for lines text) h.zones_are
+plan_by_tables commands zones first_local prefixes plans h text =
+    ap (λ rows. plan_of_hit plans (best_hit rows text)) h.prefixes_are
+    ∙ read_hit plans (best_of (places_of plans) text)
+    ∙ ap read (best_of-places_of plans text)
+    ∙ ap (λ all. read (option_map (beside (λ planned. Some planned)) (best_of all text)))
+    h.plans_are
+    ∙ ap (λ found. read (option_map (beside (λ planned. Some planned)) found))
+    (best_of-first_rows_of (planned_rows_of zones commands) text
+    ∙ best_of-beside (λ row. plan_of_kind row.1 (kept_kind_of zones row.1)) (rows_of commands)
+    text)
+    ∙ read_row zones commands (longest_row_of commands text) h.zones_are

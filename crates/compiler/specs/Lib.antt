@@ -1,4 +1,3 @@
-pub mod InEffect
 pub mod Plan
 pub mod TablesIndex
 pub mod Zones

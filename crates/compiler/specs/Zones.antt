@@ -9,8 +9,9 @@ is_local_option None = false
 is_local_option (Some zone) = is_local_zone zone
 
 abbrev pub is_local : List Command → List ℕ → Bool
-is_local lines name = is_local_option (zone_of lines name)
+is_local commands name = is_local_option (zone_of commands name)
 
 -- the zone `-` is the first local one
 abbrev pub zone_meant : List Command → List ℕ → List ℕ
-zone_meant lines zone = if bytes_eq zone (codes "-") then unwrap_or (first_local_of lines) zone else zone
+zone_meant commands zone =
+    if bytes_eq zone (codes "-") then unwrap_or (first_local_of commands) zone else zone

@@ -1,7 +1,6 @@
 //! The compiler: a configuration made ready for look-ups, and where it sends dialled digits.
 #![tactic(auto)]
 
-pub mod laws;
 pub mod tables;
 #[cfg(test)]
 mod tests;

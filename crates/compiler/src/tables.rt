@@ -7,11 +7,10 @@ ghost use Rattle.gk_terms.specs.declared.limits.TheConstants.{MOST_LINES};
 ghost use Rattle.digit_patterns.specs.PatternParts.{PatternParts};
 ghost use Rattle.digit_patterns.specs.Pattern.{same_pattern};
 ghost use Rattle.digit_patterns.specs.Duplicate.{has_pattern};
-ghost use Rattle.command_reader.specs.Zones.{first_local_of, zone_of};
-ghost use Rattle.compiler.specs.Zones.{is_local as is_local_name, zone_meant};
-ghost use Rattle.compiler.specs.InEffect.{lines_in_effect};
-ghost use Rattle.compiler.specs.Plan.{plan_of, row_in};
-ghost use Rattle.compiler.specs.TablesIndex.{AreZonesOf, AddsZone, kind_in, aim_by, aims_by, first_rows as first_rows_of, numbered as numbered_rows, plan_for, with_new, is_local_kind, aim_at, local_at as local_of, plan_of_hit as plan_of_found};
+ghost use Rattle.command_reader.specs.Zones as Declared;
+ghost use Rattle.compiler.specs.Zones.{is_local, zone_meant};
+ghost use Rattle.compiler.specs.Plan.{plan_of, row_of, target_of, is_remote};
+ghost use Rattle.compiler.specs.TablesIndex as Index;
 
 use command_reader::{Command, Commands};
 use digit_patterns::{Hit, Pattern, PlainTable, PrefixTable, TableFault};
@@ -41,7 +40,29 @@ pub enum Plan {
     Caller,
 }
 
-/// What the configuration of some version says of dialled digits.
+impl Plan {
+    /// The zone to which the plan leads a caller of this zone.
+    pub fn target_of(&self, caller: &Name) -> Name
+        ensures { result ≡ target_of caller.now self.now }
+    {
+        match self {
+            Plan::Remote { zone, .. } | Plan::Local { zone } => *zone,
+            Plan::Caller => *caller,
+        }
+    }
+
+    /// Whether the plan leads to a zone of another gatekeeper.
+    pub fn is_remote(&self) -> bool
+        ensures { result ≡ is_remote self.now }
+    {
+        match self {
+            Plan::Remote { .. } => true,
+            Plan::Local { .. } | Plan::Caller => false,
+        }
+    }
+}
+
+/// What one version of the configuration says of dialled digits.
 #[derive(Clone, Copy, Debug, PartialEq, Eq)]
 pub struct Routed {
     /// The number of that version.
@@ -52,41 +73,40 @@ pub struct Routed {
     pub plan: Plan,
 }
 
-/// The configuration in force: its commands, its zones by name, and its zone prefixes by pattern.
-/// A contract sees those lines that the tables were made of which are in effect.
+/// A configuration made ready for look-ups: its commands, its zones by name, and its zone prefixes
+/// by pattern. `plans` has the first row of each pattern, with its plan; `prefixes` has the same
+/// patterns, each with the place of its row in `plans`, so that the value of a hit is such a place.
+/// A contract sees the configuration that they were compiled from.
 #[derive(Drop)]
 pub struct Tables {
     commands: Commands,
     zones: HashMap<Name, ZoneKind>,
     first_local: Option<Name>,
     prefixes: PlainTable,
-    targets: Vec<(Pattern, Plan)>,
+    plans: Vec<(Pattern, Plan)>,
 }
 
 impl Model for Tables {
-    ghost use Rattle.std.specs.Prelude.{List};
-    ghost use Rattle.command_reader.specs.declared.commands.Command.{Command};
-
-    ghost Value = { List Command };
-
-    ghost use Rattle.compiler.specs.InEffect.{lines_in_effect};
+    ghost use Rattle.command_reader.specs.Configuration.{Configuration};
     ghost use Rattle.compiler.specs.TablesIndex.{IsIndex};
 
-    ghost view = { λ t. lines_in_effect t.commands.lines };
+    ghost Value = { Configuration };
 
-    ghost invariant = { λ t. IsIndex (lines_in_effect t.commands.lines) t.zones.entries t.first_local t.prefixes t.targets.items };
+    ghost view = { λ t. t.commands };
+
+    ghost invariant = { λ t. IsIndex
+        t.commands.commands t.zones.entries t.first_local t.prefixes t.plans.items };
 }
 
 impl Tables {
-    #[tactic(auto, using(crate::proofs::EffectLemmas::index_in_effect))]
-    /// The tables of a configuration: of its lines in effect.
+    /// The tables of a configuration.
     pub fn compile(alloc: Global, commands: Commands) -> Result<Tables, AllocError>
-        ensures { IfOk result (λ tables. tables ≡ lines_in_effect commands.lines) }
+        ensures { IfOk result (λ tables. tables ≡ commands) }
     {
         let zones = zones_in(alloc, &commands)?;
-        let first_local = first_local_in(&commands);
-        let targets = first_rows(alloc, &commands, &zones)?;
-        let rows = numbered(alloc, &targets)?;
+        let first_local = first_local_of(&commands);
+        let plans = first_rows_of(alloc, &commands, &zones)?;
+        let rows = places_of(alloc, &plans)?;
         let prefixes = match PlainTable::build(alloc, &rows) {
             Ok(prefixes) => prefixes,
             Err(TableFault::NoMemory) => return Err(AllocError),
@@ -97,23 +117,25 @@ impl Tables {
             zones,
             first_local,
             prefixes,
-            targets,
+            plans,
         })
     }
 
-    /// A configuration whose lines in effect are those of the tables: the one that they were made of.
+    /// The configuration that the tables were compiled from.
     pub fn commands(&self) -> &Commands
-        ensures { lines_in_effect result.now.lines ≡ self.now }
+        ensures { result.now ≡ self.now }
     {
         &self.commands
     }
 
-    /// The zone that a registration names: `-` is the first local zone in line order. Nothing where it is no local zone.
+    /// The zone that a registration names: `-` is the first local zone of the configuration.
+    /// Nothing if it is not a local zone.
     pub fn local_zone(&self, name: &Name) -> Option<Name>
-        ensures { let zone = zone_meant self.now name.now in result ≡ (if is_local_name self.now zone then Some zone else None) }
+        ensures { let zone = zone_meant self.now.commands name.now in
+            result ≡ (if is_local self.now.commands zone then Some zone else None) }
     {
         let zone = self.zone_meant(name);
-        if is_local(self.zones.get(&zone)) {
+        if is_local_kind(self.zones.get(&zone)) {
             Some(zone)
         } else {
             None
@@ -122,7 +144,7 @@ impl Tables {
 
     /// The zone that a registration means, by its name.
     fn zone_meant(&self, name: &Name) -> Name
-        ensures { result ≡ zone_meant self.now name.now }
+        ensures { result ≡ zone_meant self.now.commands name.now }
     {
         match name.as_bytes() {
             b"-" => self.first_local.unwrap_or(*name),
@@ -130,19 +152,19 @@ impl Tables {
         }
     }
 
-    /// Where a call to these digits is to go: to the zone of the longest pattern that matches them, else to the
-    /// caller's zone. The first line of a pattern counts.
+    /// Where a call to these digits is to go: to the zone of the longest pattern that matches them,
+    /// else to the caller's zone. Of several commands for one pattern, the first counts.
     pub fn plan(&self, digits: &Dialled) -> Plan
-        ensures { result ≡ plan_of self.now digits.now }
+        ensures { result ≡ plan_of self.now.commands digits.now }
     {
-        plan_of_hit(&self.targets, self.prefixes.best(digits, 0))
+        plan_of_hit(&self.plans, self.prefixes.best(digits, 0))
     }
 
-    /// The plan for these digits, under the number that these tables have as a version.
+    /// The plan for these digits, with the number of the version that these tables are.
     pub fn routed(&self, version: Version, digits: &Dialled) -> Routed
         ensures version { result.version ≡ version }
         ensures dialled { result.dialled ≡ digits.now }
-        ensures plan { result.plan ≡ plan_of self.now digits.now }
+        ensures plan { result.plan ≡ plan_of self.now.commands digits.now }
     {
         Routed {
             version,
@@ -153,28 +175,28 @@ impl Tables {
 }
 
 /// Whether it is the kind of a local zone.
-fn is_local(kind: Option<&ZoneKind>) -> bool
-    ensures { result ≡ is_local_kind (option_copied kind.entry) }
+fn is_local_kind(kind: Option<&ZoneKind>) -> bool
+    ensures { result ≡ Index.is_local_kind (option_copied kind.entry) }
 {
     matches!(kind, Some(ZoneKind::Local))
 }
 
-/// Where a found row leads.
-fn plan_of_hit(targets: &[(Pattern, Plan)], hit: Option<Hit>) -> Plan
-    ensures { result ≡ plan_of_found targets.now hit }
+/// The plan of a row that was found.
+fn plan_of_hit(plans: &[(Pattern, Plan)], hit: Option<Hit>) -> Plan
+    ensures { result ≡ Index.plan_of_hit plans.now hit }
 {
     let Some(hit) = hit else {
         return Plan::Caller;
     };
-    match targets.get(hit.value as usize) {
+    match plans.get(hit.value as usize) {
         Some((_, plan)) => *plan,
         None => Plan::Caller,
     }
 }
 
-/// The zones by name; of several lines for one name, the first counts.
+/// The zones by name; of several commands for one name, the first counts.
 fn zones_in(alloc: Global, commands: &Commands) -> Result<HashMap<Name, ZoneKind>, AllocError>
-    ensures { IfOk result (λ zones. AreZonesOf zones.entries commands.now.lines) }
+    ensures { IfOk result (λ zones. Index.AreZonesOf zones.entries commands.now.commands) }
 {
     let mut zones = HashMap::new(alloc);
     for place in 0..commands.len() {
@@ -187,7 +209,7 @@ fn zones_in(alloc: Global, commands: &Commands) -> Result<HashMap<Name, ZoneKind
 
 /// Adds the zone that a command declares, if it declares one and its name is new.
 fn add_zone(zones: &mut HashMap<Name, ZoneKind>, command: &Command) -> Result<(), AllocError>
-    ensures { OnOk result (AddsZone zones.old.entries zones.new.entries command.now) }
+    ensures { OnOk result (Index.AddsZone zones.old.entries zones.new.entries command.now) }
 {
     match command {
         Command::ZoneLocal { name, .. } => add_new(zones, name, ZoneKind::Local),
@@ -204,7 +226,9 @@ fn add_new(
     name: &Name,
     kind: ZoneKind,
 ) -> Result<(), AllocError>
-    ensures { OnOk result ((q : List ℕ) → kind_in zones.new.entries q ≡ option_or (kind_in zones.old.entries q) (if bytes_eq q name.now then Some kind else None)) }
+    ensures { OnOk result ((q : List ℕ) → Index.kept_kind_of zones.new.entries q
+        ≡ option_or (Index.kept_kind_of zones.old.entries q)
+        (if bytes_eq q name.now then Some kind else None)) }
 {
     if !zones.contains_key(name) {
         zones.insert(*name, kind)?;
@@ -212,21 +236,21 @@ fn add_new(
     Ok(())
 }
 
-/// The first local zone in line order.
-fn first_local_in(commands: &Commands) -> Option<Name>
-    ensures { result ≡ first_local_of commands.now.lines }
+/// The first local zone of the configuration.
+fn first_local_of(commands: &Commands) -> Option<Name>
+    ensures { result ≡ Declared.first_local_of commands.now.commands }
 {
     for place in 0..commands.len() {
-        if let Some(name) = local_at(commands, place) {
+        if let Some(name) = local_of_place(commands, place) {
             return Some(name);
         }
     }
     None
 }
 
-/// The name of the local zone that the line at a place declares, if it declares one.
-fn local_at(commands: &Commands, place: usize) -> Option<Name>
-    ensures { result ≡ local_of commands.now.lines place }
+/// The name of the local zone that the command at a place declares, if it declares one.
+fn local_of_place(commands: &Commands, place: usize) -> Option<Name>
+    ensures { result ≡ Index.local_of_place commands.now.commands place }
 {
     match commands.get(place)? {
         Command::ZoneLocal { name, .. } => Some(*name),
@@ -234,43 +258,47 @@ fn local_at(commands: &Commands, place: usize) -> Option<Name>
     }
 }
 
-/// The first line of each pattern: the pattern, and where it leads.
-fn first_rows(
+/// The first row of each pattern: the pattern and its plan.
+fn first_rows_of(
     alloc: Global,
     commands: &Commands,
     zones: &HashMap<Name, ZoneKind>,
 ) -> Result<Vec<(Pattern, Plan)>, AllocError>
-    ensures first { IfOk result (λ rows. rows.items ≡ first_rows_of (aims_by zones.now.entries commands.now.lines)) }
+    ensures first { IfOk result (λ rows. rows.items
+        ≡ Index.first_rows_of (Index.planned_rows_of zones.now.entries commands.now.commands)) }
     ensures within { IfOk result (λ rows. length rows.items ≤ MOST_LINES) }
 {
     let mut seen = HashSet::new(alloc);
     let mut rows = Vec::new(alloc);
     for place in 0..commands.len() {
-        if let Some(row) = row_at(commands, zones, place) {
+        if let Some(row) = planned_row_of_place(commands, zones, place) {
             add_row(&mut seen, &mut rows, row)?;
         }
     }
     Ok(rows)
 }
 
-/// The line at a place as a row, if it is one: its pattern, and where it leads.
-fn row_at(
+/// The row of the command at a place, if that is a `zone prefix`: its pattern and its plan.
+fn planned_row_of_place(
     commands: &Commands,
     zones: &HashMap<Name, ZoneKind>,
     place: usize,
 ) -> Option<(Pattern, Plan)>
-    ensures { result ≡ aim_at zones.now.entries commands.now.lines place }
+    ensures { result ≡ Index.planned_row_of_place zones.now.entries commands.now.commands place }
 {
-    row_of(commands.get(place)?, zones)
+    planned_row_of_command(commands.get(place)?, zones)
 }
 
-/// The row that a command says, if it says one: its pattern, and where it leads.
-fn row_of(command: &Command, zones: &HashMap<Name, ZoneKind>) -> Option<(Pattern, Plan)>
-    ensures { result ≡ option_map (aim_by zones.now.entries) (row_in command.now) }
+/// The row of a command, if it is a `zone prefix`: its pattern and its plan.
+fn planned_row_of_command(
+    command: &Command,
+    zones: &HashMap<Name, ZoneKind>,
+) -> Option<(Pattern, Plan)>
+    ensures { result ≡ option_map (Index.planned_row_of zones.now.entries) (row_of command.now) }
 {
     match command {
         Command::ZonePrefix { zone, pattern, .. } => {
-            Some((*pattern, plan_to(zone, zones.get(zone))))
+            Some((*pattern, plan_of_kind(zone, zones.get(zone))))
         }
         _ => None,
     }
@@ -282,10 +310,12 @@ fn add_row(
     rows: &mut Vec<(Pattern, Plan)>,
     row: (Pattern, Plan),
 ) -> Result<(), AllocError>
-    requires { (p : PatternParts) → contains same_pattern seen.old p ≡ has_pattern p rows.old.items }
-    ensures added { OnOk result (rows.new.items ≡ with_new rows.old.items row) }
+    requires { (p : PatternParts)
+        → contains same_pattern seen.old p ≡ has_pattern p rows.old.items }
+    ensures added { OnOk result (rows.new.items ≡ Index.with_row rows.old.items row) }
     ensures few { length rows.new.items ≤ length rows.old.items + 1 }
-    ensures seen { OnOk result ((p : PatternParts) → contains same_pattern seen.new p ≡ has_pattern p rows.new.items) }
+    ensures seen { OnOk result ((p : PatternParts)
+        → contains same_pattern seen.new p ≡ has_pattern p rows.new.items) }
 {
     if seen.insert(row.0)? {
         rows.push(row)?;
@@ -294,9 +324,9 @@ fn add_row(
 }
 
 /// Each pattern, with the place of its row.
-fn numbered(alloc: Global, rows: &[(Pattern, Plan)]) -> Result<Vec<(Pattern, u32)>, AllocError>
+fn places_of(alloc: Global, rows: &[(Pattern, Plan)]) -> Result<Vec<(Pattern, u32)>, AllocError>
     requires { length rows.now ≤ MOST_LINES }
-    ensures { IfOk result (λ places. places.items ≡ numbered_rows rows.now) }
+    ensures { IfOk result (λ places. places.items ≡ Index.places_of rows.now) }
 {
     let mut places = Vec::new(alloc);
     for (place, row) in rows.iter().enumerate() {
@@ -305,9 +335,9 @@ fn numbered(alloc: Global, rows: &[(Pattern, Plan)]) -> Result<Vec<(Pattern, u32
     Ok(places)
 }
 
-/// Where a call to this zone goes.
-fn plan_to(zone: &Name, kind: Option<&ZoneKind>) -> Plan
-    ensures { result ≡ plan_for zone.now (option_copied kind.entry) }
+/// The plan for calls to this zone.
+fn plan_of_kind(zone: &Name, kind: Option<&ZoneKind>) -> Plan
+    ensures { result ≡ Index.plan_of_kind zone.now (option_copied kind.entry) }
 {
     match kind {
         Some(ZoneKind::Remote(address)) => Plan::Remote {

@@ -1,6 +1,5 @@
 //! What tables keep.
 
-use crate::laws;
 use crate::tables::Tables;
 use command_reader::read;
 use std::test::Fail;
@@ -11,7 +10,6 @@ fn tables_keep_their_configuration(rt: HostRuntime) -> Result<(), Fail> {
     let Ok(commands) = read(rt.alloc(), configuration) else {
         panic!(rt; "refused");
     };
-    laws::lines_in_effect_keep_zones_and_patterns();
     let tables = Tables::compile(rt.alloc(), commands)?;
     assert_eq!(rt; tables.commands().len(), 2);
     assert_eq!(rt; tables.commands().passed(), 1);

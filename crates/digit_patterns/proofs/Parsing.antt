@@ -1,4 +1,4 @@
--- What reading a pattern gives: the parts are the whole text exactly where its ending is empty or a star.
+-- What reading a pattern gives: the parts are the whole text exactly if its ending is empty or a star.
 use Rattle.std.proofs.Common.{◌≡◌, ℕ, ◌+◌, ◌<◌, ◌≤◌, Bool, true, false, cond, ◌&&◌, nat_le, List, [], ◌∷◌, ◌++◌, length, take, drop, replicate, Some, None, is_some, suc, refl, sym, ap, ◌∙◌, arith, append_assoc, length-append, take-append-drop, if◌then◌else◌}
 use Rattle.std.specs.Bool.{then_some}
 use Rattle.std.specs.Char.{is_ascii_digit}
@@ -48,7 +48,7 @@ bytes_eq-front (b ∷ bs) xs ys = grind (arith, nat_tests, bytes_eq-front bs xs 
 abbrev pub star_text : Bool → List ℕ
 star_text star = if star then 42 ∷ [] else []
 
--- the ending is a star or nothing exactly where it is read as one
+-- the ending is a star or nothing exactly if it is read as one
 bytes_eq-star_text : (ending : List ℕ) → bytes_eq (star_text (bytes_eq ending (42 ∷ []))) ending ≡ is_some (star_of ending)
 bytes_eq-star_text [] = refl
 bytes_eq-star_text (b ∷ bs) = by (bytes_eq (b ∷ bs) (42 ∷ [])) refl
@@ -66,7 +66,7 @@ ending_read (b ∷ bs) star h = by (bytes_eq (b ∷ bs) (42 ∷ [])) refl h
     by true e h = let same : true ≡ star = cc in (same, ap length (same_text (b ∷ bs) (42 ∷ []) (sym e)) ∙ ap (λ b. cond b 1 0) same)
     by false e h = cc
 
--- what stands behind the digits and the dots in front
+-- what comes after the digits and the dots in front
 abbrev pub others_of : List ℕ → List ℕ
 others_of text = drop (prefix_len is_ascii_digit text) text
 
@@ -82,18 +82,18 @@ front-ending text =
     let digits = prefix_len is_ascii_digit text in
     let others = others_of text in
     let dots = prefix_len is_dot others in
-    let behind : replicate dots 46 ++ drop dots others ≡ others =
+    let rest : replicate dots 46 ++ drop dots others ≡ others =
     ap (λ xs. xs ++ drop dots others) (sym (dots_in_front others)) ∙ take-append-drop dots others in
-    append_assoc (take digits text) (replicate dots 46) (drop dots others) ∙ ap (λ xs. take digits text ++ xs) behind ∙ take-append-drop digits text
+    append_assoc (take digits text) (replicate dots 46) (drop dots others) ∙ ap (λ xs. take digits text ++ xs) rest ∙ take-append-drop digits text
 
--- the parts are the whole text exactly where the ending can be read
+-- the parts are the whole text exactly if the ending can be read
 spelled : (text : List ℕ) → bytes_eq (pattern_text (parts_of text)) text ≡ is_some (star_of (ending_of text))
 spelled text =
     let ending = ending_of text in
     let front = front_of text in
     ap (bytes_eq (pattern_text (parts_of text))) (sym (front-ending text)) ∙ bytes_eq-front front (star_text (bytes_eq ending (42 ∷ []))) ending ∙ bytes_eq-star_text ending
 
--- where it cannot be read, the text is no pattern
+-- if it cannot be read, the text is not a pattern
 pub no_ending : (text : List ℕ) → star_of (ending_of text) ≡ None → pattern_of text ≡ None
 no_ending text h = let unread : bytes_eq (pattern_text (parts_of text)) text ≡ false = spelled text ∙ ap is_some h in ap (λ b. then_some (is_pattern (parts_of text) && b) (parts_of text)) unread ∙ none (is_pattern (parts_of text)) (parts_of text)
   where
@@ -115,7 +115,7 @@ character_count-read text star h =
     let read = ending_read (ending_of text) star h in
     omega (arith, ap length (front-ending text), length-append (front_of text) (ending_of text), length-append (take (prefix_len is_ascii_digit text) text) (replicate (prefix_len is_dot (others_of text)) 46), length-replicate {A = ℕ} (prefix_len is_dot (others_of text)) 46, read.1)
 
--- where it can be read, the text is a pattern exactly where it is neither empty nor too long
+-- if it can be read, the text is a pattern exactly if it is neither empty nor too long
 pub read_ending : (text : List ℕ) (star : Bool) → star_of (ending_of text) ≡ Some star → pattern_of text ≡ then_some (nat_le 1 (length text) && nat_le (length text) 32) (read_parts text star)
 read_ending text star h =
     let read = ending_read (ending_of text) star h in
@@ -132,13 +132,13 @@ read_ending text star h =
     and_true true = refl
     and_true false = refl
 
--- where it can be read, and the text is empty or too long, it is no pattern
+-- if it can be read, and the text is empty or too long, it is not a pattern
 pub no_count : (text : List ℕ) (star : Bool) → star_of (ending_of text) ≡ Some star → (1 ≤ length text → 32 < length text) → pattern_of text ≡ None
 no_count text star h outside =
     let counted : nat_le 1 (length text) && nat_le (length text) 32 ≡ false = grind (arith, nat_tests) in
     read_ending text star h ∙ ap (λ b. then_some b (read_parts text star)) counted
 
--- where it can be read, and the text is neither empty nor too long, it is a pattern
+-- if it can be read, and the text is neither empty nor too long, it is a pattern
 pub is_read : (text : List ℕ) (star : Bool) → star_of (ending_of text) ≡ Some star → 1 ≤ length text → length text ≤ 32 → pattern_of text ≡ Some (read_parts text star)
 is_read text star h some few =
     let counted : nat_le 1 (length text) && nat_le (length text) 32 ≡ true = grind (arith, nat_tests) in

@@ -92,7 +92,7 @@ none_passes p xs h k d within = by (p (get_or xs k d)) refl (λ e. list_any_at p
     by false e f = e
     by true e f = let g = f e in cc
 
--- none is filtered only where none passes
+-- none is filtered only if none passes
 filter-none : {X : Type 0} (p : X → Bool) (xs : List X) → filter p xs ≡ [] → list_any p xs ≡ false
 filter-none p [] h = refl
 filter-none p (x ∷ xs) h = by (p x) (filter-none p xs) h
@@ -102,7 +102,7 @@ filter-none p (x ∷ xs) h = by (p x) (filter-none p xs) h
     by false rest h = rest h
 
 module _ {V : Type 0} (rows : List (PatternParts × V)) (text : List ℕ) where
-  -- no row is found only where no row matches
+  -- no row is found only if no row matches
   pub best_of-none : best_of rows text ≡ None → All (λ (row : PatternParts × V). matches row.0 text ≡ false) rows
   best_of-none h = none_passes (row_matches text) rows (filter-none (row_matches text) rows (first_unbeaten-none ranks_above IsRankOrder-ranks_above (filter (row_matches text) rows) h))
 
@@ -127,11 +127,11 @@ module _ {V : Type 0} (rows : List (PatternParts × V)) (text : List ℕ) where
       test row = row_matches text row && unbeaten row
 
       no_other : (best : PatternParts × V) → unbeaten best ≡ true → list_any (λ row. row_matches text row && ranks_above row best) rows ≡ false
-      no_other best h = sym (list_any-filter (row_matches text) (λ row. ranks_above row best) rows) ∙ turned (list_any (λ other. ranks_above other best) (filter (row_matches text) rows)) h
+      no_other best h = sym (list_any-filter (row_matches text) (λ row. ranks_above row best) rows) ∙ negated (list_any (λ other. ranks_above other best) (filter (row_matches text) rows)) h
         where
-          turned : (t : Bool) → not t ≡ true → t ≡ false
-          turned false e = refl
-          turned true e = cc
+          negated : (t : Bool) → not t ≡ true → t ≡ false
+          negated false e = refl
+          negated true e = cc
 
       longer : (best row : PatternParts × V) → Matches row.0 text → Matches best.0 text → (row_matches text row && ranks_above row best) ≡ false → (row.0 ≡ best.0) ⊎ Outranks best.0 row.0
       longer best row h i e = by (rank_is_total text row.0 best.0 h i)

@@ -37,6 +37,6 @@ IsRankOrder-ranks_above = IsRankOrder-on (λ row. row.0) outranks IsRankOrder-ou
 pub best_of-pass : {V : Type 0} (rows : List (PatternParts × V)) (text : List ℕ) → best_of rows text ≡ fold (better ranks_above) None (filter (row_matches text) rows)
 best_of-pass rows text = first_unbeaten-pass ranks_above IsRankOrder-ranks_above (filter (row_matches text) rows)
 
--- the same where the pass has seen so many rows, and there are no more
+-- the same of a pass that has seen so many rows, and there are no more
 pub best_of-after : {V : Type 0} (rows : List (PatternParts × V)) (text : List ℕ) (n : ℕ) → length rows ≤ n → fold (better ranks_above) None (filter (row_matches text) (take n rows)) ≡ best_of rows text
 best_of-after rows text n h = ap (λ xs. fold (better ranks_above) None (filter (row_matches text) xs)) (take_all n rows h) ∙ sym (best_of-pass rows text)

@@ -60,13 +60,13 @@ parts_of-pattern_text p h =
     let others = dots ++ star_text p.star in
     let whole : text ≡ p.literals ++ others = append_assoc p.literals dots (star_text p.star) in
     let digits : prefix_len is_ascii_digit text ≡ length p.literals = ap (prefix_len is_ascii_digit) whole ∙ prefix_len-passed is_ascii_digit p.literals others h (no_digit p.dots p.star) in
-    let behind : drop (length p.literals) text ≡ others = ap (drop (length p.literals)) whole ∙ drop-append_seam p.literals others in
+    let rest : drop (length p.literals) text ≡ others = ap (drop (length p.literals)) whole ∙ drop-append_seam p.literals others in
     let literals : take (length p.literals) text ≡ p.literals = ap (take (length p.literals)) whole ∙ take-append_seam p.literals others in
     let long : length dots ≡ p.dots = length-replicate {A = ℕ} p.dots 46 in
     let counted : prefix_len is_dot others ≡ p.dots = prefix_len-passed is_dot dots (star_text p.star) (are_dots p.dots) (no_dot p.star) ∙ long in
     let ending : drop p.dots others ≡ star_text p.star = ap (λ n. drop n others) (sym long) ∙ drop-append_seam dots (star_text p.star) in
     ap (parts_at text) digits
-    ∙ ap (λ o. made (take (length p.literals) text) (prefix_len is_dot o) (bytes_eq (drop (prefix_len is_dot o) o) (42 ∷ []))) behind
+    ∙ ap (λ o. made (take (length p.literals) text) (prefix_len is_dot o) (bytes_eq (drop (prefix_len is_dot o) o) (42 ∷ []))) rest
     ∙ ap (λ n. made (take (length p.literals) text) n (bytes_eq (drop n others) (42 ∷ []))) counted
     ∙ ap (λ l. made l p.dots (bytes_eq (drop p.dots others) (42 ∷ []))) literals
     ∙ ap (made p.literals p.dots) (ap (λ e. bytes_eq e (42 ∷ [])) ending ∙ is_star p.star)

@@ -18,7 +18,7 @@ pub record RankOrders : Type 0 where
 abbrev pub RankIsTotal : Type 0
 RankIsTotal = (text : List ℕ) (p q : PatternParts) → Matches p text → Matches q text → (p ≡ q) ⊎ (Outranks p q ⊎ Outranks q p)
 
--- the row that is found is the one with the longest matching pattern; there is none only where no row matches
+-- the row that is found is the one with the longest matching pattern; there is none only if no row matches
 abbrev pub BestIsLongest : Type 0
 BestIsLongest = (rows : List (PatternParts × ℕ)) (text : List ℕ) → MatchOption (best_of rows text) (All (λ row. matches row.0 text ≡ false) rows) (IsBest rows text)
 

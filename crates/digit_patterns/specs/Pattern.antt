@@ -10,7 +10,7 @@ use Rattle.digit_patterns.specs.PatternParts.{PatternParts, least_count, is_patt
 abbrev pub is_dot : ℕ → Bool
 is_dot b = b == 46
 
--- whether a star follows the dots; nothing where anything else does
+-- whether a star follows the dots; nothing if anything else does
 abbrev pub star_of : List ℕ → Option Bool
 star_of [] = Some false
 star_of (b ∷ bs) = then_some (bytes_eq (b ∷ bs) (42 ∷ [])) true
@@ -19,7 +19,7 @@ star_of (b ∷ bs) = then_some (bytes_eq (b ∷ bs) (42 ∷ [])) true
 abbrev pub pattern_text : PatternParts → List ℕ
 pattern_text p = p.literals ++ replicate p.dots 46 ++ (if p.star then 42 ∷ [] else [])
 
--- the digits in front, the dots right behind them, and whether nothing but a star follows those
+-- the digits in front, the dots right after them, and whether nothing but a star follows those
 abbrev pub parts_of : List ℕ → PatternParts
 parts_of text =
     let digits = prefix_len is_ascii_digit text in
@@ -27,7 +27,7 @@ parts_of text =
     let dots = prefix_len is_dot others in
     record { literals = take digits text; dots = dots; star = bytes_eq (drop dots others) (42 ∷ []) }
 
--- the pattern that a text spells: its parts, where they are a pattern and are the whole text
+-- the pattern that a text spells: its parts, if they are a pattern and are the whole text
 abbrev pub pattern_of : List ℕ → Option PatternParts
 pattern_of text = let p = parts_of text in then_some (is_pattern p && bytes_eq (pattern_text p) text) p
 
@@ -35,7 +35,7 @@ pattern_of text = let p = parts_of text in then_some (is_pattern p && bytes_eq (
 abbrev pub has_count : PatternParts → ℕ → Bool
 has_count p count = if p.star then nat_le (least_count p) count else count == least_count p
 
--- the text begins with the literals, and has a character for each dot; behind them only where there is a star
+-- the text begins with the literals, and has a character for each dot; further ones only if there is a star
 abbrev pub matches : PatternParts → List ℕ → Bool
 matches p text = starts_with ◌==◌ text p.literals && has_count p (length text)
 

@@ -10,7 +10,7 @@ pub record PatternParts : Type 0 where
   pub dots : ℕ
   pub star : Bool
 
--- how many characters a dialled text has at least, where the pattern matches it
+-- how many characters a dialled text that the pattern matches has at least
 abbrev pub least_count : PatternParts → ℕ
 least_count p = length p.literals + p.dots
 

@@ -1,4 +1,4 @@
--- The best matching row of a list of rows. A row is a pattern with what stands beside it.
+-- The best matching row of a list of rows. A row is a pattern with a value.
 use Rattle.std.specs.Prelude.{◌≡◌, ℕ, List, length, Bool, filter, Option, ◌⊎◌}
 use Rattle.std.specs.List.{All, Contains}
 use Rattle.std.specs.Option.{option_map}

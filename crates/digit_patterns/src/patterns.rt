@@ -36,7 +36,7 @@ impl Model for Pattern {
     ghost inverse = { λ v. record { literals = v.literals; dots = v.dots; star = v.star } };
 }
 
-/// The text is no pattern: it is empty, longer than 32 characters,
+/// The text is not a pattern: it is empty, longer than 32 characters,
 /// or not literals, then dots, then a star or none.
 #[derive(Clone, Copy, Debug, PartialEq, Eq, Error)]
 #[error("not a pattern")]
@@ -64,7 +64,7 @@ impl Pattern {
 
     /// Whether the pattern matches the dialled characters from the place `from` on, counted from 0:
     /// they begin with the literals, and have as many characters as literals and dots together, or at least
-    /// as many where the pattern has a star.
+    /// as many if the pattern has a star.
     pub fn matches(&self, dialled: &Dialled, from: usize) -> bool
         requires { from ≤ length dialled.now }
         ensures { result ≡ matches self.now (drop from dialled.now) }
@@ -79,7 +79,7 @@ impl Pattern {
             }
     }
 
-    /// The rank: how many literals, how many dots, and 1 where no star follows them or 0 where one does.
+    /// The rank: how many literals, how many dots, and 1 if no star follows them or 0 if one does.
     /// Of two patterns that match one text, that with the greater rank, compared in this order, is the longer.
     pub fn rank(&self) -> (u8, u8, u8)
         ensures { result ≡ rank_of self.now }
@@ -133,7 +133,7 @@ fn dots_in_front(text: &[u8]) -> usize
     text.iter().take_while(|byte| **byte == b'.').count()
 }
 
-/// Whether a star follows the dots, or nothing where anything else does.
+/// Whether a star follows the dots, or nothing if anything else does.
 fn star_in(ending: &[u8]) -> Option<bool>
     ensures { result ≡ star_of ending.now }
 {

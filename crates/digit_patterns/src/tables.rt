@@ -1,7 +1,7 @@
 //! Tables of patterns, each with a value, and the longest pattern that matches.
 
 ghost use Rattle.std.specs.Prelude.{◌≡◌, ℕ, ◌≤◌, List, length, drop, IfOk, IsOk, Some, None};
-ghost use Rattle.gk_terms.specs.Choice.{better as better_of};
+ghost use Rattle.gk_terms.specs.Choice.{better};
 ghost use Rattle.digit_patterns.specs.PatternParts.{PatternParts};
 ghost use Rattle.digit_patterns.specs.Duplicate.{duplicate_of};
 ghost use Rattle.digit_patterns.specs.Table.{best_of, best_hit, hit_of, ranks_above};
@@ -17,7 +17,7 @@ use thiserror::Error;
 /// What a table found: the value of the row, and how long the row's pattern is.
 #[derive(Clone, Copy, Debug, PartialEq, Eq)]
 pub struct Hit {
-    /// What stands beside the pattern.
+    /// The value of the row.
     pub value: u32,
     /// How many literals the pattern has: 0 to 32.
     pub literals: u8,
@@ -52,7 +52,7 @@ pub trait PrefixTable {
     ghost rows: { Self → List (PatternParts × ℕ) };
 
     /// The row with the longest pattern that matches the dialled characters from the place `from` on, counted
-    /// from 0, or nothing where no row matches. The longest has the most literals, then the most dots, and then no
+    /// from 0, or nothing if no row matches. The longest has the most literals, then the most dots, and then no
     /// star: this project's profile of the longest match of Cisco's `zone prefix` command.
     fn best(&self, dialled: &Dialled, from: usize) -> Option<Hit>
         requires { from ≤ length dialled.now }
@@ -83,7 +83,8 @@ impl PlainTable {
     pub fn build(alloc: Global, rows: &[(Pattern, u32)]) -> Result<PlainTable, TableFault>
         ensures built { IfOk result (λ table. table ≡ rows.now) }
         ensures distinct { IsOk result → duplicate_of rows.now ≡ None }
-        ensures duplicate { (row : ℕ) → result ≡ Err (TableFault.Duplicate row) → duplicate_of rows.now ≡ Some row }
+        ensures duplicate { (row : ℕ) → result ≡
+            Err (TableFault.Duplicate row) → duplicate_of rows.now ≡ Some row }
     {
         if let Some(row) = duplicate_in(alloc, rows)? {
             return Err(TableFault::Duplicate(row));
@@ -116,9 +117,9 @@ fn best_row(rows: &[(Pattern, u32)], dialled: &Dialled, from: usize) -> Option<(
     best
 }
 
-/// The best row so far, where this row is the next that matches.
+/// The best row so far, with the next row that matches.
 fn better(best: Option<(Pattern, u32)>, row: (Pattern, u32)) -> Option<(Pattern, u32)>
-    ensures { result ≡ better_of ranks_above best row }
+    ensures { result ≡ better ranks_above best row }
 {
     match best {
         Some(other) if !row.0.outranks(&other.0) => Some(other),

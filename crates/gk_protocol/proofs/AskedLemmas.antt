@@ -5,53 +5,45 @@ use Rattle.std.proofs.lemmas.Bool.{cases_Bool}
 use Rattle.gk_terms.specs.Text.{words_of, is_too_long}
 use Rattle.gk_protocol.specs.declared.request_faults.RequestFault.{RequestFault}
 use Rattle.gk_protocol.specs.declared.request_faults.RequestFault.TheVariants.{LineTooLong, UnknownWord}
-use Rattle.gk_protocol.specs.declared.request_faults.Unread.{Unread}
-use Rattle.gk_protocol.specs.declared.request_faults.Unread.TheVariants.{Fault, NoMemory}
+use Rattle.gk_protocol.specs.declared.request_faults.NoRequest.{NoRequest}
+use Rattle.gk_protocol.specs.declared.request_faults.NoRequest.TheVariants.{Fault, NoMemory}
 use Rattle.gk_protocol.specs.declared.requests.Request.{Request}
 use Rattle.gk_protocol.specs.declared.answers.Answer.{Answer}
-use Rattle.admission.specs.State.{State}
-use Rattle.gk_protocol.specs.Answering.{MayAnswer}
-use Rattle.gk_protocol.specs.Requests.{asking_of, registering_of, asked_by, registering_by, registering_at, register_at, unregister_at, admit_at, asked, IsUnread}
-use Rattle.gk_protocol.specs.Session.{Asked, asked_in, asked_so, no_memory_to, Replies, IsAnswerTo}
+use Rattle.gk_protocol.specs.Requests.{Whole, asking_of, asking_at, whole_of, registering_of, registering_by_word, registering_at, register_at, unregister_at, admit_at, no_memory_to, answer_of_none, IsNoRequest}
+use Rattle.gk_protocol.specs.AnswersLine.{AnswersLine}
 
--- a request or a fault is no blank line
-asks : (r : Result Request RequestFault) → asked r ≡ Ok None → ⊥
-asks (Ok request) h = cc
-asks (Err fault) h = cc
-
-registering_asks_by : (words : List (List ℕ)) (x : ℕ × List ℕ) → registering_by words ≡ Some x → asked_by words ≡ Ok None → ⊥
-registering_asks_by [] x h k = cc
-registering_asks_by (word ∷ words) x h k =
+-- the words of a registration ask one request, or have one fault
+registering_asks_at : (words : List (List ℕ)) (x : ℕ × List ℕ) → registering_by_word words ≡ Some x → (request : Result Request RequestFault) × (asking_at words ≡ whole_of request)
+registering_asks_at [] x h = let no_such : ⊥ = cc in absurd no_such
+registering_asks_at (word ∷ words) x h =
     ⊎_elim
     (λ (yes : bytes_eq word (codes "RRQ") ≡ true).
-    asks (register_at words) (sym (ap (λ b. cond b (asked (register_at words)) (cond (bytes_eq word (codes "URQ")) (asked (unregister_at words)) (cond (bytes_eq word (codes "ARQ")) (asked (admit_at words)) (Err UnknownWord)))) yes) ∙ k))
+    (register_at words, ap (λ b. cond b (whole_of (register_at words)) (cond (bytes_eq word (codes "URQ")) (whole_of (unregister_at words)) (cond (bytes_eq word (codes "ARQ")) (whole_of (admit_at words)) (Err UnknownWord)))) yes))
     (λ (other : bytes_eq word (codes "RRQ") ≡ false).
-    let none : None ≡ Some x = sym (ap (λ b. cond b (registering_at words) None) other) ∙ h in cc)
+    let none : None ≡ Some x = sym (ap (λ b. cond b (registering_at words) None) other) ∙ h in
+    let no_such : ⊥ = cc in absurd no_such)
     (cases_Bool (bytes_eq word (codes "RRQ")))
 
--- a registration asks something
-registering_asks : (line : List ℕ) (x : ℕ × List ℕ) → registering_of line ≡ Some x → asking_of line ≡ Ok None → ⊥
+registering_asks : (line : List ℕ) (x : ℕ × List ℕ) → registering_of line ≡ Some x → (request : Result Request RequestFault) × (asking_of line ≡ whole_of request)
 unfolding asking_of registering_of
-registering_asks line x h k =
+registering_asks line x h =
     ⊎_elim
     (λ (long : is_too_long line ≡ true).
-    let none : None ≡ Some x = sym (ap (λ b. cond b None (registering_by (words_of line))) long) ∙ h in cc)
+    let none : None ≡ Some x = sym (ap (λ b. cond b None (registering_by_word (words_of line))) long) ∙ h in
+    let no_such : ⊥ = cc in absurd no_such)
     (λ (short : is_too_long line ≡ false).
-    registering_asks_by (words_of line) x
-    (sym (ap (λ b. cond b None (registering_by (words_of line))) short) ∙ h)
-    (sym (ap (λ b. cond b (Err LineTooLong) (asked_by (words_of line))) short) ∙ k))
+    let asked = registering_asks_at (words_of line) x (sym (ap (λ b. cond b None (registering_by_word (words_of line))) short) ∙ h) in
+    (asked.0, ap (λ b. cond b (Err LineTooLong) (asking_at (words_of line))) short ∙ asked.1))
     (cases_Bool (is_too_long line))
 
--- the machine's answer
-pub answered_request : (old new : State) (line : List ℕ) (request : Request) (answer : Answer) → asking_of line ≡ Ok (Some request) → MayAnswer old request answer new → (one : Asked) × (asked_in line ≡ one ∷ []) × Replies old one answer new
-answered_request old new line request answer e h = (_, ap (asked_so line) e, inl h)
+module _ {S : Type 0} (MayAnswer : S → Request → Answer → S → Type 0) where
+  -- the answerer's answer to a request
+  pub answered_request : (old new : S) (line : List ℕ) (request : Request) (answer : Answer) → asking_of line ≡ Ok (Some (Whole request)) → MayAnswer old request answer new → AnswersLine MayAnswer old line (Some answer) new
+  answered_request old new line request answer e h = (Ok request, e, inl h)
 
-lacking : (old : State) (line : List ℕ) (x : ℕ × List ℕ) (answer : Answer) (r : Result (Option Request) RequestFault) → asking_of line ≡ r → registering_of line ≡ Some x → answer ≡ no_memory_to x → (one : Asked) × (asked_in line ≡ one ∷ []) × Replies old one answer old
-lacking old line x answer (Ok None) e h k = absurd (registering_asks line x h e)
-lacking old line x answer (Ok (Some request)) e h k = (_, ap (asked_so line) e, inr (ap (option_map no_memory_to) h ∙ ap Some (sym k), refl))
-lacking old line x answer (Err fault) e h k = (_, ap (asked_so line) e, inr (ap (option_map no_memory_to) h ∙ ap Some (sym k), refl))
-
--- the answer to a line that could not be read
-pub answered_unread : (old : State) (line : List ℕ) (unread : Unread) (answer : Answer) → IsUnread line unread → IsAnswerTo unread answer → (one : Asked) × (asked_in line ≡ one ∷ []) × Replies old one answer old
-answered_unread old line (Fault fault) answer e k = (_, ap (asked_so line) e, inl (k, refl))
-answered_unread old line (NoMemory sequence id) answer e k = lacking old line (sequence, id) answer _ refl e k
+  -- the answer to a line that is no request
+  pub answered_none : (old : S) (line : List ℕ) (none : NoRequest) (answer : Answer) → IsNoRequest line none → answer ≡ answer_of_none none → AnswersLine MayAnswer old line (Some answer) old
+  answered_none old line (Fault fault) answer e k = (Err fault, e, inl (k, refl))
+  answered_none old line (NoMemory sequence id) answer e k =
+      let asked = registering_asks line (sequence, id) e in
+      (asked.0, asked.1, inr (ap (option_map no_memory_to) e ∙ ap Some (sym k), refl))

@@ -1,26 +1,93 @@
--- Answers as texts, without their line feed. Each stands as its parts, with a space between each two.
-use Rattle.std.specs.Prelude.{ℕ, List, [], ◌∷◌, codes, decimal}
-use Rattle.gk_terms.specs.Text.{spaced}
-use Rattle.gk_protocol.specs.Faults.{fault_word}
-use Rattle.admission.specs.Replies.{destination_text, register_refusal_text, unregister_refusal_text, admit_refusal_text}
-use Rattle.admission.specs.declared.replies.Reply.{Reply}
-use Rattle.admission.specs.declared.replies.Reply.TheVariants.{Registered, RegisterRefused, Unregistered, UnregisterRefused, Admitted, AdmitRefused}
+-- Answers as lines. Each stands as its words, with a space between each two.
+use Rattle.std.specs.Prelude.{ℕ, List, [], ◌∷◌, ◌++◌, codes, decimal}
+use Rattle.gk_terms.specs.Text.{line_text}
+use Rattle.gk_terms.specs.Reason.{word_of}
+use Rattle.gk_terms.specs.declared.reasons.Reason.TheVariants as reason
+use Rattle.admission.specs.Routes.{destination_words, route_refusal_word}
+use Rattle.admission.specs.declared.replies.Duplicate.{Duplicate}
+use Rattle.admission.specs.declared.replies.Duplicate.TheVariants as duplicate
+use Rattle.admission.specs.declared.replies.RegisterRefusal.{RegisterRefusal}
+use Rattle.admission.specs.declared.replies.RegisterRefusal.TheVariants as register
+use Rattle.admission.specs.declared.replies.UnregisterRefusal.{UnregisterRefusal}
+use Rattle.admission.specs.declared.replies.UnregisterRefusal.TheVariants as unregister
+use Rattle.admission.specs.declared.replies.AdmitRefusal.{AdmitRefusal}
+use Rattle.admission.specs.declared.replies.AdmitRefusal.TheVariants as admit
+use Rattle.admission.specs.declared.replies.Reply.{Reply as CoreReply}
+use Rattle.admission.specs.declared.replies.Reply.TheVariants as reply
+use Rattle.gk_protocol.specs.declared.request_faults.RequestFault.{RequestFault}
+use Rattle.gk_protocol.specs.declared.request_faults.RequestFault.TheVariants as fault
 use Rattle.gk_protocol.specs.declared.answers.Answer.{Answer}
-use Rattle.gk_protocol.specs.declared.answers.Answer.TheVariants.{Core, Malformed}
+use Rattle.gk_protocol.specs.declared.answers.Answer.TheVariants.{Reply, Malformed}
+
+-- ---- why a registration is refused
+abbrev pub duplicate_word : Duplicate → List ℕ
+duplicate_word duplicate.Id = codes "id"
+duplicate_word duplicate.E164 = codes "e164"
+
+abbrev pub register_refusal_words : RegisterRefusal → List (List ℕ)
+register_refusal_words register.UnknownZone =
+    word_of reason.UndefinedReason ∷ codes "unknown-zone" ∷ []
+register_refusal_words (register.DuplicateAlias which) =
+    word_of reason.DuplicateAlias ∷ duplicate_word which ∷ []
+register_refusal_words register.EndpointsFull =
+    word_of reason.UndefinedReason ∷ codes "endpoints-full" ∷ []
+register_refusal_words register.RecordFull =
+    word_of reason.UndefinedReason ∷ codes "record-full" ∷ []
+register_refusal_words register.NoMemory = word_of reason.UndefinedReason ∷ codes "no-memory" ∷ []
+
+-- ---- why an unregistration is refused
+abbrev pub unregister_refusal_words : UnregisterRefusal → List (List ℕ)
+unregister_refusal_words unregister.NotRegistered = word_of reason.NotCurrentlyRegistered ∷ []
+unregister_refusal_words unregister.CallInProgress = word_of reason.CallInProgress ∷ []
+unregister_refusal_words unregister.RecordFull =
+    word_of reason.UndefinedReason ∷ codes "record-full" ∷ []
+unregister_refusal_words unregister.NoMemory =
+    word_of reason.UndefinedReason ∷ codes "no-memory" ∷ []
+
+-- ---- why an admission is refused
+abbrev pub admit_refusal_words : AdmitRefusal → List (List ℕ)
+admit_refusal_words admit.CallerNotRegistered = word_of reason.CallerNotRegistered ∷ []
+admit_refusal_words admit.CallOpen = word_of reason.UndefinedReason ∷ codes "call-open" ∷ []
+admit_refusal_words (admit.NoRoute refusal) =
+    word_of reason.CalledPartyNotRegistered ∷ route_refusal_word refusal ∷ []
+admit_refusal_words admit.CallsFull = word_of reason.ResourceUnavailable ∷ codes "calls-full" ∷ []
+admit_refusal_words admit.RecordFull = word_of reason.ResourceUnavailable ∷ codes "record-full" ∷ []
+admit_refusal_words admit.NoMemory = word_of reason.ResourceUnavailable ∷ codes "no-memory" ∷ []
 
 -- ---- replies
-abbrev pub reply_parts : ℕ → Reply → List (List ℕ)
-reply_parts sequence (Registered id zone) = codes "RCF" ∷ decimal sequence ∷ id ∷ zone ∷ []
-reply_parts sequence (RegisterRefused id reason) = codes "RRJ" ∷ decimal sequence ∷ id ∷ register_refusal_text reason ∷ []
-reply_parts sequence (Unregistered id) = codes "UCF" ∷ decimal sequence ∷ id ∷ []
-reply_parts sequence (UnregisterRefused id reason) = codes "URJ" ∷ decimal sequence ∷ id ∷ unregister_refusal_text reason ∷ []
-reply_parts sequence (Admitted call destination units) = codes "ACF" ∷ decimal sequence ∷ decimal call ∷ destination_text destination ∷ decimal units ∷ []
-reply_parts sequence (AdmitRefused call reason) = codes "ARJ" ∷ decimal sequence ∷ decimal call ∷ admit_refusal_text reason ∷ []
+abbrev pub reply_words : ℕ → CoreReply → List (List ℕ)
+reply_words sequence (reply.Registered id zone) = codes "RCF" ∷ decimal sequence ∷ id ∷ zone ∷ []
+reply_words sequence (reply.RegisterRefused id refusal) =
+    codes "RRJ" ∷ decimal sequence ∷ id ∷ register_refusal_words refusal
+reply_words sequence (reply.Unregistered id) = codes "UCF" ∷ decimal sequence ∷ id ∷ []
+reply_words sequence (reply.UnregisterRefused id refusal) =
+    codes "URJ" ∷ decimal sequence ∷ id ∷ unregister_refusal_words refusal
+reply_words sequence (reply.Admitted call destination units) =
+    codes "ACF" ∷ decimal sequence ∷ decimal call ∷ destination_words destination ++ decimal units
+    ∷ []
+reply_words sequence (reply.AdmitRefused call refusal) =
+    codes "ARJ" ∷ decimal sequence ∷ decimal call ∷ admit_refusal_words refusal
 
-abbrev pub answer_parts : Answer → List (List ℕ)
-answer_parts (Core sequence reply) = reply_parts sequence reply
-answer_parts (Malformed fault) = codes "ERR" ∷ fault_word fault ∷ []
+-- ---- lines that are no requests
+-- the word of a fault
+abbrev pub fault_word : RequestFault → List ℕ
+fault_word fault.LineTooLong = codes "line"
+fault_word fault.UnknownWord = codes "word"
+fault_word fault.BadSequence = codes "seq"
+fault_word fault.Missing = codes "missing"
+fault_word fault.Extra = codes "extra"
+fault_word fault.BadOption = codes "option"
+fault_word fault.BadName = codes "name"
+fault_word fault.BadAddress = codes "address"
+fault_word fault.BadDigits = codes "digits"
+fault_word fault.BadNumber = codes "number"
+fault_word fault.CutShort = codes "cut"
 
--- an answer's line, without its line feed
-abbrev pub text_of : Answer → List ℕ
-text_of answer = spaced (answer_parts answer)
+-- ---- answers
+abbrev pub words_of : Answer → List (List ℕ)
+words_of (Reply sequence reply) = reply_words sequence reply
+words_of (Malformed fault) = codes "ERR" ∷ fault_word fault ∷ []
+
+-- an answer's line, with its line feed
+abbrev pub line_of : Answer → List ℕ
+line_of answer = line_text (words_of answer)

@@ -1,9 +1,5 @@
-pub mod Answering
 pub mod Answers
-pub mod Events
-pub mod Faults
-pub mod Fields
-pub mod Input
+pub mod AnswersLine
+pub mod CoreAnswers
 pub mod Requests
 pub mod Session
-pub mod SessionNotes

@@ -1,9 +1,9 @@
 //! The protocol: lines in, requests out of them, and answers as lines.
 #![tactic(auto)]
 
+pub mod answer_lines;
+pub mod answerer;
 pub mod answers;
-pub mod input;
-pub mod line;
 #[cfg(test)]
 mod reply_tests;
 pub mod request_faults;
@@ -12,12 +12,14 @@ pub mod request_lines;
 #[cfg(test)]
 mod request_tests;
 pub mod requests;
-pub mod session;
 pub mod session_faults;
+#[cfg(test)]
+mod session_tests;
+pub mod sessions;
 
+pub use answerer::Answerer;
 pub use answers::Answer;
-pub use input::Input;
-pub use line::Line;
-pub use request_faults::{RequestFault, Unread};
+pub use request_faults::{NoRequest, RequestFault};
 pub use requests::Request;
 pub use session_faults::SessionFault;
+pub use sessions::{session, session_from};

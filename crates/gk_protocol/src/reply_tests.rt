@@ -1,173 +1,99 @@
-//! How replies are printed, against texts written by hand.
+//! How answers are made as lines, against texts written by hand.
 
+use crate::answer_lines::show;
 use crate::answers::Answer;
-use crate::request_faults::RequestFault;
+use crate::request_faults::RequestFault as Fault;
+use admission::Duplicate::{E164, Id};
 use admission::{
-    AdmitRefusal, Destination, Duplicate, RegisterRefusal, Reply, RouteRefusal, UnregisterRefusal,
+    AdmitRefusal, Destination as At, RegisterRefusal as Register, Reply, RouteRefusal,
+    UnregisterRefusal as Unregister,
 };
+use gk_lines::LineBuffer;
 use gk_terms::{Address, Name, Units};
+use std::process::Abort;
 use std::test::Fail;
 
-#[test]
-fn registrations(rt: HostRuntime) -> Result<(), Fail> {
-    let id = Name::read(b"ta")?;
-    let zone = Name::read(b"gk-a")?;
-    for (reply, text) in [
-        (Reply::Registered { id, zone }, "RCF 1 ta gk-a"),
-        (
-            Reply::RegisterRefused {
-                id,
-                reason: RegisterRefusal::UnknownZone,
-            },
-            "RRJ 1 ta undefinedReason unknown-zone",
-        ),
-        (
-            Reply::RegisterRefused {
-                id,
-                reason: RegisterRefusal::EndpointsFull,
-            },
-            "RRJ 1 ta undefinedReason endpoints-full",
-        ),
-        (
-            Reply::RegisterRefused {
-                id,
-                reason: RegisterRefusal::RecordFull,
-            },
-            "RRJ 1 ta undefinedReason record-full",
-        ),
-        (
-            Reply::RegisterRefused {
-                id,
-                reason: RegisterRefusal::NoMemory,
-            },
-            "RRJ 1 ta undefinedReason no-memory",
-        ),
-        (
-            Reply::RegisterRefused {
-                id,
-                reason: RegisterRefusal::DuplicateAlias(Duplicate::Id),
-            },
-            "RRJ 1 ta duplicateAlias id",
-        ),
-        (
-            Reply::RegisterRefused {
-                id,
-                reason: RegisterRefusal::DuplicateAlias(Duplicate::E164),
-            },
-            "RRJ 1 ta duplicateAlias e164",
-        ),
-    ] {
-        let answer = Answer::Core { sequence: 1, reply };
-        assert_eq!(rt; format!(in rt.alloc(); "{answer}")?.as_str(), text);
-    }
-    Ok(())
+/// An answer is one line of these words, whatever stood in its place.
+fn assert_shown(rt: &impl Abort, answer: Answer, head: &[u8], words: &str) {
+    let mut line = LineBuffer::new();
+    line.push(b"ERR line\n");
+    show(&mut line, &answer);
+    let rest = line.as_bytes().strip_prefix(head);
+    let shown = rest.and_then(|rest| rest.strip_suffix(b"\n"));
+    assert_eq!(rt; shown, Some(words.as_bytes()));
+}
+
+/// The same of the answer to the request 5.
+fn assert_replied(rt: &impl Abort, reply: Reply, head: &[u8], words: &str) {
+    assert_shown(rt, Answer::Reply { sequence: 5, reply }, head, words);
 }
 
 #[test]
-fn unregistrations(rt: HostRuntime) -> Result<(), Fail> {
-    let id = Name::read(b"ta")?;
-    let reply = Reply::Unregistered { id };
-    let answer = Answer::Core { sequence: 7, reply };
-    assert_eq!(rt; format!(in rt.alloc(); "{answer}")?.as_str(), "UCF 7 ta");
-    for (reason, text) in [
-        (
-            UnregisterRefusal::NotRegistered,
-            "URJ 7 ta notCurrentlyRegistered",
-        ),
-        (UnregisterRefusal::CallInProgress, "URJ 7 ta callInProgress"),
-        (
-            UnregisterRefusal::RecordFull,
-            "URJ 7 ta undefinedReason record-full",
-        ),
-        (
-            UnregisterRefusal::NoMemory,
-            "URJ 7 ta undefinedReason no-memory",
-        ),
+fn each_answer_is_one_line(rt: HostRuntime) -> Result<(), Fail> {
+    let (id, name) = (Name::read(b"ta")?, Name::read(b"gk-a")?);
+    let (call, units) = (1_001, Units::new(640));
+    let address = Address::new([10, 9, 0, 2], 1719);
+    let reply = Reply::Registered { id, zone: name };
+    assert_replied(&rt, reply, b"RCF 5 ta ", "gk-a");
+    for (reason, words) in [
+        (Register::UnknownZone, "undefinedReason unknown-zone"),
+        (Register::EndpointsFull, "undefinedReason endpoints-full"),
+        (Register::RecordFull, "undefinedReason record-full"),
+        (Register::NoMemory, "undefinedReason no-memory"),
+        (Register::DuplicateAlias(Id), "duplicateAlias id"),
+        (Register::DuplicateAlias(E164), "duplicateAlias e164"),
+    ] {
+        let reply = Reply::RegisterRefused { id, reason };
+        assert_replied(&rt, reply, b"RRJ 5 ta ", words);
+    }
+    assert_replied(&rt, Reply::Unregistered { id }, b"UCF 5 ", "ta");
+    for (reason, words) in [
+        (Unregister::NotRegistered, "notCurrentlyRegistered"),
+        (Unregister::CallInProgress, "callInProgress"),
+        (Unregister::RecordFull, "undefinedReason record-full"),
+        (Unregister::NoMemory, "undefinedReason no-memory"),
     ] {
         let reply = Reply::UnregisterRefused { id, reason };
-        let answer = Answer::Core { sequence: 7, reply };
-        assert_eq!(rt; format!(in rt.alloc(); "{answer}")?.as_str(), text);
+        assert_replied(&rt, reply, b"URJ 5 ta ", words);
     }
-    Ok(())
-}
-
-#[test]
-fn admissions(rt: HostRuntime) -> Result<(), Fail> {
-    let id = Name::read(b"gb1")?;
-    let name = Name::read(b"gk-y")?;
-    let address = Address::new([10, 9, 0, 2], 1719);
-    for (destination, text) in [
-        (
-            Destination::Gateway { id, address },
-            "ACF 5 1001 GW gb1 10.9.0.2:1719 640",
-        ),
-        (
-            Destination::Terminal { id, address },
-            "ACF 5 1001 TERM gb1 10.9.0.2:1719 640",
-        ),
-        (
-            Destination::Zone { name, address },
-            "ACF 5 1001 ZONE gk-y 10.9.0.2:1719 640",
-        ),
+    for (destination, words) in [
+        (At::Gateway { id, address }, "GW ta 10.9.0.2:1719 640"),
+        (At::Terminal { id, address }, "TERM ta 10.9.0.2:1719 640"),
+        (At::Zone { name, address }, "ZONE gk-a 10.9.0.2:1719 640"),
     ] {
         let reply = Reply::Admitted {
-            call: 1001,
+            call,
             destination,
-            units: Units::new(640),
+            units,
         };
-        let answer = Answer::Core { sequence: 5, reply };
-        assert_eq!(rt; format!(in rt.alloc(); "{answer}")?.as_str(), text);
+        assert_replied(&rt, reply, b"ACF 5 1001 ", words);
     }
-    for (reason, text) in [
-        (
-            AdmitRefusal::CallerNotRegistered,
-            "ARJ 5 1001 callerNotRegistered",
-        ),
-        (
-            AdmitRefusal::NoRoute(RouteRefusal::NoDefault),
-            "ARJ 5 1001 calledPartyNotRegistered no-default",
-        ),
-        (
-            AdmitRefusal::CallOpen,
-            "ARJ 5 1001 undefinedReason call-open",
-        ),
-        (
-            AdmitRefusal::CallsFull,
-            "ARJ 5 1001 resourceUnavailable calls-full",
-        ),
-        (
-            AdmitRefusal::RecordFull,
-            "ARJ 5 1001 resourceUnavailable record-full",
-        ),
-        (
-            AdmitRefusal::NoMemory,
-            "ARJ 5 1001 resourceUnavailable no-memory",
-        ),
+    let no_route = AdmitRefusal::NoRoute(RouteRefusal::NoDefault);
+    for (reason, words) in [
+        (AdmitRefusal::CallerNotRegistered, "callerNotRegistered"),
+        (AdmitRefusal::CallOpen, "undefinedReason call-open"),
+        (no_route, "calledPartyNotRegistered no-default"),
+        (AdmitRefusal::CallsFull, "resourceUnavailable calls-full"),
+        (AdmitRefusal::RecordFull, "resourceUnavailable record-full"),
+        (AdmitRefusal::NoMemory, "resourceUnavailable no-memory"),
     ] {
-        let reply = Reply::AdmitRefused { call: 1001, reason };
-        let answer = Answer::Core { sequence: 5, reply };
-        assert_eq!(rt; format!(in rt.alloc(); "{answer}")?.as_str(), text);
+        let reply = Reply::AdmitRefused { call, reason };
+        assert_replied(&rt, reply, b"ARJ 5 1001 ", words);
     }
-    Ok(())
-}
-
-#[test]
-fn malformed_lines(rt: HostRuntime) -> Result<(), Fail> {
-    for (fault, text) in [
-        (RequestFault::LineTooLong, "ERR line"),
-        (RequestFault::UnknownWord, "ERR word"),
-        (RequestFault::BadSequence, "ERR seq"),
-        (RequestFault::Missing, "ERR missing"),
-        (RequestFault::Extra, "ERR extra"),
-        (RequestFault::BadOption, "ERR option"),
-        (RequestFault::BadName, "ERR name"),
-        (RequestFault::BadAddress, "ERR address"),
-        (RequestFault::BadDigits, "ERR digits"),
-        (RequestFault::BadNumber, "ERR number"),
-        (RequestFault::CutShort, "ERR cut"),
+    for (fault, word) in [
+        (Fault::LineTooLong, "line"),
+        (Fault::UnknownWord, "word"),
+        (Fault::BadSequence, "seq"),
+        (Fault::Missing, "missing"),
+        (Fault::Extra, "extra"),
+        (Fault::BadOption, "option"),
+        (Fault::BadName, "name"),
+        (Fault::BadAddress, "address"),
+        (Fault::BadDigits, "digits"),
+        (Fault::BadNumber, "number"),
+        (Fault::CutShort, "cut"),
     ] {
-        let answer = Answer::Malformed(fault);
-        assert_eq!(rt; format!(in rt.alloc(); "{answer}")?.as_str(), text);
+        assert_shown(&rt, Answer::Malformed(fault), b"ERR ", word);
     }
     Ok(())
 }

@@ -1,42 +1,44 @@
-//! Why a line is no request.
+//! Why a line is not a request.
 
 ghost use Rattle.std.specs.Prelude.{◌≡◌};
 
 use gk_terms::Name;
+use gk_terms::fields::FieldFault;
 use thiserror::Error;
 
-/// What is wrong with a line that is no request: its first fault from the left. It is answered by `ERR` and
-/// the fault's word, and changes nothing. The words are this project's profile.
+/// What is wrong with a line that is not a request: its first fault from the left. It is answered
+/// by `ERR` and the fault's word, and changes nothing. The words are this project's profile.
 #[derive(Clone, Copy, Debug, PartialEq, Eq, Error)]
 pub enum RequestFault {
     /// The line is longer than 512 bytes, its ending aside.
     #[error("a line of more than 512 bytes")]
     LineTooLong,
-    /// The first word is no request's.
+    /// The first word is not a request's.
     #[error("an unknown request")]
     UnknownWord,
-    /// The sequence number is no number from 1 to 65535.
-    #[error("no sequence number")]
+    /// The sequence number is not a number from 1 to 65535.
+    #[error("not a sequence number")]
     BadSequence,
     /// A field is absent.
     #[error("an absent field")]
     Missing,
-    /// A word stands behind the last field.
-    #[error("a word behind the last field")]
+    /// A word stands after the last field.
+    #[error("a word after the last field")]
     Extra,
-    /// The kind of an endpoint is neither `GW` nor `TERM`; or a word is no option; or an option stands once too often.
+    /// The kind of an endpoint is neither `GW` nor `TERM`; or a word is not an option; or an option
+    /// stands once too often.
     #[error("an unknown option, or one too many")]
     BadOption,
-    /// A field is no name.
+    /// A field is not a name.
     #[error("not a name")]
     BadName,
     /// A field is neither `IP` nor `IP:PORT`.
     #[error("not an address")]
     BadAddress,
-    /// A field or an alias is no dialled digits.
+    /// A field or an alias is not dialled digits.
     #[error("not dialled digits")]
     BadDigits,
-    /// A field is no number in its range.
+    /// A field is not a number in its range.
     #[error("not a number in range")]
     BadNumber,
     /// The input ends before the lines that belong to a request.
@@ -45,7 +47,7 @@ pub enum RequestFault {
 }
 
 impl RequestFault {
-    ghost use Rattle.gk_protocol.specs.Faults.{fault_word};
+    ghost use Rattle.gk_protocol.specs.Answers.{fault_word};
 
     /// The word of the fault in a reply.
     pub fn word(self) -> &'static str
@@ -67,14 +69,30 @@ impl RequestFault {
     }
 }
 
+impl FieldFault for RequestFault {
+    ghost use Rattle.gk_protocol.specs.declared.request_faults.RequestFault.TheVariants as fault;
+
+    ghost missing = { fault.Missing };
+
+    ghost extra = { fault.Extra };
+
+    fn missing() -> RequestFault {
+        RequestFault::Missing
+    }
+
+    fn extra() -> RequestFault {
+        RequestFault::Extra
+    }
+}
+
 /// Why a line could not be read as a request.
 #[derive(Clone, Copy, Debug, PartialEq, Eq, Error)]
-pub enum Unread {
+pub enum NoRequest {
     /// Its first fault.
     #[error("{0}")]
     Fault(RequestFault),
-    /// Memory was refused for the aliases of a registration. All its fields up to and including the first
-    /// option could be read; what stands behind that may be wrong.
+    /// Memory ran out for the aliases of a registration. All its fields up to and including the
+    /// first option could be read; what stands after that may be wrong.
     #[error("no memory for the aliases of {id}")]
     NoMemory {
         /// The sequence number of the registration, 1 to 65535.
@@ -84,13 +102,13 @@ pub enum Unread {
     },
 }
 
-impl From<RequestFault> for Unread {
+impl From<RequestFault> for NoRequest {
     ghost use Rattle.std.specs.Prelude.{◌≡◌};
-    ghost use Rattle.gk_protocol.specs.declared.request_faults.Unread.TheVariants.{Fault};
+    ghost use Rattle.gk_protocol.specs.declared.request_faults.NoRequest.TheVariants.{Fault};
 
-    ghost from_gives = { λ fault unread. unread ≡ Fault fault };
+    ghost from_gives = { λ fault none. none ≡ Fault fault };
 
-    fn from(fault: RequestFault) -> Unread {
-        Unread::Fault(fault)
+    fn from(fault: RequestFault) -> NoRequest {
+        NoRequest::Fault(fault)
     }
 }

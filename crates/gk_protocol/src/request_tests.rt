@@ -1,6 +1,6 @@
 //! Which lines are requests, by examples from outside.
 
-use crate::request_faults::{RequestFault, Unread};
+use crate::request_faults::NoRequest;
 use crate::request_lines::request_in;
 use crate::requests::Request;
 use gk_terms::{Address, Name};
@@ -11,7 +11,7 @@ use std::test::Fail;
 /// The word of the fault of a line.
 fn fault_word(alloc: Global, line: &[u8]) -> Option<&'static str> {
     match request_in(alloc, line) {
-        Err(Unread::Fault(fault)) => Some(fault.word()),
+        Err(NoRequest::Fault(fault)) => Some(fault.word()),
         _ => None,
     }
 }
@@ -62,6 +62,8 @@ fn faults(rt: HostRuntime) -> Result<(), Fail> {
         (b"RRQ 1 TERM a - 1.1.1.1 tech=1", "option"),
         (b"RRQ 1 TERM a - 1.1.1.1 e164=", "digits"),
         (b"RRQ 1 TERM a - 1.1.1.1 E164=7", "option"),
+        (b"RRQ 1 TERM a - 1.1.1.1 e164=1 e164=x", "digits"),
+        (b"RRQ 1 TERM a - 1.1.1.1 e164=1 e165=2", "option"),
     ] {
         assert_eq!(rt; fault_word(rt.alloc(), line), Some(word), "{line:?}");
     }

@@ -1,7 +1,7 @@
 //! Requests, as they are read.
 
 ghost use Rattle.std.specs.Prelude.{◌≡◌};
-ghost use Rattle.gk_protocol.specs.Events.{numbered_event};
+ghost use Rattle.gk_protocol.specs.CoreAnswers as Spec;
 
 use admission::Event;
 use gk_terms::{Dialled, Name, Units};
@@ -42,7 +42,7 @@ pub enum Request {
 impl Request {
     /// The sequence number, and the event that the core is asked for.
     pub fn into_event(self) -> (u32, Event)
-        ensures { result ≡ numbered_event self }
+        ensures { result ≡ Spec.numbered_event self }
     {
         match self {
             Request::Register { sequence, endpoint } => (sequence, Event::Register(endpoint)),

@@ -8,7 +8,7 @@ use Rattle.std.proofs.lemmas.List.Sums.{fails_before_first, position_or_len_is}
 use Rattle.std.proofs.lemmas.Option.{get_or_from_slice_get, slice_get-get_or}
 use Rattle.gk_terms.specs.Choice.{first_unbeaten, better, IsFirstUnbeaten}
 
--- an order that compares by a rank: where x beats z, each y is beaten by x or beats z
+-- an order that compares by a rank: if x beats z, each y is beaten by x or beats z
 pub record IsRankOrder {X : Type 0} (beats : X → X → Bool) : Type 0 where
   pub irreflexive : (x : X) → beats x x ≡ false
   pub transitive : (x y z : X) → beats x y ≡ true → beats y z ≡ true → beats x z ≡ true
@@ -28,7 +28,7 @@ find_passes p (y ∷ ys) x h = by (p y) refl (find_passes p ys x) h
     by true e rest h = cc
     by false e rest h = rest h
 
--- where p implies q, a list with an element that passes p has one that passes q
+-- if p implies q, a list with an element that passes p has one that passes q
 list_any-implied : {X : Type 0} (p q : X → Bool) → ((x : X) → p x ≡ true → q x ≡ true) → (xs : List X) → list_any p xs ≡ true → list_any q xs ≡ true
 list_any-implied p q implies [] h = h
 list_any-implied p q implies (x ∷ xs) h = by (p x) refl (list_any-implied p q implies xs) h
@@ -128,7 +128,7 @@ module _ {X : Type 0} (beats : X → X → Bool) (order : IsRankOrder beats) whe
       by true e over on = ap (λ o. is_some (fold (better beats) o xs)) (better-beaten b x e) ∙ over
       by false e over on = ap (λ o. is_some (fold (better beats) o xs)) (better-unbeaten b x e) ∙ on
 
-  -- none is unbeaten only where there is none
+  -- none is unbeaten only if there is none
   pub first_unbeaten-none : (xs : List X) → first_unbeaten beats xs ≡ None → xs ≡ []
   first_unbeaten-none [] h = refl
   first_unbeaten-none (x ∷ xs) h = absurd (true≢false (sym (fold_better x xs) ∙ ap is_some (sym (first_unbeaten-pass (x ∷ xs)) ∙ h)))
@@ -178,7 +178,7 @@ IsRankOrder-on read beats order = record {
   splits = λ x y z. order.splits (read x) (read y) (read z);
 }
 
--- the first order, and the second where neither element beats the other in the first
+-- the first order, and the second if neither element beats the other in the first
 pub IsRankOrder-then : {X : Type 0} (first second : X → X → Bool) → IsRankOrder first → IsRankOrder second → IsRankOrder (λ x y. first x y || (not (first y x) && second x y))
 IsRankOrder-then first second f s = record {
   irreflexive = λ x. neither (first x x) (second x x) (f.irreflexive x) (s.irreflexive x);
@@ -195,7 +195,7 @@ IsRankOrder-then first second f s = record {
     split : (xy yx yz zy xz zx sxy syz sxz : Bool) → (xz ≡ true → xy ≡ false → yz ≡ true) → (yx ≡ true → yz ≡ false → zx ≡ true) → (zy ≡ true → zx ≡ false → xy ≡ true) → (sxz ≡ true → sxy ≡ false → syz ≡ true) → (xz || (not zx && sxz)) ≡ true → (xy || (not yx && sxy)) ≡ false → (yz || (not zy && syz)) ≡ true
     split xy yx yz zy xz zx sxy syz sxz a b c d h i = grind arith
 
--- a place at which an element stands is within the list
+-- a place of an element is within the list
 pub within_list : {X : Type 0} (xs : List X) (k : ℕ) (x : X) → slice_get xs k ≡ Some x → k < length xs
 within_list [] k x h = cc
 within_list (y ∷ ys) zero x h = omega arith

@@ -26,10 +26,10 @@ value_of_more ds i d h = fold_more next_value 0 ds i d h
 pub value_of_front : (ds : List ℕ) (i d : ℕ) → i < length ds → 10 * value_of (take i ds) + (get_or ds i d - 48) ≤ value_of ds
 value_of_front ds i d h =
     let front = take (i + 1) ds in
-    let behind = drop (i + 1) ds in
-    let whole : value_of ds ≡ fold next_value (value_of front) behind =
-    ap value_of (sym (take-append-drop (i + 1) ds)) ∙ fold-append next_value 0 front behind in
-    omega (arith, whole, grows (value_of front) behind, value_of_more ds i d h)
+    let rest = drop (i + 1) ds in
+    let whole : value_of ds ≡ fold next_value (value_of front) rest =
+    ap value_of (sym (take-append-drop (i + 1) ds)) ∙ fold-append next_value 0 front rest in
+    omega (arith, whole, grows (value_of front) rest, value_of_more ds i d h)
 
 -- a digit is at least the digit 0
 pub digit_at : (ds : List ℕ) (i d : ℕ) → list_all is_ascii_digit ds ≡ true → i < length ds → 48 ≤ get_or ds i d

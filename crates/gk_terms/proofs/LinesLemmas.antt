@@ -19,7 +19,7 @@ before_feed b bs n other f = record {
       ∙ ap (onto_first b) f.cut ∙ rw (add_comm 1 n, add-one, add-one) refl;
 }
 
--- the last byte, without a line feed behind it
+-- the last byte, without a line feed after it
 at_end : (b : ℕ) → (b == 10) ≡ false → FirstLine (b ∷ []) (1 + 0)
 at_end b other = record { cut = ap (λ t. cond t ((b ∷ []) ∷ []) ((b ∷ []) ∷ [])) other }
 
@@ -36,12 +36,12 @@ first_line_at b (c ∷ cs) =
     (λ (other : (b == 10) ≡ false). subst (FirstLine (b ∷ c ∷ cs)) (ap (λ t. cond (not t) (1 + n) 0) (sym other)) (before_feed b (c ∷ cs) n other (first_line_at c cs)))
     (cases_Bool (b == 10))
 
--- the first line of a text, where the text has a line feed
+-- the first line of a text that has a line feed
 pub line_to_feed : (text : List ℕ) → 0 < length text → raw_lines_of text ≡ take (position_or_len (λ b. b == 10) text + 1) text ∷ raw_lines_of (drop (position_or_len (λ b. b == 10) text + 1) text)
 line_to_feed [] h = absurd (omega arith)
 line_to_feed (b ∷ bs) h = (first_line_at b bs).cut
 
--- where it has none, the text is one line
+-- without one, the text is one line
 pub line_to_end : (text : List ℕ) → 0 < length text → length text ≤ position_or_len (λ b. b == 10) text → raw_lines_of text ≡ text ∷ []
 line_to_end text h past =
     let n : ℕ = position_or_len (λ b. b == 10) text + 1 in

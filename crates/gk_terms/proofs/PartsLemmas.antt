@@ -15,7 +15,7 @@ no_port_before : (part : List ℕ) (parts : List (List ℕ)) → 0 < length part
 no_port_before part [] h = absurd (omega arith)
 no_port_before part (next ∷ parts) h = refl
 
--- a part with another behind it is no last port
+-- a part with another after it is not a last port
 pub no_port_before_part : (p : ℕ → Bool) (part text : List ℕ) → port_of_last (part ∷ slice_split p text) ≡ None
 no_port_before_part p part text = no_port_before part _ (some_part p text)
 
@@ -31,11 +31,11 @@ more_than_four : (a b c d : List ℕ) (parts : List (List ℕ)) → 0 < length p
 more_than_four a b c d [] h = absurd (omega arith)
 more_than_four a b c d (e ∷ parts) h = grind (arith, nat_tests)
 
--- four parts with another behind them are no IPv4 address
+-- four parts with another after them are not an IPv4 address
 pub no_ip_of_five : (p : ℕ → Bool) (a b c d text : List ℕ) → octets_of_four (a ∷ b ∷ c ∷ d ∷ slice_split p text) ≡ None
 no_ip_of_five p a b c d text = more_than_four a b c d _ (some_part p text)
 
--- where no separator stands in the text, it is one part
+-- a text without a separator is one part
 pub one_part : (p : ℕ → Bool) (text : List ℕ) → length text ≤ position_or_len p text → slice_split p text ≡ text ∷ []
 one_part p text h =
     slice_split_none p text (All-from_get_or (λ b. p b ≡ false) text 0 (λ i within. fails_before_first p text i 0 (omega (arith, h, within))))

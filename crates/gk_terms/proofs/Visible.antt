@@ -22,7 +22,7 @@ all_below_128 (b ∷ bs) h = let p = and_parts _ _ h in (below_128 b p.0, all_be
 pub IsUtf8-from_visible : (text : List ℕ) → IsVisible text → IsUtf8 text
 IsUtf8-from_visible text h = IsUtf8-from_ascii text (IsAscii-from_all text (All-from_recursion _ text (all_below_128 text h)))
 
--- where p implies q, a list that passes p passes q
+-- if p implies q, a list that passes p passes q
 list_all-implied : (p q : ℕ → Bool) → ((b : ℕ) → p b ≡ true → q b ≡ true) → (text : List ℕ) → list_all p text ≡ true → list_all q text ≡ true
 list_all-implied p q implies [] h = refl
 list_all-implied p q implies (b ∷ bs) h =

@@ -16,7 +16,7 @@ words_of-blank b bs h = ap (filter (λ word. not (is_empty word))) (slice_split-
 drop_one : (k b : ℕ) (bs : List ℕ) → drop (1 + k) (b ∷ bs) ≡ drop k bs
 drop_one k b bs = rw (add_comm 1 k, add-one) refl
 
--- nor do all that stand there
+-- nor do all of them
 pub words_after_blanks : (line : List ℕ) → words_of (drop (prefix_len is_blank line) line) ≡ words_of line
 words_after_blanks [] = refl
 words_after_blanks (b ∷ bs) =
@@ -31,28 +31,28 @@ words_after_blanks (b ∷ bs) =
 take_one : (k b : ℕ) (bs : List ℕ) → take (1 + k) (b ∷ bs) ≡ b ∷ take k bs
 take_one k b bs = rw (add_comm 1 k, add-one) refl
 
--- where a line is cut first, the words behind the cut, and those of what is left, are the same
+-- the words after the first cut of a line are those of what is left
 record CutAt (line : List ℕ) (n : ℕ) : Type 0 where
   parts : List (List ℕ)
   cut : slice_split is_blank line ≡ take n line ∷ parts
-  behind : filter (λ word. not (is_empty word)) parts ≡ words_of (drop n line)
+  after : filter (λ word. not (is_empty word)) parts ≡ words_of (drop n line)
 
 after_word : (b : ℕ) (bs : List ℕ) (n : ℕ) → is_blank b ≡ false → CutAt bs n → CutAt (b ∷ bs) (1 + n)
 after_word b bs n other c = record {
   parts = c.parts;
   cut = slice_split-cons_no is_blank b bs other ∙ ap (onto_first b) c.cut ∙ ap (λ word. word ∷ c.parts) (sym (take_one n b bs));
-  behind = c.behind ∙ ap words_of (sym (drop_one n b bs));
+  after = c.after ∙ ap words_of (sym (drop_one n b bs));
 }
 
 at_blank : (b : ℕ) (bs : List ℕ) → is_blank b ≡ true → CutAt (b ∷ bs) 0
 at_blank b bs blank = record {
   parts = slice_split is_blank bs;
   cut = slice_split-cons_yes is_blank b bs blank;
-  behind = sym (words_of-blank b bs blank);
+  after = sym (words_of-blank b bs blank);
 }
 
 cut_at : (line : List ℕ) → CutAt line (position_or_len is_blank line)
-cut_at [] = record { parts = []; cut = refl; behind = refl }
+cut_at [] = record { parts = []; cut = refl; after = refl }
 cut_at (b ∷ bs) =
     ⊎_elim
     (λ (yes : is_blank b ≡ true). subst (CutAt (b ∷ bs)) (ap (λ t. cond (not t) (1 + position_or_len is_blank bs) 0) (sym yes)) (at_blank b bs yes))
@@ -71,9 +71,9 @@ words_by_first line h =
     some_length (take n line) (omega (arith, length-prefix_len (λ b. not (is_blank b)) line)) in
     ap (filter (λ word. not (is_empty word))) c.cut
     ∙ ap (λ t. cond (not t) (take n line ∷ filter (λ word. not (is_empty word)) c.parts) (filter (λ word. not (is_empty word)) c.parts)) some
-    ∙ ap (λ words. take n line ∷ words) c.behind
+    ∙ ap (λ words. take n line ∷ words) c.after
 
--- a line that begins with no word, and with no blank, is empty
+-- a line that begins with neither a word nor a blank is empty
 no_word_left : (line : List ℕ) → prefix_len is_blank line ≡ 0 → position_or_len is_blank line ≡ 0 → words_of line ≡ []
 no_word_left [] h k = refl
 no_word_left (b ∷ bs) h k =
@@ -93,10 +93,10 @@ blanks_taken line =
     (λ (past : length line ≤ prefix_len is_blank line). prefix_len-drop_all is_blank line (prefix_len is_blank line) past)
     (cases_lt (prefix_len is_blank line) (length line))
 
--- where no word stands behind the blanks in front, there is none
+-- if no word comes after the blanks in front, there is none
 pub no_word : (line : List ℕ) → position_or_len is_blank (drop (prefix_len is_blank line) line) ≡ 0 → words_of line ≡ []
 no_word line h = sym (words_after_blanks line) ∙ no_word_left (drop (prefix_len is_blank line) line) (blanks_taken line) h
 
--- where one stands there, it is the first
+-- if one does, it is the first
 pub a_word : (line : List ℕ) (rest : List ℕ) → rest ≡ drop (prefix_len is_blank line) line → 0 < position_or_len is_blank rest → words_of line ≡ take (position_or_len is_blank rest) rest ∷ words_of (drop (position_or_len is_blank rest) rest)
 a_word line rest e h = sym (words_after_blanks line) ∙ ap words_of (sym e) ∙ words_by_first rest h

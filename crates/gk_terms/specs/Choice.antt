@@ -1,4 +1,4 @@
--- Choices from a list, where the order in the list decides between equals.
+-- Choices from a list: the order in the list decides between equals.
 use Rattle.std.specs.Prelude.{◌≡◌, ℕ, ◌<◌, Bool, true, false, not, List, Option, Some, None, fold, slice_get, find}
 use Rattle.std.specs.List.{list_any, All}
 
@@ -17,7 +17,7 @@ pub record IsFirstUnbeaten {X : Type 0} (beats : X → X → Bool) (xs : List X)
 abbrev pub last_of : {X : Type 0} → X → List X → X
 last_of d xs = fold (λ _ x. x) d xs
 
--- the one of two that stays where a list is gone through once: the later only where it beats the earlier
+-- the one of two that is kept when a list is gone through once: the later only if it beats the earlier
 abbrev pub better : {X : Type 0} → (X → X → Bool) → Option X → X → Option X
 better beats None x = Some x
 better beats (Some best) x = if_beaten (beats x best) x best

@@ -1,6 +1,7 @@
 pub mod Address
 pub mod Choice
 pub mod Dialled
+pub mod Fields
 pub mod Name
 pub mod Number
 pub mod Reason

@@ -1,4 +1,4 @@
--- Texts that are held in an array: the text, and zeros behind it.
+-- Texts that are held in an array: the text, and zeros after it.
 use Rattle.std.specs.Prelude.{◌≡◌, ℕ, ◌-◌, ◌≤◌, Bool, ◌&&◌, IsTrue, nat_le, List, ◌++◌, length, take, replicate}
 use Rattle.std.specs.List.{list_all}
 use Rattle.std.proofs.Common.{◌∙◌, sym, ap, arith, length-take-le, length-append}

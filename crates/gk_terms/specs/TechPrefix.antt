@@ -3,6 +3,7 @@ use Rattle.std.specs.Prelude.{ℕ, ◌-◌, ◌==◌, Bool, ◌&&◌, ◌||◌, 
 use Rattle.std.specs.Bool.{then_some}
 use Rattle.std.specs.Char.{is_ascii_digit}
 use Rattle.std.specs.List.{list_all}
+use Rattle.gk_terms.specs.Text.{strip_end}
 use Rattle.gk_terms.specs.declared.limits.TheConstants.{MOST_TECHNOLOGY}
 
 -- 0 to 9 or the hash sign
@@ -18,7 +19,7 @@ IsTechPrefix text = IsTrue (is_tech_prefix text)
 
 -- without one star at the end
 abbrev pub without_star : List ℕ → List ℕ
-without_star text = if slice_index text (length text - 1) == 42 then take (length text - 1) text else text
+without_star text = strip_end 42 text
 
 -- the prefix that a text spells: one star at its end is dropped
 abbrev pub tech_prefix_of : List ℕ → Option (List ℕ)

@@ -4,7 +4,7 @@ ghost use Rattle.std.specs.Prelude.{◌≡◌, ℕ, ◌==◌, ◌<◌, ◌≤◌
 ghost use Rattle.std.specs.Option.{ok_or};
 ghost use Rattle.std.specs.Result.{result_ok};
 ghost use Rattle.std.specs.List.{slice_split, position_or_len};
-ghost use Rattle.gk_terms.specs.Address.{AddressParts, octet_of, port_of as port_of_text, port_of_last, ip_of, address_of, address_text};
+ghost use Rattle.gk_terms.specs.Address.{AddressParts, octet_of, port_of, port_of_last, ip_of, address_of, address_text};
 
 use crate::faults::TermFault;
 use crate::numbers::read_number;
@@ -81,7 +81,7 @@ fn address_in(text: &[u8], default_port: u16) -> Option<Address>
 }
 
 #[tactic(auto, using(crate::proofs::PartsLemmas::no_port_before_part))]
-/// The port that the text spells, where no further part follows it.
+/// The port that the text spells, if no further part follows it.
 fn last_port(text: &[u8]) -> Option<u16>
     ensures value { result ≡ port_of_last (slice_split (λ b. b == 58) text.now) }
     ensures least { IfSome result (λ port. 1 ≤ port) }
@@ -109,7 +109,7 @@ pub fn read_ip(text: &[u8]) -> Option<[u8; 4]>
 
 /// Reads a port, from 1 to 65535. Takes no memory.
 pub fn read_port(text: &[u8]) -> Option<u16>
-    ensures value { result ≡ port_of_text text.now }
+    ensures value { result ≡ port_of text.now }
     ensures least { IfSome result (λ port. 1 ≤ port) }
 {
     let port = read_number(text, 1, 65_535).ok()?;
@@ -124,11 +124,12 @@ fn octet(text: &[u8]) -> Option<u8>
     Some(octet as u8)
 }
 
-/// The text before the first separator, and the text behind that separator where there is one.
+/// The text before the first separator, and the text after that separator if there is one.
 fn cut(text: &[u8], separator: u8) -> (&[u8], Option<&[u8]>)
     ensures { MatchOption result.1
         (slice_split (λ b. b == separator) text.now ≡ result.0.now ∷ [])
-        (λ rest. slice_split (λ b. b == separator) text.now ≡ result.0.now ∷ slice_split (λ b. b == separator) rest.now) }
+        (λ rest. slice_split (λ b. b == separator) text.now
+        ≡ result.0.now ∷ slice_split (λ b. b == separator) rest.now) }
 {
     let end = length_before(text, separator);
     if end < text.len() {

@@ -3,7 +3,7 @@
 ghost use Rattle.std.specs.Prelude.{◌≡◌, ℕ, ◌≤◌, List, length, Some};
 ghost use Rattle.std.specs.Option.{ok_or};
 ghost use Rattle.std.specs.List.{list_all};
-ghost use Rattle.gk_terms.specs.Dialled.{IsDialled, is_dialled as is_dialled_text, is_dialled_byte as is_dialled_code, dialled_of};
+ghost use Rattle.gk_terms.specs.Dialled.{IsDialled, is_dialled, is_dialled_byte, dialled_of};
 
 use crate::faults::TermFault;
 use crate::limits::MOST_DIALLED;
@@ -65,21 +65,21 @@ impl Dialled {
 
 /// Whether a byte may stand among dialled digits.
 fn is_dialled_byte(byte: u8) -> bool
-    ensures { result ≡ is_dialled_code byte }
+    ensures { result ≡ is_dialled_byte byte }
 {
     byte.is_ascii_digit() || byte == b'#' || byte == b'*'
 }
 
 /// Whether all bytes may.
 fn are_dialled(text: &[u8]) -> bool
-    ensures { result ≡ list_all is_dialled_code text.now }
+    ensures { result ≡ list_all is_dialled_byte text.now }
 {
     text.iter().all(|byte| is_dialled_byte(*byte))
 }
 
 /// Whether the text is dialled digits.
 fn is_dialled(text: &[u8]) -> bool
-    ensures { result ≡ is_dialled_text text.now }
+    ensures { result ≡ is_dialled text.now }
 {
     1 <= text.len() && text.len() <= MOST_DIALLED && are_dialled(text)
 }

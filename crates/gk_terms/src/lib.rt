@@ -5,6 +5,7 @@
 pub mod addresses;
 pub mod dialled_digits;
 pub mod faults;
+pub mod fields;
 pub mod limits;
 pub mod names;
 pub mod numbers;

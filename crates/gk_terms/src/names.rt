@@ -2,7 +2,7 @@
 
 ghost use Rattle.std.specs.Prelude.{◌≡◌, ℕ, List, Some};
 ghost use Rattle.std.specs.Option.{ok_or};
-ghost use Rattle.gk_terms.specs.Name.{IsName, is_name as is_name_text, name_of};
+ghost use Rattle.gk_terms.specs.Name.{IsName, is_name, name_of};
 
 use crate::faults::TermFault;
 use crate::limits::MOST_NAME_BYTES;
@@ -63,7 +63,7 @@ impl Name {
 
 /// Whether the text is a name.
 fn is_name(text: &[u8]) -> bool
-    ensures { result ≡ is_name_text text.now }
+    ensures { result ≡ is_name text.now }
 {
     1 <= text.len() && text.len() <= MOST_NAME_BYTES && are_visible(text)
 }

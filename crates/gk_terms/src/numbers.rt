@@ -4,7 +4,7 @@ ghost use Rattle.std.specs.Prelude.{◌≡◌, ◌+◌, ◌-◌, ◌*◌, ◌^�
 ghost use Rattle.std.specs.Option.{SomeIff, ok_or};
 ghost use Rattle.std.specs.List.{list_all};
 ghost use Rattle.std.specs.Char.{is_ascii_digit};
-ghost use Rattle.gk_terms.specs.Number.{is_numeral as is_numeral_text, value_of as value_of_digits, number_of};
+ghost use Rattle.gk_terms.specs.Number.{is_numeral, value_of, number_of};
 
 use crate::faults::TermFault;
 
@@ -24,7 +24,7 @@ pub fn read_number(text: &[u8], least: u32, most: u32) -> Result<u32, TermFault>
 
 /// Whether the text is one or more digits with no zero in front of another digit.
 fn is_numeral(text: &[u8]) -> bool
-    ensures { result ≡ is_numeral_text text.now }
+    ensures { result ≡ is_numeral text.now }
 {
     match text {
         [] => false,
@@ -42,10 +42,10 @@ fn are_digits(text: &[u8]) -> bool
 }
 
 #[tactic(auto, using(crate::proofs::Digits::value_of_front, crate::proofs::Digits::value_of_more, crate::proofs::Digits::digit_at))]
-/// What digits say, or nothing where that is 2 ^ 32 or more.
+/// What digits say, or nothing if that is 2 ^ 32 or more.
 fn value_of(digits: &[u8]) -> Option<u32>
     requires { IsTrue (list_all is_ascii_digit digits.now) }
-    ensures { SomeIff result (value_of_digits digits.now < 2 ^ 32) (value_of_digits digits.now) }
+    ensures { SomeIff result (value_of digits.now < 2 ^ 32) (value_of digits.now) }
 {
     let mut value = 0;
     for digit in digits {
@@ -54,7 +54,7 @@ fn value_of(digits: &[u8]) -> Option<u32>
     Some(value)
 }
 
-/// A number with one more digit behind it, or nothing where that is 2 ^ 32 or more.
+/// A number with one more digit after it, or nothing if that is 2 ^ 32 or more.
 fn with_digit(value: u32, digit: u8) -> Option<u32>
     requires { 48 ≤ digit }
     ensures { SomeIff result (10 * value + (digit - 48) < 2 ^ 32) (10 * value + (digit - 48)) }

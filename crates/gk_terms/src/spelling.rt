@@ -8,7 +8,7 @@ ghost use Rattle.std.specs.Cmp.{partial_order_from_own_ties};
 ghost use Rattle.std.specs.Ordering.{nat_cmp, as_partial_cmp};
 ghost use Rattle.std.specs.Hash as fed;
 ghost use Rattle.std.proofs.Common.{rules};
-ghost use Rattle.gk_terms.specs.Spelling.{IsVisible, is_visible as is_visible_byte, padded};
+ghost use Rattle.gk_terms.specs.Spelling.{IsVisible, is_visible, padded};
 
 use std::cmp::Ordering;
 use std::hash::{Hash, Hasher};
@@ -72,19 +72,19 @@ impl<const MOST: usize> Spelling<MOST> {
 
 /// Whether a byte is from `!` to `~`: neither a blank nor a control byte, and ASCII.
 pub fn is_visible(byte: u8) -> bool
-    ensures { result ≡ is_visible_byte byte }
+    ensures { result ≡ is_visible byte }
 {
     0x21 <= byte && byte <= 0x7E
 }
 
 /// Whether each byte of the text is visible.
 pub fn are_visible(text: &[u8]) -> bool
-    ensures { result ≡ list_all is_visible_byte text.now }
+    ensures { result ≡ list_all is_visible text.now }
 {
     text.iter().all(|byte| is_visible(*byte))
 }
 
-/// The text with zeros behind it.
+/// The text, and zeros after it.
 fn filled<const SIZE: usize>(text: &[u8]) -> [u8; SIZE]
     requires { length text.now ≤ SIZE }
     ensures { result ≡ padded SIZE text.now }

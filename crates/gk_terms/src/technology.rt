@@ -3,7 +3,7 @@
 ghost use Rattle.std.specs.Prelude.{◌≡◌, ℕ, List, Some};
 ghost use Rattle.std.specs.Option.{ok_or};
 ghost use Rattle.std.specs.List.{list_all};
-ghost use Rattle.gk_terms.specs.TechPrefix.{IsTechPrefix, is_tech_prefix as is_tech_prefix_text, is_technology_byte as is_technology_code, tech_prefix_of, without_star as text_without_star};
+ghost use Rattle.gk_terms.specs.TechPrefix.{IsTechPrefix, is_tech_prefix, is_technology_byte, tech_prefix_of, without_star};
 
 use crate::faults::TermFault;
 use crate::limits::MOST_TECHNOLOGY;
@@ -65,7 +65,7 @@ impl TechPrefix {
 
 /// The text without one star at its end.
 fn without_star(text: &[u8]) -> &[u8]
-    ensures { result.now ≡ text_without_star text.now }
+    ensures { result.now ≡ without_star text.now }
 {
     match text {
         [front @ .., b'*'] => front,
@@ -75,21 +75,21 @@ fn without_star(text: &[u8]) -> &[u8]
 
 /// Whether a byte may stand in a technology prefix.
 fn is_technology_byte(byte: u8) -> bool
-    ensures { result ≡ is_technology_code byte }
+    ensures { result ≡ is_technology_byte byte }
 {
     byte.is_ascii_digit() || byte == b'#'
 }
 
 /// Whether all bytes may.
 fn are_technology(text: &[u8]) -> bool
-    ensures { result ≡ list_all is_technology_code text.now }
+    ensures { result ≡ list_all is_technology_byte text.now }
 {
     text.iter().all(|byte| is_technology_byte(*byte))
 }
 
 /// Whether the text is a technology prefix.
 fn is_tech_prefix(text: &[u8]) -> bool
-    ensures { result ≡ is_tech_prefix_text text.now }
+    ensures { result ≡ is_tech_prefix text.now }
 {
     1 <= text.len() && text.len() <= MOST_TECHNOLOGY && are_technology(text)
 }

@@ -48,7 +48,7 @@ impl<'a> Iterator for RawLines<'a> {
     }
 }
 
-/// The first line of a text, with its line feed, and what stands behind it.
+/// The first line of a text, with its line feed, and what comes after it.
 fn first_line(text: &[u8]) -> (&[u8], &[u8])
     requires { 0 < length text.now }
     ensures { raw_lines_of text.now ≡ result.0.now ∷ raw_lines_of result.1.now }

@@ -3,7 +3,7 @@
 ghost use Rattle.std.specs.Prelude.{◌≡◌, ℕ, ◌<◌, List, [], ◌∷◌, ◌++◌, drop, length, false, slice_get, IfSome, MatchOption};
 ghost use Rattle.std.specs.List.{prefix_len, position_or_len};
 ghost use Rattle.std.specs.Iterator.{YieldsFirstBy, item_count};
-ghost use Rattle.gk_terms.specs.Text.{is_blank as is_blank_code, words_of, raw_lines_of, content_of};
+ghost use Rattle.gk_terms.specs.Text.{is_blank, words_of, raw_lines_of, content_of};
 
 use std::marker::Model;
 
@@ -50,14 +50,15 @@ impl<'a> Iterator for Words<'a> {
 
 /// Whether a byte is a space or a tab.
 fn is_blank(byte: u8) -> bool
-    ensures { result ≡ is_blank_code byte }
+    ensures { result ≡ is_blank byte }
 {
     byte == b' ' || byte == b'\t'
 }
 
-/// The first word of the line, empty where there is none, and what stands behind it.
+/// The first word of the line, empty if there is none, and what comes after it.
 fn first_word(line: &[u8]) -> (&[u8], &[u8])
-    ensures word { 0 < length result.0.now → words_of line.now ≡ result.0.now ∷ words_of result.1.now }
+    ensures word { 0 < length result.0.now → words_of line.now ≡
+        result.0.now ∷ words_of result.1.now }
     ensures none { length result.0.now ≡ 0 → words_of line.now ≡ [] }
 {
     let (_, rest) = line.split_at(blanks_in_front(line));
@@ -66,14 +67,14 @@ fn first_word(line: &[u8]) -> (&[u8], &[u8])
 
 /// How many blanks the line begins with.
 fn blanks_in_front(line: &[u8]) -> usize
-    ensures { result ≡ prefix_len is_blank_code line.now }
+    ensures { result ≡ prefix_len is_blank line.now }
 {
     line.iter().take_while(|byte| is_blank(**byte)).count()
 }
 
 /// How many bytes stand before the first blank.
 fn length_of_word(line: &[u8]) -> usize
-    ensures { result ≡ position_or_len is_blank_code line.now }
+    ensures { result ≡ position_or_len is_blank line.now }
 {
     line.iter().take_while(|byte| !is_blank(**byte)).count()
 }

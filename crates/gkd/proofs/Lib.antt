@@ -1,2 +1,5 @@
 pub mod CheckLemmas
+pub mod ConfigurationLemmas
+pub mod OutputLemmas
+pub mod Rows
 pub mod RunLemmas

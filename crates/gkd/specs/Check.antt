@@ -1,50 +1,41 @@
 -- What is said of a configuration that is checked.
-use Rattle.std.specs.Prelude.{◌≡◌, ◌⊎◌, ℕ, Bool, ⊤, List, [], ◌∷◌, ◌++◌, length, Option, Some, None, Ok, Err, codes, decimal, if◌then◌else◌}
-use Rattle.std.specs.Io.KnownBytes.{Appends}
-use Rattle.gk_streams.specs.Ends.{AppendsFront}
-use Rattle.gk_terms.specs.Text.{lines_of}
+use Rattle.std.specs.Prelude.{ℕ, Bool, true, false, List, [], ◌∷◌, ◌++◌, length, codes, decimal, if◌then◌else◌}
+use Rattle.gk_lines.specs.LineReader.{is_failure}
+use Rattle.gk_terms.specs.Text.{line_text}
 use Rattle.command_reader.specs.Configuration.{Configuration}
-use Rattle.command_reader.specs.declared.faults.LineFault.{LineFault}
-use Rattle.command_reader.specs.Reading.{nothing_read, reading_of, LacksMemory}
 use Rattle.command_reader.specs.Printing.{text_of}
-use Rattle.gkd.specs.declared.file_bytes.FileFault.{FileFault}
-use Rattle.gkd.specs.declared.file_bytes.FileFault.TheVariants.{Unread as UnreadFile, Endless as EndlessFile, NoMemory as NoMemoryForFile}
+use Rattle.gkd.specs.declared.configuration.ConfigurationFault.{ConfigurationFault}
+use Rattle.gkd.specs.declared.configuration.ConfigurationFault.TheVariants.{Line, Read}
 use Rattle.gkd.specs.declared.check.CheckFault.{CheckFault}
-use Rattle.gkd.specs.declared.check.CheckFault.TheVariants.{Unread, Endless, Config, Unwritten, NoMemory}
+use Rattle.gkd.specs.declared.check.CheckFault.TheVariants as check
 
--- how many commands and passed over lines there are: the line that is printed last
+-- how many commands and passed over lines there are, in words
+abbrev pub summary_words : ℕ → ℕ → List (List ℕ)
+summary_words count passed =
+    decimal count ∷ codes "commands," ∷ decimal passed ∷ codes "passed" ∷ codes "over" ∷ []
+
+-- the line that is printed last
 abbrev pub summary_text : Configuration → List ℕ
-summary_text c = decimal (length c.lines) ++ codes " commands, " ++ decimal c.passed ++ codes " passed over" ++ 10 ∷ []
+summary_text c = line_text (summary_words (length c.commands) c.passed)
 
--- the canonical lines where they are asked for, and then the summary
+-- the canonical lines if they are asked for, and then the summary
 abbrev pub report_text : Bool → Configuration → List ℕ
-report_text prints c = (if prints then text_of c.lines else []) ++ summary_text c
-
--- the bytes of a reader, where it tells, say this configuration
-abbrev pub IsSaidBy : Option (List ℕ) → Configuration → Type 0
-IsSaidBy None configuration = ⊤
-IsSaidBy (Some bytes) configuration = reading_of bytes ≡ Ok configuration
-
--- for the bytes of a reader, where it tells, the configuration that they say is reported behind what the writer held
-abbrev pub Reports : Bool → Option (List ℕ) → Option (List ℕ) → Option (List ℕ) → Type 0
-Reports prints None before after = ⊤
-Reports prints (Some bytes) before after =
-    (configuration : Configuration) × (reading_of bytes ≡ Ok configuration) × Appends before after (report_text prints configuration)
-
--- and where the writer fails, a front of that report
-abbrev pub ReportsFront : Bool → Option (List ℕ) → Option (List ℕ) → Option (List ℕ) → Type 0
-ReportsFront prints None before after = ⊤
-ReportsFront prints (Some bytes) before after =
-    (configuration : Configuration) × (reading_of bytes ≡ Ok configuration) × AppendsFront before after (report_text prints configuration)
-
--- the first fault of these bytes, or want of memory at one of their lines, which is the one that is named
-abbrev pub IsFaultOf : Option (List ℕ) → LineFault → Type 0
-IsFaultOf None fault = ⊤
-IsFaultOf (Some bytes) fault = (reading_of bytes ≡ Err fault) ⊎ LacksMemory nothing_read (lines_of bytes) fault
+report_text prints c = (if prints then text_of c.commands else []) ++ summary_text c
 
 -- ---- faults
--- a fault of reading a file, as one of its check
-abbrev pub check_fault_of : FileFault → CheckFault
-check_fault_of UnreadFile = Unread
-check_fault_of EndlessFile = Endless
-check_fault_of NoMemoryForFile = NoMemory
+-- a fault of the configuration, as one of its check
+abbrev pub check_fault_of : ConfigurationFault → CheckFault
+check_fault_of (Line fault) = check.Config fault
+check_fault_of (Read fault) = check.ReadFault fault
+
+-- whether a check ended at its reader
+abbrev pub is_check_read_fault : CheckFault → Bool
+is_check_read_fault (check.ReadFault fault) = is_failure fault
+is_check_read_fault (check.Config fault) = false
+is_check_read_fault check.WriteFault = false
+
+-- whether it ended at its writer
+abbrev pub is_check_write_fault : CheckFault → Bool
+is_check_write_fault (check.ReadFault fault) = false
+is_check_write_fault (check.Config fault) = false
+is_check_write_fault check.WriteFault = true

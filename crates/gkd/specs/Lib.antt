@@ -1,4 +1,5 @@
 pub mod Check
-pub mod CheckNotes
+pub mod Configuration
+pub mod Output
+pub mod Rows
 pub mod Run
-pub mod RunNotes

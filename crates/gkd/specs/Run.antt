@@ -1,136 +1,112 @@
 -- A run: a configuration, and then requests.
-use Rattle.compiler.specs.InEffect.{lines_in_effect}
-use Rattle.std.specs.Prelude.{◌≡◌, ◌⊎◌, ℕ, ◌+◌, Bool, true, false, not, ◌&&◌, ⊤, List, [], ◌∷◌, length, Option, Some, None, Result, Ok, Err, MatchResult, codes, bytes_eq, if◌then◌else◌, ◌++◌}
-use Rattle.std.specs.Io.KnownBytes.{Appends}
-use Rattle.gk_terms.specs.Text.{lines_of, words_of, is_too_long, is_empty}
-use Rattle.command_reader.specs.declared.faults.LineFault.{LineFault}
+use Rattle.std.specs.Prelude.{◌≡◌, ◌⊎◌, ℕ, Bool, true, false, List, [], ◌++◌, Result, Ok, Err}
 use Rattle.command_reader.specs.Configuration.{Configuration}
-use Rattle.command_reader.specs.Progress.{Progress, line_count}
-use Rattle.command_reader.specs.Reading.{nothing_read, line_after, lines_after, reading_in, LacksMemoryFor, LacksMemory, AreRefusedWith}
-use Rattle.admission.specs.declared.cores.OpeningFault.{OpeningFault}
-use Rattle.admission.specs.declared.cores.OpeningFault.TheVariants.{BadLimits as BadLimitsToOpen, NoMemory as NoMemoryToOpen}
-use Rattle.gkd.specs.declared.faults.RunFault.{RunFault}
-use Rattle.gkd.specs.declared.faults.RunFault.TheVariants.{BadLimits, Config, Session, NoMemory as NoMemoryForTables}
+use Rattle.command_reader.specs.Reading.{reading_in, MayRead}
 use Rattle.admission.specs.declared.limits.Limits.{Limits}
-use Rattle.admission.specs.State.{State, opening_of}
-use Rattle.gk_protocol.specs.Session.{requests_in, Runs}
+use Rattle.admission.specs.declared.cores.OpeningFault.{OpeningFault}
+use Rattle.admission.specs.declared.cores.OpeningFault.TheVariants as opening
+use Rattle.admission.specs.State.{opening_of}
+use Rattle.admission.specs.History.{CoreParts}
+use Rattle.gk_lines.specs.declared.line_reader.ReadFault.{ReadFault}
+use Rattle.gk_protocol.specs.declared.requests.Request.{Request}
+use Rattle.gk_protocol.specs.declared.answers.Answer.{Answer}
+use Rattle.gk_protocol.specs.declared.session_faults.SessionFault.{SessionFault}
+use Rattle.gk_protocol.specs.Session.{Ends, is_read_fault, is_write_fault, session_fault_of}
+use Rattle.gkd.specs.declared.configuration.Until.TheVariants.{EndLine}
+use Rattle.gkd.specs.declared.configuration.ConfigurationFault.{ConfigurationFault}
+use Rattle.gkd.specs.declared.configuration.ConfigurationFault.TheVariants.{Line, Read}
+use Rattle.gkd.specs.declared.run.RunFault.{RunFault}
+use Rattle.gkd.specs.declared.run.RunFault.TheVariants.{BadLimits, Config, Session, NoMemory}
+use Rattle.gkd.specs.Configuration.{configuration_of, rest_of, IsUnended}
 
--- ---- where the configuration ends
--- `end` alone
-abbrev pub is_end_alone : List (List ℕ) → Bool
-is_end_alone [] = false
-is_end_alone (word ∷ words) = bytes_eq word (codes "end") && is_empty words
+-- a core in its opening state: a configuration's commands as version 1, and nothing registered,
+-- open or recorded
+abbrev pub opened : Configuration → Limits → CoreParts
+opened configuration limits =
+    record { opening = opening_of configuration.commands limits; entries = [] }
 
--- at most 512 bytes, and its only word is `end`
-abbrev pub ends_configuration : List ℕ → Bool
-ends_configuration line = not (is_too_long line) && is_end_alone (words_of line)
+-- a run within these limits opens such a core
+abbrev pub OpensWithin : Limits → Configuration → CoreParts → Type 0
+OpensWithin limits configuration core = core ≡ opened configuration limits
 
--- the lines of the configuration: up to the first that ends it, and that; or all
-abbrev pub configuration_in : List (List ℕ) → List (List ℕ)
-configuration_in [] = []
-configuration_in (line ∷ lines) = line ∷ (if ends_configuration line then [] else configuration_in lines)
+-- ---- how a run ends, whoever answers its requests
+module _ {S : Type 0} (MayAnswer : S → Request → Answer → S → Type 0)
+    (Opens : Configuration → S → Type 0) where
+  -- the configuration at the front of these bytes was accepted, and the bytes after it are a
+  -- session from the opening state on, which ended so
+  pub record Serves (bytes rest : List ℕ) (text : List ℕ)
+      (result : Result ℕ SessionFault) : Type 0 where
+    pub configuration : Configuration
+    pub accepted : reading_in (configuration_of EndLine bytes) ≡ Ok configuration
+    pub first : S
+    pub opens : Opens configuration first
+    pub last : S
+    pub ahead : List ℕ
+    pub ends : Ends MayAnswer (rest_of EndLine bytes) ahead rest first last text result
 
--- the lines behind it
-abbrev pub behind_configuration : List (List ℕ) → List (List ℕ)
-behind_configuration [] = []
-behind_configuration (line ∷ lines) = if ends_configuration line then lines else behind_configuration lines
+  -- the reader failed, or its turns were spent, before the configuration was read to its end:
+  -- nothing was written
+  pub record StopsBefore (bytes rest : List ℕ) (text : List ℕ) (fault : SessionFault) : Type 0 where
+    pub unwritten : text ≡ []
+    pub of_reader : (read : ReadFault) × (fault ≡ session_fault_of read)
+    pub unended : IsUnended EndLine bytes rest
 
--- ---- a run
--- for these bytes this text may be written, in so many replies: the configuration is accepted, and the text is the
--- replies to the requests behind it, from the opening state on
-pub record IsRun (limits : Limits) (bytes : List ℕ) (text : List ℕ) (count : ℕ) : Type 0 where
-  pub configuration : Configuration
-  pub accepted : reading_in (configuration_in (lines_of bytes)) ≡ Ok configuration
-  pub last : State
-  pub runs : Runs (opening_of (lines_in_effect configuration.lines) limits) (requests_in (behind_configuration (lines_of bytes))) text last
-  pub counted : count ≡ length (requests_in (behind_configuration (lines_of bytes)))
+  -- the configuration at the front of these bytes is accepted
+  abbrev pub IsAccepted : List ℕ → Type 0
+  IsAccepted bytes =
+      (configuration : Configuration) × (reading_in (configuration_of EndLine bytes) ≡ Ok configuration)
 
--- a run over what the reader has, where it tells, appends such a text to what the writer holds, where it tells
-abbrev pub WritesRun : Limits → Option (List ℕ) → Option (List ℕ) → Option (List ℕ) → ℕ → Type 0
-WritesRun limits None before after count = ⊤
-WritesRun limits (Some bytes) before after count = (text : List ℕ) × IsRun limits bytes text count × Appends before after text
+  -- what a run over these bytes wrote, by how it ended, with this rest of its input
+  abbrev pub RunEnds : List ℕ → List ℕ → List ℕ → Result ℕ RunFault → Type 0
+  RunEnds bytes rest text (Ok count) = Serves bytes rest text (Ok count)
+  RunEnds bytes rest text (Err BadLimits) = (text ≡ []) × (rest ≡ bytes)
+  RunEnds bytes rest text (Err (Config fault)) =
+      (text ≡ []) × MayRead (configuration_of EndLine bytes) (Err fault)
+      × ((ahead : List ℕ) × (rest_of EndLine bytes ≡ ahead ++ rest))
+  RunEnds bytes rest text (Err (Session fault)) =
+      Serves bytes rest text (Err fault) ⊎ StopsBefore bytes rest text fault
+  RunEnds bytes rest text (Err NoMemory) =
+      (text ≡ []) × IsAccepted bytes × ((ahead : List ℕ) × (rest_of EndLine bytes ≡ ahead ++ rest))
 
--- the fault of a run whose core is not opened
-abbrev pub run_fault_of : OpeningFault → RunFault
-run_fault_of BadLimitsToOpen = BadLimits
-run_fault_of NoMemoryToOpen = NoMemoryForTables
+-- ---- faults
+-- whether a run ended at its reader
+abbrev pub is_run_read_fault : RunFault → Bool
+is_run_read_fault BadLimits = false
+is_run_read_fault (Config fault) = false
+is_run_read_fault (Session fault) = is_read_fault fault
+is_run_read_fault NoMemory = false
+
+-- whether it ended at its writer
+abbrev pub is_run_write_fault : RunFault → Bool
+is_run_write_fault BadLimits = false
+is_run_write_fault (Config fault) = false
+is_run_write_fault (Session fault) = is_write_fault fault
+is_run_write_fault NoMemory = false
 
 -- whether a fault always comes before the first request is read
 abbrev pub is_before_requests : RunFault → Bool
 is_before_requests BadLimits = true
 is_before_requests (Config fault) = true
 is_before_requests (Session fault) = false
-is_before_requests NoMemoryForTables = true
+is_before_requests NoMemory = true
 
--- what the reader has left stands behind the last line of the configuration: some bytes that were read ahead go before it
-abbrev pub IsBehindConfiguration : Option (List ℕ) → Option (List ℕ) → Type 0
-IsBehindConfiguration None new = ⊤
-IsBehindConfiguration (Some bytes) None = ⊥
-IsBehindConfiguration (Some bytes) (Some rest) =
-    (ahead : List ℕ) × (behind_configuration (lines_of bytes) ≡ lines_of (ahead ++ rest))
+-- the fault of a run whose configuration is not read, and of one whose core is not opened
+abbrev pub run_fault_of : ConfigurationFault → RunFault
+run_fault_of (Line fault) = Config fault
+run_fault_of (Read fault) = Session (session_fault_of fault)
 
--- the fault of the configuration, or want of memory at one of its lines, which is the one that is named
-abbrev pub IsRefusedAs : List (List ℕ) → LineFault → Type 0
-IsRefusedAs lines fault = (reading_in lines ≡ Err fault) ⊎ LacksMemory nothing_read lines fault
+abbrev pub opening_run_fault_of : OpeningFault → RunFault
+opening_run_fault_of opening.BadLimits = BadLimits
+opening_run_fault_of opening.NoMemory = NoMemory
 
-abbrev pub IsRefusedBy : Option (List ℕ) → LineFault → Type 0
-IsRefusedBy None fault = ⊤
-IsRefusedBy (Some bytes) fault = IsRefusedAs (configuration_in (lines_of bytes)) fault
-
--- ---- a configuration that is read line by line
--- what these lines say behind those before them, or want of memory at one of them
-abbrev pub Says : Progress → List (List ℕ) → Result Progress LineFault → Type 0
-Says before lines (Ok read) = lines_after before lines ≡ Ok read
-Says before lines (Err fault) = AreRefusedWith before lines fault
-
--- a line is read, or its fault is named, or want of memory for its command
-abbrev pub ReadsLine : Progress → List ℕ → Result Progress LineFault → Type 0
-ReadsLine before line after =
-    MatchResult after
-    (λ read. line_after before line ≡ Ok read)
-    (λ fault. (fault.line ≡ line_count before + 1)
-    × ((line_after before line ≡ Err fault.kind) ⊎ LacksMemoryFor before line fault.kind))
-
--- what was read, with one more line; a fault stays
-abbrev pub ContinuesWith : Result Progress LineFault → List ℕ → Result Progress LineFault → Type 0
-ContinuesWith (Ok before) line after = ReadsLine before line after
-ContinuesWith (Err fault) line after = after ≡ Err fault
-
--- what was read, and then the lines that are left; a fault stays
-abbrev pub SaysBehind : Result Progress LineFault → List (List ℕ) → Result Progress LineFault → Type 0
-SaysBehind (Ok read) lines end = Says read lines end
-SaysBehind (Err fault) lines end = end ≡ Err fault
-
--- the whole configuration is what was read, and then the lines that are left; so are the lines behind it
-pub record IsReading (bytes rest : List ℕ) (read : Result Progress LineFault) : Type 0 where
-  pub said : (end : Result Progress LineFault) → SaysBehind read (configuration_in (lines_of rest)) end → Says nothing_read (configuration_in (lines_of bytes)) end
-  pub behind : behind_configuration (lines_of bytes) ≡ behind_configuration (lines_of rest)
-
-abbrev pub ReadingUnderWay : Option (List ℕ) → Option (List ℕ) → Result Progress LineFault → Type 0
-ReadingUnderWay None rest read = ⊤
-ReadingUnderWay (Some bytes) None read = ⊥
-ReadingUnderWay (Some bytes) (Some rest) read = IsReading bytes rest read
-
--- the configuration was read, and the lines behind it are left
-pub record IsReadOut (bytes rest : List ℕ) (read : Result Progress LineFault) : Type 0 where
-  pub said : Says nothing_read (configuration_in (lines_of bytes)) read
-  pub behind : behind_configuration (lines_of bytes) ≡ lines_of rest
-
-abbrev pub ReadsOut : Option (List ℕ) → Option (List ℕ) → Result Progress LineFault → Type 0
-ReadsOut None rest read = ⊤
-ReadsOut (Some bytes) None read = ⊥
-ReadsOut (Some bytes) (Some rest) read = IsReadOut bytes rest read
-
--- the answer to a whole configuration: what it says, or want of memory
-abbrev pub SaysConfiguration : List (List ℕ) → Result Configuration LineFault → Type 0
-SaysConfiguration lines (Ok configuration) = reading_in lines ≡ Ok configuration
-SaysConfiguration lines (Err fault) = IsRefusedAs lines fault
-
-pub record IsConfiguration (bytes rest : List ℕ) (answer : Result Configuration LineFault) : Type 0 where
-  pub said : SaysConfiguration (configuration_in (lines_of bytes)) answer
-  pub behind : behind_configuration (lines_of bytes) ≡ lines_of rest
-
-abbrev pub ReadsConfiguration : Option (List ℕ) → Option (List ℕ) → Result Configuration LineFault → Type 0
-ReadsConfiguration None rest answer = ⊤
-ReadsConfiguration (Some bytes) None answer = ⊥
-ReadsConfiguration (Some bytes) (Some rest) answer = IsConfiguration bytes rest answer
+-- ---- a run under a configuration that was read before
+module _ {S : Type 0} (MayAnswer : S → Request → Answer → S → Type 0) where
+  -- the bytes are a session from this state on, which ended so; or nothing was read or written
+  abbrev pub ServesUnder : S → List ℕ → List ℕ → List ℕ → Result ℕ RunFault → Type 0
+  ServesUnder first bytes rest text (Ok count) =
+      (last : S) × (ahead : List ℕ) × Ends MayAnswer bytes ahead rest first last text (Ok count)
+  ServesUnder first bytes rest text (Err (Session fault)) =
+      (last : S) × (ahead : List ℕ) × Ends MayAnswer bytes ahead rest first last text (Err fault)
+  ServesUnder first bytes rest text (Err BadLimits) = (text ≡ []) × (rest ≡ bytes)
+  ServesUnder first bytes rest text (Err NoMemory) = (text ≡ []) × (rest ≡ bytes)
+  ServesUnder first bytes rest text (Err (Config fault)) = ⊥

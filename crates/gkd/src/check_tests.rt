@@ -1,137 +1,162 @@
 //! Configurations that are checked, over memory.
 
 use crate::check::{CheckFault, check};
-use crate::test_ends::{FailingSink, FailingSource};
 use command_reader::{FaultKind, LineFault};
-use gk_streams::Noted;
-use std::alloc::{AllocError, Global};
+use gk_lines::fakes::Piecewise;
+use gk_lines::{Noted, ReadFault};
+use std::alloc::Global;
 use std::process::Abort;
 use std::test::Fail;
 
-/// A configuration with each kind of line that has an effect on routing or a limit on bandwidth.
+/// A configuration of three commands, in five lines.
 const CONFIGURATION: &str = "gatekeeper\n \
-    zone local gk-a example.com 10.0.0.1\n \
-    zone local gk-b example.com\n \
-    zone remote gk-x example.com 10.9.0.1 1719 cost 50\n \
-    zone remote gk-y example.com 10.9.0.2 1719 cost 20\n \
-    zone prefix gk-a 408*\n \
-    zone prefix gk-b 4085......\n \
-    zone prefix gk-x 9*\n \
-    zone prefix gk-y 9*\n \
-    gw-type-prefix 1#* default-technology\n \
-    gw-type-prefix 2# hopoff gk-x\n \
-    bandwidth total zone gk-a 256\n \
-    bandwidth session default 128\n \
-    no shutdown\n\
+    zone local gk-a  example.com\n \
+    zone remote gk-x example.com 10.9.0.1\n \
+    gw-type-prefix 1#* hopoff gk-x seq\n\
     end\n";
 
-/// Its canonical lines.
-const CANONICAL: &str = "zone local gk-a example.com 10.0.0.1\n\
-    zone local gk-b example.com\n\
+/// Its canonical lines, and then the summary.
+const REPORT: &str = "zone local gk-a example.com\n\
     zone remote gk-x example.com 10.9.0.1 1719 cost 50 priority 50\n\
-    zone remote gk-y example.com 10.9.0.2 1719 cost 20 priority 50\n\
-    zone prefix gk-a 408*\n\
-    zone prefix gk-b 4085......\n\
-    zone prefix gk-x 9*\n\
-    zone prefix gk-y 9*\n\
-    gw-type-prefix 1# default-technology\n\
-    gw-type-prefix 2# hopoff gk-x\n\
-    bandwidth total zone gk-a 256\n\
-    bandwidth session default 128\n";
+    gw-type-prefix 1# hopoff gk-x\n\
+    3 commands, 2 passed over\n";
 
-/// What a check of this text answers, and what it wrote.
-fn check_of(alloc: Global, text: &[u8], prints: bool) -> (Result<(), CheckFault>, Vec<u8>) {
-    let mut output = Vec::new(alloc);
-    let mut reader = Noted::new(text);
-    let mut writer = Noted::new(&mut output);
-    let result = check(alloc, &mut reader, &mut writer, prints);
-    (result, output)
-}
+/// A configuration with a fault at line 2, which ends with its byte 20.
+const FAULTY: &[u8] = b"zone local a b\nzone\nzone local a b\n";
 
-/// Asserts that the text is accepted, and that these lines are written and then the summary.
-fn assert_report(
+/// The fault of that line.
+const FAULT: CheckFault = CheckFault::Config(LineFault {
+    line: 2,
+    kind: FaultKind::Missing,
+});
+
+/// Asserts how a check over these streams ends, and what it writes.
+fn assert_check(
     rt: &impl Abort,
     alloc: Global,
-    text: &str,
+    reader: &mut Noted<Piecewise<&[u8]>>,
     prints: bool,
-    lines: &str,
-    summary: &str,
-) -> Result<(), AllocError> {
-    let mut want = Vec::from_slice(alloc, lines.as_bytes())?;
-    want.extend_from_slice(summary.as_bytes())?;
-    let (result, output) = check_of(alloc, text.as_bytes(), prints);
-    assert_eq!(rt; result, Ok(()));
-    assert_eq!(rt; output.as_slice(), want.as_slice(), "{text}");
-    Ok(())
+    failing_write: Option<u64>,
+    want: (Result<(), CheckFault>, &[u8]),
+) {
+    let (result, written) = want;
+    let mut output = Vec::new(alloc);
+    let mut stream = Piecewise::new(&mut output, 1);
+    stream.failing_call = failing_write;
+    let checked = check(alloc, reader, &mut Noted::new(stream), prints);
+    assert_eq!(rt; checked, result);
+    assert_eq!(rt; output.as_slice(), written);
+}
+
+/// Asserts what a check of an accepted configuration writes.
+fn assert_report(rt: &impl Abort, alloc: Global, text: &str, prints: bool, report: &str) {
+    let mut reader = Noted::new(Piecewise::new(text.as_bytes(), 7));
+    let want = (Ok(()), report.as_bytes());
+    assert_check(rt, alloc, &mut reader, prints, None, want);
 }
 
 #[test]
-fn reports_an_accepted_configuration(rt: HostRuntime) -> Result<(), Fail> {
-    for (text, prints, lines, summary) in [
-        (CONFIGURATION, false, "", "12 commands, 3 passed over\n"),
-        (
-            CONFIGURATION,
-            true,
-            CANONICAL,
-            "12 commands, 3 passed over\n",
-        ),
-        (CANONICAL, true, CANONICAL, "12 commands, 0 passed over\n"),
-        ("zone local a b", false, "", "1 commands, 0 passed over\n"),
-        (
-            "zone local seq e.com\ngw-type-prefix 2# hopoff seq seq\n",
-            true,
-            "zone local seq e.com\ngw-type-prefix 2# hopoff seq\n",
-            "2 commands, 0 passed over\n",
-        ),
+fn reports_an_accepted_configuration(rt: HostRuntime) {
+    for (text, prints, report) in [
+        (CONFIGURATION, false, "3 commands, 2 passed over\n"),
+        (CONFIGURATION, true, REPORT),
+        ("zone local a b", false, "1 commands, 0 passed over\n"),
         (
             "zone local a b\nend\nzone local c d\nend\n",
             true,
-            "zone local a b\nzone local c d\n",
-            "2 commands, 2 passed over\n",
+            "zone local a b\nzone local c d\n2 commands, 2 passed over\n",
         ),
     ] {
-        assert_report(&rt, rt.alloc(), text, prints, lines, summary)?;
+        assert_report(&rt, rt.alloc(), text, prints, report);
     }
-    Ok(())
+}
+
+/// Asserts that a check ends with this fault after so many bytes, and writes nothing.
+fn assert_refused(
+    rt: &impl Abort,
+    alloc: Global,
+    text: &[u8],
+    prints: bool,
+    bytes: u64,
+    fault: LineFault,
+) {
+    let mut reader = Noted::new(Piecewise::new(text, 1));
+    let want = (Err(CheckFault::Config(fault)), b"".as_slice());
+    assert_check(rt, alloc, &mut reader, prints, None, want);
+    assert_eq!(rt; reader.calls(), bytes, "{text:?}");
 }
 
 #[test]
-fn names_the_first_fault_and_writes_nothing(rt: HostRuntime) {
-    for (text, line, kind) in [
-        (b"".as_slice(), 1, FaultKind::NoLocalZone),
-        (b"!\nzone local a b c\n", 2, FaultKind::BadAddress),
+fn reads_nothing_after_the_first_faulty_line(rt: HostRuntime) {
+    for (text, bytes, line, kind) in [
         (
-            b"zone local a b\nzone prefix q 9*\n",
+            b"!\nzone local a b c\n!".as_slice(),
+            19,
             2,
-            FaultKind::UnknownZone,
+            FaultKind::BadAddress,
         ),
         (
-            b"zone local a b\nend\nroute 9\n",
+            b"zone local a b\nend\nhost\nend\n",
+            24,
             3,
             FaultKind::UnknownCommand,
         ),
+        (b"end x\n\n\n", 6, 1, FaultKind::Extra),
+        // These faults are known only at the end, which takes one more call.
+        (b"", 1, 1, FaultKind::NoLocalZone),
+        (
+            b"zone local a b\nzone prefix q 9*\n!\n",
+            35,
+            2,
+            FaultKind::UnknownZone,
+        ),
     ] {
         for prints in [false, true] {
-            let (result, output) = check_of(rt.alloc(), text, prints);
-            assert_eq!(rt; result, Err(CheckFault::Config(LineFault { line, kind })));
-            assert!(rt; output.is_empty());
+            let fault = LineFault { line, kind };
+            assert_refused(&rt, rt.alloc(), text, prints, bytes, fault);
         }
     }
 }
 
+/// Asserts how a check ends if the reader, which gives one byte a call, fails at this call.
+fn assert_failed_read(rt: &impl Abort, alloc: Global, text: &[u8], call: u64, fault: CheckFault) {
+    let mut reader = Noted::new(Piecewise::failing_at(text, 1, call));
+    let want = (Err(fault), b"".as_slice());
+    assert_check(rt, alloc, &mut reader, true, None, want);
+}
+
 #[test]
-fn names_the_end_that_failed(rt: HostRuntime) {
-    for prints in [false, true] {
-        let mut output = Vec::new(rt.alloc());
-        let mut source = FailingSource::new(b"zone local a b\nzone\n");
-        let mut writer = Noted::new(&mut output);
-        let unread = check(rt.alloc(), &mut source, &mut writer, prints);
-        assert_eq!(rt; unread, Err(CheckFault::Unread));
-        assert!(rt; output.is_empty());
-        let mut reader = Noted::new(b"zone local a b\n".as_slice());
-        let mut sink = FailingSink::new();
-        let unwritten = check(rt.alloc(), &mut reader, &mut sink, prints);
-        assert_eq!(rt; unwritten, Err(CheckFault::Unwritten));
+fn names_a_reader_that_fails(rt: HostRuntime) {
+    let failed = CheckFault::ReadFault(ReadFault::Failed);
+    let accepted = CONFIGURATION.as_bytes();
+    for call in 1..=accepted.len() as u64 + 1 {
+        assert_failed_read(&rt, rt.alloc(), accepted, call, failed);
+    }
+    for call in 1..=20 {
+        assert_failed_read(&rt, rt.alloc(), FAULTY, call, failed);
+    }
+    assert_failed_read(&rt, rt.alloc(), FAULTY, 21, FAULT);
+}
+
+/// Asserts what is written of the report if the writer, which takes one byte a call, fails at this call.
+fn assert_failed_write(rt: &impl Abort, alloc: Global, call: usize) {
+    let mut reader = Noted::new(Piecewise::new(CONFIGURATION.as_bytes(), 7));
+    let (front, _) = REPORT.as_bytes().split_at(call.min(REPORT.len()));
+    let want = (Err(CheckFault::WriteFault), front);
+    assert_check(
+        rt,
+        alloc,
+        &mut reader,
+        true,
+        Some((call as u64).saturating_add(1)),
+        want,
+    );
+}
+
+#[test]
+fn names_a_writer_that_fails(rt: HostRuntime) {
+    for call in 0..REPORT.len() {
+        assert_failed_write(&rt, rt.alloc(), call);
     }
 }
 
@@ -139,14 +164,13 @@ fn names_the_end_that_failed(rt: HostRuntime) {
 fn check_faults_are_printed(rt: HostRuntime) -> Result<(), Fail> {
     let (line, kind) = (7, FaultKind::TooMany);
     for (fault, text) in [
-        (CheckFault::Unread, "cannot read"),
-        (CheckFault::Endless, "cannot read"),
+        (CheckFault::ReadFault(ReadFault::Failed), "cannot read"),
+        (CheckFault::ReadFault(ReadFault::TurnsSpent), "cannot read"),
         (
             CheckFault::Config(LineFault { line, kind }),
             "line 7: TooMany",
         ),
-        (CheckFault::Unwritten, "cannot write"),
-        (CheckFault::NoMemory, "no memory"),
+        (CheckFault::WriteFault, "cannot write"),
     ] {
         assert_eq!(rt; format!(in rt.alloc(); "{fault}")?.as_str(), text);
     }

@@ -1,11 +1,24 @@
-//! Whole runs over memory with low limits: what is counted, and which refusal a count gives.
+//! Whole runs over memory with low limits: what is counted, and which refusal a full count gives.
 
+use crate::run::MOST_TURNS;
 use crate::test_runs::{assert_replies, assert_replies_within};
-use admission::{Limits, STATED};
+use admission::{Limits, STATED_LIMITS};
 use std::test::Fail;
 
 #[test]
-fn the_last_of_six_places_is_for_the_release(rt: HostRuntime) -> Result<(), Fail> {
+fn the_stated_limits(rt: HostRuntime) {
+    let stated = Limits {
+        endpoints: 10_000,
+        calls: 50_000,
+        records: 1_000_000,
+        reloads: 4_096,
+    };
+    assert_eq!(rt; STATED_LIMITS, stated);
+    assert_eq!(rt; MOST_TURNS, 4_294_967_295);
+}
+
+#[test]
+fn keeps_the_last_place_for_the_release(rt: HostRuntime) -> Result<(), Fail> {
     let requests = b"RRQ 1 TERM ta gk-a 10.0.1.1:1720 e164=4085551000\n\
         ARQ 2 ta 1001 9123 640\n\
         ARQ 3 ta 1001 9123 640\n\
@@ -23,11 +36,11 @@ fn the_last_of_six_places_is_for_the_release(rt: HostRuntime) -> Result<(), Fail
         URJ 5 tb undefinedReason record-full\n";
     let five = Limits {
         records: 5,
-        ..STATED
+        ..STATED_LIMITS
     };
     let six = Limits {
         records: 6,
-        ..STATED
+        ..STATED_LIMITS
     };
     assert_replies(&rt, rt.alloc(), requests, replies)?;
     assert_replies_within(&rt, rt.alloc(), six, requests, replies)?;
@@ -36,7 +49,7 @@ fn the_last_of_six_places_is_for_the_release(rt: HostRuntime) -> Result<(), Fail
 }
 
 #[test]
-fn full_endpoints_and_full_calls_go_before_a_full_record(rt: HostRuntime) -> Result<(), Fail> {
+fn full_endpoints_and_full_calls_come_before_a_full_record(rt: HostRuntime) -> Result<(), Fail> {
     let limits = Limits {
         endpoints: 1,
         calls: 1,
@@ -72,11 +85,11 @@ fn full_endpoints_and_full_calls_go_before_a_full_record(rt: HostRuntime) -> Res
 }
 
 #[test]
-fn a_verdict_that_grants_nothing_goes_before_full_counts(rt: HostRuntime) -> Result<(), Fail> {
+fn a_refusal_comes_before_a_full_table(rt: HostRuntime) -> Result<(), Fail> {
     let limits = Limits {
         endpoints: 1,
         calls: 1,
-        ..STATED
+        ..STATED_LIMITS
     };
     assert_replies_within(
         &rt,
@@ -106,7 +119,7 @@ fn a_verdict_that_grants_nothing_goes_before_full_counts(rt: HostRuntime) -> Res
 fn a_granted_admission_needs_two_places(rt: HostRuntime) -> Result<(), Fail> {
     let limits = Limits {
         records: 2,
-        ..STATED
+        ..STATED_LIMITS
     };
     assert_replies_within(
         &rt,
@@ -125,10 +138,10 @@ fn a_granted_admission_needs_two_places(rt: HostRuntime) -> Result<(), Fail> {
 }
 
 #[test]
-fn a_registered_endpoint_registers_again_among_full_endpoints(rt: HostRuntime) -> Result<(), Fail> {
+fn a_registered_endpoint_registers_again_in_a_full_table(rt: HostRuntime) -> Result<(), Fail> {
     let limits = Limits {
         endpoints: 1,
-        ..STATED
+        ..STATED_LIMITS
     };
     assert_replies_within(
         &rt,

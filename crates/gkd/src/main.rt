@@ -1,38 +1,41 @@
-//! `gkd`: the gatekeeper. Without words it reads a configuration and then requests from standard input, and writes a reply
-//! to each request on standard output. `gkd check FILE` says whether a configuration is accepted.
+//! `gkd`: the gatekeeper. Without words it reads a configuration and then requests from standard
+//! input, and writes a reply to each request on standard output. `gkd run FILE` reads the
+//! configuration from a file, and `gkd check FILE` says whether one is accepted.
 #![tactic(auto)]
 
+#[cfg(test)]
+mod bulk_tests;
 pub mod check;
 #[cfg(test)]
 mod check_tests;
 mod command_line;
 #[cfg(test)]
 mod command_line_tests;
+pub mod configuration;
 #[cfg(test)]
 mod configuration_tests;
 #[cfg(test)]
 mod count_tests;
-#[cfg(test)]
-mod ends_tests;
-pub mod faults;
-pub mod file_bytes;
+pub mod laws;
 #[cfg(test)]
 mod registration_tests;
 pub mod run;
 #[cfg(test)]
 mod run_tests;
 #[cfg(test)]
-mod test_ends;
+mod stream_tests;
 #[cfg(test)]
 mod test_runs;
 
-use admission::STATED;
+use admission::STATED_LIMITS;
 use check::CheckFault;
 use clap::error::ErrorKind;
 use command_line::{Task, task_of};
-use command_reader::LineFault;
-use faults::RunFault;
-use gk_streams::Noted;
+use command_reader::{Commands, LineFault};
+use configuration::ConfigurationFault;
+use gk_lines::{Noted, ReadFault};
+use gk_protocol::SessionFault;
+use run::RunFault;
 use std::process::ExitCode;
 use std::{env, fs, io};
 
@@ -42,7 +45,8 @@ fn main(rt: HostRuntime) -> io::Result<ExitCode> {
         Err(error) => return refuse_words(&rt, &error),
     };
     match task_of(rt.alloc(), &words) {
-        Ok(Task::Run) => run_here(&rt),
+        Ok(Task::RunInput) => run_input(&rt),
+        Ok(Task::RunFile { file }) => run_file(&rt, file),
         Ok(Task::Check { file, prints }) => check_file(&rt, file, prints),
         Err(error) => refuse(&rt, &error),
     }
@@ -54,12 +58,12 @@ fn words(rt: &HostRuntime) -> io::Result<Vec<String>> {
     Ok(words)
 }
 
-/// Says why there are no words: they are no UTF-8, or memory was refused.
+/// Says why there are no words: they are not UTF-8, or memory ran out.
 fn refuse_words(rt: &HostRuntime, error: &io::Error) -> io::Result<ExitCode> {
     if error.kind() == io::ErrorKind::OutOfMemory {
         return fail(rt, "no memory");
     }
-    eprintln!(rt; "gkd: the command line is no text")?;
+    eprintln!(rt; "gkd: the command line is not valid UTF-8")?;
     Ok(ExitCode::from(2))
 }
 
@@ -72,17 +76,53 @@ fn refuse(rt: &HostRuntime, error: &clap::Error) -> io::Result<ExitCode> {
     Ok(ExitCode::from(error.exit_code() as u8))
 }
 
-/// A run over standard input and output.
-fn run_here(rt: &HostRuntime) -> io::Result<ExitCode> {
+/// A run over standard input and output, within the stated limits.
+fn run_input(rt: &HostRuntime) -> io::Result<ExitCode> {
     let mut reader = Noted::new(rt.reader());
     let mut writer = Noted::new(io::writer(rt));
-    match run::run_over(rt.alloc(), STATED, &mut reader, &mut writer) {
+    let result = run::run_over(rt.alloc(), STATED_LIMITS, &mut reader, &mut writer);
+    end_run(rt, result)
+}
+
+/// A run under the configuration in a file, over standard input and output, within the stated
+/// limits.
+fn run_file(rt: &HostRuntime, file: &str) -> io::Result<ExitCode> {
+    let commands = match configuration_in(rt, file) {
+        Ok(commands) => commands,
+        Err(ConfigurationFault::Line(fault)) => return refuse_configuration(rt, fault),
+        Err(ConfigurationFault::Read(_)) => return cannot_read(rt, file),
+    };
+    let mut reader = Noted::new(rt.reader());
+    let mut writer = Noted::new(io::writer(rt));
+    let result = run::run_under(
+        rt.alloc(),
+        STATED_LIMITS,
+        commands,
+        &mut reader,
+        &mut writer,
+    );
+    end_run(rt, result)
+}
+
+/// The configuration in a file.
+fn configuration_in(rt: &HostRuntime, file: &str) -> Result<Commands, ConfigurationFault> {
+    let Ok(opened) = fs::open(rt, file) else {
+        return Err(ConfigurationFault::Read(ReadFault::Failed));
+    };
+    let mut reader = Noted::new(opened);
+    check::configuration_of(rt.alloc(), &mut reader)
+}
+
+/// Says why a run ended, if it did not come to the end of its input.
+fn end_run(rt: &HostRuntime, ended: Result<u64, RunFault>) -> io::Result<ExitCode> {
+    match ended {
         Ok(_) => Ok(ExitCode::SUCCESS),
         Err(RunFault::Config(fault)) => refuse_configuration(rt, fault),
-        Err(fault) => {
-            eprintln!(rt; "gkd: {fault}")?;
-            Ok(ExitCode::from(1))
+        Err(RunFault::NoMemory | RunFault::Session(SessionFault::NoMemory)) => {
+            fail(rt, "no memory")
         }
+        Err(RunFault::Session(_)) => fail(rt, "session fault"),
+        Err(RunFault::BadLimits) => fail(rt, "bad limits"),
     }
 }
 
@@ -96,9 +136,8 @@ fn check_file(rt: &HostRuntime, file: &str, prints: bool) -> io::Result<ExitCode
     match check::check(rt.alloc(), &mut reader, &mut writer, prints) {
         Ok(()) => Ok(ExitCode::SUCCESS),
         Err(CheckFault::Config(fault)) => refuse_configuration(rt, fault),
-        Err(CheckFault::Unread | CheckFault::Endless) => cannot_read(rt, file),
-        Err(CheckFault::Unwritten) => fail(rt, "cannot write standard output"),
-        Err(CheckFault::NoMemory) => fail(rt, "no memory"),
+        Err(CheckFault::ReadFault(_)) => cannot_read(rt, file),
+        Err(CheckFault::WriteFault) => fail(rt, "cannot write standard output"),
     }
 }
 

@@ -4,7 +4,7 @@ use crate::test_runs::assert_replies;
 use std::test::Fail;
 
 #[test]
-fn registers_in_order_of_refusals(rt: HostRuntime) -> Result<(), Fail> {
+fn refuses_registrations_in_order(rt: HostRuntime) -> Result<(), Fail> {
     assert_replies(
         &rt,
         rt.alloc(),
@@ -12,22 +12,24 @@ fn registers_in_order_of_refusals(rt: HostRuntime) -> Result<(), Fail> {
         RRQ 2 TERM tb gk-x 10.0.1.9:1720\n\
         RRQ 3 TERM tb - 10.0.1.9 e164=5551000\n\
         RRQ 4 TERM ta gk-a 10.0.1.8\n\
-        RRQ 5 TERM ta gk-a 10.0.1.1 e164=5551001\n\
-        ARQ 6 ta 1001 5551000 640\n\
-        ARQ 7 ta 1002 5551001 640\n\
-        RRQ 8 GW tc - 10.0.1.7 e164=7 e164=7\n\
-        ARQ 9 ta 1003 7 0\n\
-        ARQ 10 nobody 1004 7 0\n",
+        RRQ 5 TERM ta gk-q 10.0.1.8 e164=5551000\n\
+        RRQ 6 TERM ta gk-a 10.0.1.1 e164=5551001\n\
+        ARQ 7 ta 1001 5551000 640\n\
+        ARQ 8 ta 1002 5551001 640\n\
+        RRQ 9 GW tc - 10.0.1.7 e164=7 e164=7\n\
+        ARQ 10 ta 1003 7 0\n\
+        ARQ 11 nobody 1004 7 0\n",
         "RCF 1 ta gk-a\n\
         RRJ 2 tb undefinedReason unknown-zone\n\
         RRJ 3 tb duplicateAlias e164\n\
         RRJ 4 ta duplicateAlias id\n\
-        RCF 5 ta gk-a\n\
-        ARJ 6 1001 calledPartyNotRegistered no-default\n\
-        ACF 7 1002 TERM ta 10.0.1.1:1720 640\n\
-        RCF 8 tc gk-a\n\
-        ACF 9 1003 GW tc 10.0.1.7:1720 0\n\
-        ARJ 10 1004 callerNotRegistered\n",
+        RRJ 5 ta undefinedReason unknown-zone\n\
+        RCF 6 ta gk-a\n\
+        ARJ 7 1001 calledPartyNotRegistered no-default\n\
+        ACF 8 1002 TERM ta 10.0.1.1:1720 640\n\
+        RCF 9 tc gk-a\n\
+        ACF 10 1003 GW tc 10.0.1.7:1720 0\n\
+        ARJ 11 1004 callerNotRegistered\n",
     )?;
     Ok(())
 }

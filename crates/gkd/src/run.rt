@@ -1,142 +1,191 @@
 //! A run: a configuration, and then requests.
 
-ghost use Rattle.std.specs.Prelude.{◌≡◌, ◌≢◌, IfErr, ◌≤◌, ◌↔◌, true, false, Err, IfOk, OnOk, IsErrOf};
-ghost use Rattle.std.specs.Io.KnownBytes.{IsAtEnd};
-ghost use Rattle.gk_terms.specs.Text.{words_of};
-ghost use Rattle.gk_protocol.specs.SessionNotes.{NotesRead};
-ghost use Rattle.gkd.specs.RunNotes.{RunNotesRead, RunNotesWrite};
-ghost use Rattle.gk_protocol.specs.Input.{work_left, left_of, AtEndIfEnded};
+ghost use Rattle.std.specs.Prelude.{◌≡◌, ◌≢◌, ◌+◌, ◌^◌, ◌<◌, ◌≤◌, ◌↔◌, ℕ, List, true, false, Err, IfOk, IfErr, OnOk, IsErrOf};
+ghost use Rattle.std.specs.Io.KnownBytes.{Appends, IsAtEnd};
+ghost use Rattle.gk_lines.specs.Streams.{NotesIf, KnownStep};
 ghost use Rattle.admission.specs.Limits.{are_limits};
-ghost use Rattle.gkd.specs.Run.{ends_configuration, is_end_alone as is_end_alone_of, ContinuesWith, ReadsOut, ReadsConfiguration, WritesRun, IsRefusedBy, IsBehindConfiguration, is_before_requests};
+ghost use Rattle.gk_protocol.specs.CoreAnswers.{MayAnswer};
+ghost use Rattle.gk_protocol.specs.Session.{Ends, is_read_fault, is_write_fault};
+ghost use Rattle.gkd.specs.Run as Spec;
 
-use crate::faults::RunFault;
-use admission::{Core, Limits};
-use command_reader::{Commands, Draft, LineFault};
+use crate::configuration::{ConfigurationFault, Until, read_configuration};
+use admission::{Core, Limits, OpeningFault};
+use command_reader::{Commands, LineFault};
 use compiler::Tables;
-use gk_protocol::session::session;
-use gk_protocol::{Input, Line, SessionFault};
-use gk_streams::{Sink, Source};
-use gk_terms::limits::MOST_LINE_BYTES;
-use gk_terms::words::Words;
-use std::alloc::Global;
+use gk_lines::{LineReader, Sink, Source};
+use gk_protocol::{SessionFault, session, session_from};
+use std::alloc::{AllocError, Global};
+use thiserror::Error;
 
-/// How often a run may call its reader.
-const MOST_TURNS: u32 = u32::MAX;
+/// How often a run may call its reader: the stated limit.
+pub const MOST_TURNS: u32 = 4_294_967_295;
 
-/// Reads a configuration up to the first line whose only word is `end`, or to the end of the input, and then answers
-/// the requests that follow to the end of the input. The answer is how many replies were written.
+/// Why a run ended before the end of its input.
+#[derive(Clone, Copy, Debug, PartialEq, Eq, Error)]
+pub enum RunFault {
+    /// A limit is 0 or above the stated one. The reader was not touched.
+    #[error("bad limits")]
+    BadLimits,
+    /// The configuration is refused. Nothing was written.
+    #[error("{0}")]
+    Config(LineFault),
+    /// The session ended at a fault.
+    #[error("{0}")]
+    Session(SessionFault),
+    /// Memory ran out between the configuration and the requests. Nothing was written.
+    #[error("no memory")]
+    NoMemory,
+}
+
+impl From<SessionFault> for RunFault {
+    ghost use Rattle.std.specs.Prelude.{◌≡◌};
+    ghost use Rattle.gkd.specs.declared.run.RunFault.TheVariants.{Session};
+
+    ghost from_gives = { λ fault run. run ≡ Session fault };
+
+    fn from(fault: SessionFault) -> RunFault {
+        RunFault::Session(fault)
+    }
+}
+
+impl From<ConfigurationFault> for RunFault {
+    ghost use Rattle.std.specs.Prelude.{◌≡◌};
+    ghost use Rattle.gkd.specs.Run.{run_fault_of};
+
+    ghost from_gives = { λ fault run. run ≡ run_fault_of fault };
+
+    fn from(fault: ConfigurationFault) -> RunFault {
+        match fault {
+            ConfigurationFault::Line(fault) => RunFault::Config(fault),
+            ConfigurationFault::Read(fault) => RunFault::Session(SessionFault::from(fault)),
+        }
+    }
+}
+
+impl From<OpeningFault> for RunFault {
+    ghost use Rattle.std.specs.Prelude.{◌≡◌};
+    ghost use Rattle.gkd.specs.Run.{opening_run_fault_of};
+
+    ghost from_gives = { λ fault run. run ≡ opening_run_fault_of fault };
+
+    fn from(fault: OpeningFault) -> RunFault {
+        match fault {
+            OpeningFault::BadLimits => RunFault::BadLimits,
+            OpeningFault::NoMemory => RunFault::NoMemory,
+        }
+    }
+}
+
+impl From<AllocError> for RunFault {
+    ghost use Rattle.std.specs.Prelude.{◌≡◌};
+    ghost use Rattle.gkd.specs.declared.run.RunFault.TheVariants.{NoMemory};
+
+    ghost from_gives = { λ _ run. run ≡ NoMemory };
+
+    fn from(_refused: AllocError) -> RunFault {
+        RunFault::NoMemory
+    }
+}
+
+/// Reads a configuration up to the first line whose only word is `end`, or to the end of the input,
+/// and then answers the requests that follow to the end of the input. The answer is how many
+/// replies were written. The reader is called at most 4,294,967,295 times, for the configuration
+/// and the requests together.
 ///
-/// `BadLimits` comes before the reader is touched. `Config` comes once the configuration's last line was read; a
-/// fault of reading before that is `Session`. Where the answer is one of these two or `NoMemory`, nothing was written.
-/// The configuration ends with the first line of at most 512 bytes whose only word is `end`, or with the input.
+/// `BadLimits` comes before the reader is touched. `Config` comes once the configuration's last
+/// line was read; a fault of reading before that is `Session`. If the answer is one of these two or
+/// `NoMemory`, nothing was written. The configuration ends with the first line of at most 512 bytes
+/// whose only word is `end`, or with the input.
 pub fn run_over<R: Source, W: Sink>(
     alloc: Global,
     limits: Limits,
     reader: &mut R,
     writer: &mut W,
 ) -> Result<u64, RunFault>
-    // Ok comes only at the end of the input. Then the configuration was accepted, and what was written is the replies
-    // of a run of the machine to the requests behind it, each in its order, and nothing else, however the reader cut
-    // the bytes into pieces. The number is that of the replies.
+    // What was written, by how the run ended, however the reader cut the bytes into pieces.
+    ensures written { KnownStep (R.remaining reader.old) (R.remaining reader.new) (λ bytes rest.
+        (text : List ℕ)
+        × Spec.RunEnds MayAnswer (Spec.OpensWithin limits) bytes rest text result
+        × Appends (W.contents writer.old) (W.contents writer.new) text) }
     ensures end { OnOk result (IsAtEnd (R.remaining reader.new)) }
-    ensures written { IfOk result (λ count. WritesRun limits (R.remaining reader.old) (W.contents writer.old) (W.contents writer.new) count) }
+    ensures buffered { result ≢ Err (RunFault.Session SessionFault.NoMemory) }
+    ensures unwritten { (fault : _) → result ≡ Err fault → Spec.is_before_requests fault ≡ true
+        → writer.new ≡ writer.old }
 
-    // `Config` names the configuration's first fault, or want of memory, once its last line was read. Nothing was
-    // written then, nor where the limits are bad or memory was refused between the configuration and the requests.
-    ensures config { (fault : _) → result ≡ Err (RunFault.Config fault) → IsRefusedBy (R.remaining reader.old) fault }
-    ensures config_read { (fault : _) → result ≡ Err (RunFault.Config fault) → IsBehindConfiguration (R.remaining reader.old) (R.remaining reader.new) }
-    ensures unwritten { (fault : _) → result ≡ Err fault → is_before_requests fault ≡ true → writer.new ≡ writer.old }
+    // For streams that had not failed before, ReadFault comes exactly if the reader failed in this
+    // run, and WriteFault exactly if the writer did.
+    ensures reader_noted { NotesIf Spec.is_run_read_fault (R.has_failed reader.old)
+        (R.has_failed reader.new) result }
+    ensures writer_noted { NotesIf Spec.is_run_write_fault (W.has_failed writer.old)
+        (W.has_failed writer.new) result }
 
-    // For ends that had not failed before, ReadFault comes exactly where the reader failed in this run, and WriteFault
-    // exactly where the writer did.
-    ensures reader_noted { RunNotesRead (R.has_failed reader.old) (R.has_failed reader.new) result }
-    ensures writer_noted { RunNotesWrite (W.has_failed writer.old) (W.has_failed writer.new) result }
-
-    // `BadLimits` comes exactly for limits outside their ranges, and then the reader and the writer are as they were.
+    // `BadLimits` comes exactly for limits outside their ranges, and then the reader and the writer
+    // are as they were.
     ensures limits { IsErrOf result RunFault.BadLimits ↔ (are_limits limits ≡ false) }
-    ensures untouched { are_limits limits ≡ false → (reader.new ≡ reader.old) × (writer.new ≡ writer.old) }
+    ensures untouched { are_limits limits ≡ false → (reader.new ≡ reader.old)
+        × (writer.new ≡ writer.old) }
+
+    // One turn is one call of the reader.
+    ensures turns { R.calls reader.old + 4294967295 < 2 ^ 64
+        → R.calls reader.new ≤ R.calls reader.old + 4294967295 }
+    ensures turns_spent { result ≡ Err (RunFault.Session SessionFault.TurnsSpent)
+        → R.calls reader.old + 4294967295 < 2 ^ 64 → R.calls reader.new
+        ≡ R.calls reader.old + 4294967295 }
 {
     if !limits.are_good() {
         return Err(RunFault::BadLimits);
     }
-    let mut input = Input::new(MOST_TURNS);
-    let commands = match configuration(alloc, &mut input, reader)? {
-        Ok(commands) => commands,
-        Err(fault) => return Err(RunFault::Config(fault)),
-    };
-    let tables = Tables::compile(alloc, commands)?;
-    let mut core = Core::new(alloc, tables, limits)?;
-    let replies = session(alloc, &mut input, reader, writer, &mut core)?;
+    let mut lines = LineReader::new(MOST_TURNS);
+    let commands = read_configuration(alloc, &mut lines, reader, Until::EndLine)?;
+    let mut core = opened(alloc, commands, limits)?;
+    let replies = session_from(alloc, &mut lines, reader, writer, &mut core)?;
     Ok(replies)
 }
 
-/// The configuration at the front of the input, or its first fault. All its lines are read in both cases.
-fn configuration<R: Source>(
+/// Answers the requests that the reader gives to its end, under a configuration that was read
+/// before. `BadLimits` and `NoMemory` come before the reader is touched; every other fault is
+/// `Session`.
+pub fn run_under<R: Source, W: Sink>(
     alloc: Global,
-    input: &mut Input,
+    limits: Limits,
+    commands: Commands,
     reader: &mut R,
-) -> Result<Result<Commands, LineFault>, SessionFault>
-    requires { AtEndIfEnded input.old (R.remaining reader.old) }
-    ensures read { IfOk result (λ answer. ReadsConfiguration (left_of input.old (R.remaining reader.old)) (left_of input.new (R.remaining reader.new)) answer) }
-    ensures work { work_left input.new ≤ work_left input.old }
-    ensures ended { AtEndIfEnded input.new (R.remaining reader.new) }
-    ensures noted { NotesRead (R.has_failed reader.old) (R.has_failed reader.new) result }
-    ensures reader_alone { IfErr result (λ fault. fault ≢ SessionFault.WriteFault) }
+    writer: &mut W,
+) -> Result<u64, RunFault>
+    ensures written { KnownStep (R.remaining reader.old) (R.remaining reader.new) (λ bytes rest.
+        (text : List ℕ)
+        × Spec.ServesUnder MayAnswer (Spec.opened commands limits) bytes rest text result
+        × Appends (W.contents writer.old) (W.contents writer.new) text) }
+    ensures end { OnOk result (IsAtEnd (R.remaining reader.new)) }
+    ensures buffered { result ≢ Err (RunFault.Session SessionFault.NoMemory) }
+    ensures untouched { (fault : _) → result ≡ Err fault → Spec.is_before_requests fault ≡ true
+        → (reader.new ≡ reader.old) × (writer.new ≡ writer.old) }
+    ensures reader_noted { NotesIf Spec.is_run_read_fault (R.has_failed reader.old)
+        (R.has_failed reader.new) result }
+    ensures writer_noted { NotesIf Spec.is_run_write_fault (W.has_failed writer.old)
+        (W.has_failed writer.new) result }
+    ensures limits { IsErrOf result RunFault.BadLimits ↔ (are_limits limits ≡ false) }
+    ensures turns { R.calls reader.old + 4294967295 < 2 ^ 64
+        → R.calls reader.new ≤ R.calls reader.old + 4294967295 }
+    ensures turns_spent { result ≡ Err (RunFault.Session SessionFault.TurnsSpent)
+        → R.calls reader.old + 4294967295 < 2 ^ 64 → R.calls reader.new
+        ≡ R.calls reader.old + 4294967295 }
 {
-    match configuration_lines(alloc, input, reader)? {
-        Ok(draft) => Ok(draft.finish()),
-        Err(fault) => Ok(Err(fault)),
+    if !limits.are_good() {
+        return Err(RunFault::BadLimits);
     }
+    let mut core = opened(alloc, commands, limits)?;
+    let replies = session(alloc, reader, writer, &mut core, MOST_TURNS)?;
+    Ok(replies)
 }
 
-/// The lines of the configuration, or the first fault that a line has for itself. All its lines are read in both cases.
-fn configuration_lines<R: Source>(
-    alloc: Global,
-    input: &mut Input,
-    reader: &mut R,
-) -> Result<Result<Draft, LineFault>, SessionFault>
-    requires { AtEndIfEnded input.old (R.remaining reader.old) }
-    ensures read { IfOk result (λ read. ReadsOut (left_of input.old (R.remaining reader.old)) (left_of input.new (R.remaining reader.new)) read) }
-    ensures work { work_left input.new ≤ work_left input.old }
-    ensures ended { AtEndIfEnded input.new (R.remaining reader.new) }
-    ensures noted { NotesRead (R.has_failed reader.old) (R.has_failed reader.new) result }
-    ensures reader_alone { IfErr result (λ fault. fault ≢ SessionFault.WriteFault) }
+/// A core in its opening state under a configuration.
+fn opened(alloc: Global, commands: Commands, limits: Limits) -> Result<Core, RunFault>
+    requires { are_limits limits ≡ true }
+    ensures opened { IfOk result (λ core. core ≡ Spec.opened commands limits) }
+    ensures fault { IfErr result (λ fault. fault ≡ RunFault.NoMemory) }
 {
-    let mut line = Line::new();
-    let mut read = Ok(Draft::new(alloc));
-    while input.next_line(reader, &mut line)? {
-        read = with_line(read, line.content());
-        if is_end(line.content()) {
-            return Ok(read);
-        }
-    }
-    Ok(read)
-}
-
-#[tactic(auto, using(crate::proofs::RunLemmas::continues_with))]
-/// What was read, with one more line; the first fault stays.
-fn with_line(read: Result<Draft, LineFault>, line: &[u8]) -> Result<Draft, LineFault>
-    ensures { ContinuesWith read line.now result }
-{
-    match read {
-        Ok(draft) => draft.with_line(line),
-        Err(fault) => Err(fault),
-    }
-}
-
-/// Whether a line ends the configuration: it has at most 512 bytes, and its only word is `end`.
-fn is_end(line: &[u8]) -> bool
-    ensures { result ≡ ends_configuration line.now }
-{
-    line.len() <= MOST_LINE_BYTES && is_end_alone(&mut Words::of(line))
-}
-
-/// Whether the only word is `end`.
-fn is_end_alone(words: &mut Words<'_>) -> bool
-    ensures { result ≡ is_end_alone_of (words_of words.old) }
-{
-    match words.next() {
-        Some(b"end") => words.next().is_none(),
-        _ => false,
-    }
+    let tables = Tables::compile(alloc, commands)?;
+    let core = Core::new(alloc, tables, limits)?;
+    Ok(core)
 }

@@ -1,13 +1,13 @@
-//! What the tests over whole runs share.
+//! What the tests of whole runs share.
 
-use crate::faults::RunFault;
-use crate::run::run_over;
-use admission::{Limits, STATED};
-use gk_streams::Noted;
+use crate::run::{RunFault, run_over};
+use admission::{Limits, STATED_LIMITS};
+use gk_lines::Noted;
+use gk_lines::fakes::Piecewise;
 use std::alloc::{AllocError, Global};
 use std::process::Abort;
 
-/// Two zones: `gk-a` here, and `gk-x` of another gatekeeper.
+/// Two zones: `gk-a` is local, and `gk-x` belongs to another gatekeeper.
 pub const CONFIGURATION: &str = "zone local gk-a example.com\n\
     zone remote gk-x example.com 10.9.0.1\n\
     zone prefix gk-a 408*\n\
@@ -26,64 +26,53 @@ pub const REPLIES: &str = "RCF 1 ta gk-a\n\
     ACF 3 1002 ZONE gk-x 10.9.0.1:1719 640\n\
     ARJ 4 1003 calledPartyNotRegistered no-default\n";
 
-/// Limits of which one is 0 or above the stated one.
-pub const BAD_LIMITS: [Limits; 8] = [
-    Limits {
-        endpoints: 0,
-        ..STATED
-    },
-    Limits { calls: 0, ..STATED },
-    Limits {
-        records: 0,
-        ..STATED
-    },
-    Limits {
-        reloads: 0,
-        ..STATED
-    },
-    Limits {
-        endpoints: 10_001,
-        ..STATED
-    },
-    Limits {
-        calls: 50_001,
-        ..STATED
-    },
-    Limits {
-        records: 1_000_001,
-        ..STATED
-    },
-    Limits {
-        reloads: 4_097,
-        ..STATED
-    },
-];
+/// How many bytes a call of the reader and a call of the writer move at most: all that they are asked for.
+pub const WHOLE: (usize, usize) = (10_000, 10_000);
 
-/// What a run over this input answers, and what it wrote.
-pub fn run_of(alloc: Global, input: &[u8]) -> (Result<u64, RunFault>, Vec<u8>) {
-    run_within(alloc, STATED, input)
+/// The same, and as many as cut an input and its replies anywhere.
+const PIECES: [(usize, usize); 5] = [(1, 1), (2, 1), (3, 1), (7, 1), WHOLE];
+
+/// How many lines the text has.
+pub fn lines_in(text: &[u8]) -> u64 {
+    text.iter().filter(|byte| **byte == b'\n').count() as u64
 }
 
-/// What a run with these limits over this input answers, and what it wrote.
-pub fn run_within(alloc: Global, limits: Limits, input: &[u8]) -> (Result<u64, RunFault>, Vec<u8>) {
+/// Asserts that this input is answered with this text, however it is cut into pieces.
+pub fn assert_run(rt: &impl Abort, alloc: Global, limits: Limits, input: &[u8], text: &[u8]) {
+    for pieces in PIECES {
+        assert_run_in_pieces(rt, alloc, limits, pieces, input, text);
+    }
+}
+
+/// Asserts that this input is answered with this text if it comes, and goes, in pieces of at most so many bytes.
+pub fn assert_run_in_pieces(
+    rt: &impl Abort,
+    alloc: Global,
+    limits: Limits,
+    pieces: (usize, usize),
+    input: &[u8],
+    text: &[u8],
+) {
+    let (most_read, most_written) = pieces;
     let mut output = Vec::new(alloc);
-    let mut reader = Noted::new(input);
-    let mut writer = Noted::new(&mut output);
+    let mut reader = Noted::new(Piecewise::new(input, most_read));
+    let mut writer = Noted::new(Piecewise::new(&mut output, most_written));
     let result = run_over(alloc, limits, &mut reader, &mut writer);
-    (result, output)
+    assert_eq!(rt; output.as_slice(), text, "{pieces:?} of {input:?}");
+    assert_eq!(rt; result, Ok(lines_in(text)), "{pieces:?} of {input:?}");
 }
 
-/// Asserts that requests behind the configuration get these replies.
+/// Asserts that these requests after the configuration get these replies.
 pub fn assert_replies(
     rt: &impl Abort,
     alloc: Global,
     requests: &[u8],
     replies: &str,
 ) -> Result<(), AllocError> {
-    assert_replies_within(rt, alloc, STATED, requests, replies)
+    assert_replies_within(rt, alloc, STATED_LIMITS, requests, replies)
 }
 
-/// Asserts that requests behind the configuration get these replies in a run with these limits.
+/// Asserts that these requests after the configuration get these replies in a run with these limits.
 pub fn assert_replies_within(
     rt: &impl Abort,
     alloc: Global,
@@ -93,13 +82,16 @@ pub fn assert_replies_within(
 ) -> Result<(), AllocError> {
     let mut input = Vec::from_slice(alloc, CONFIGURATION.as_bytes())?;
     input.extend_from_slice(requests)?;
-    let (result, output) = run_within(alloc, limits, &input);
-    let count = replies
-        .as_bytes()
-        .iter()
-        .filter(|byte| **byte == b'\n')
-        .count();
-    assert_eq!(rt; output.as_slice(), replies.as_bytes(), "{requests:?}");
-    assert_eq!(rt; result, Ok(count as u64));
+    assert_run(rt, alloc, limits, &input, replies.as_bytes());
     Ok(())
+}
+
+/// Asserts that a run over this input ends with this fault before it writes anything.
+pub fn assert_refused(rt: &impl Abort, alloc: Global, input: &[u8], fault: RunFault) {
+    let mut output = Vec::new(alloc);
+    let mut reader = Noted::new(input);
+    let mut writer = Noted::new(&mut output);
+    let result = run_over(alloc, STATED_LIMITS, &mut reader, &mut writer);
+    assert_eq!(rt; result, Err(fault), "{input:?}");
+    assert!(rt; output.is_empty(), "{input:?}");
 }

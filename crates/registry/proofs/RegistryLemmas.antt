@@ -1,4 +1,4 @@
--- The maps stand for the registered endpoints: at each look-up, and behind each change.
+-- The maps stand for the registered endpoints: at each look-up, and after each change.
 use Rattle.std.proofs.Common.{◌≡◌, ℕ, suc, ◌+◌, ◌<◌, Bool, true, false, not, cond, ◌&&◌, ◌||◌, List, [], ◌∷◌, ◌++◌, length, take, drop, get_or, find, refl, sym, ap, subst, ◌∙◌, arith}
 use native.Mathlib.Numerals.{unary_clauses}
 use Rattle.std.specs.Prelude.{Option, Some, None, is_some, bytes_eq, if◌then◌else◌}
@@ -16,7 +16,7 @@ use Rattle.indexmap.specs.IndexMap.{insert_entry}
 use Rattle.gk_terms.proofs.ChoiceLemmas.{find_passes}
 use Rattle.registry.specs.Endpoint.{EndpointParts, has_alias, share_alias}
 use Rattle.registry.specs.Registration.{has_id, endpoint_of, by_alias, is_registered, same_address, id_is_taken, alias_is_taken, with_endpoint, without_endpoint}
-use Rattle.registry.specs.RegistryIndex.{Entries, Owners, entry_of, owner_of, is_owner, is_another, found_with, aliases_of, lists, AreOwnersOf, Forgets, Notes, IsIndexed}
+use Rattle.registry.specs.RegistryIndex.{Entries, Owners, kept_endpoint_of, owner_of, is_owner, is_another, found_with, aliases_of, lists, AreOwnersOf, Forgets, LeadTo, IsIndexed}
 
 -- ---- lists
 -- whether one is found
@@ -24,28 +24,34 @@ pub is_some-find : {X : Type 0} (p : X → Bool) (xs : List X) → is_some (find
 is_some-find p [] = refl
 is_some-find p (x ∷ xs) = by (p x) (is_some-find p xs)
   where
-    by : (b : Bool) → is_some (find p xs) ≡ list_any p xs → is_some (cond b (Some x) (find p xs)) ≡ (b || list_any p xs)
+    by : (b : Bool) → is_some (find p xs) ≡ list_any p xs
+        → is_some (cond b (Some x) (find p xs)) ≡ (b || list_any p xs)
     by true rest = refl
     by false rest = rest
 
-found-some : {X : Type 0} (p : X → Bool) (xs : List X) (x : X) → find p xs ≡ Some x → list_any p xs ≡ true
+found-some : {X : Type 0} (p : X → Bool) (xs : List X) (x : X) → find p xs ≡ Some x
+    → list_any p xs ≡ true
 found-some p xs x h = sym (is_some-find p xs) ∙ ap is_some h
 
 found-none : {X : Type 0} (p : X → Bool) (xs : List X) → find p xs ≡ None → list_any p xs ≡ false
 found-none p xs h = sym (is_some-find p xs) ∙ ap is_some h
 
 -- what one test finds passes no other test that finds nothing
-missed : {X : Type 0} (p q : X → Bool) (xs : List X) (x : X) → find p xs ≡ Some x → find q xs ≡ None → q x ≡ false
+missed : {X : Type 0} (p q : X → Bool) (xs : List X) (x : X) → find p xs ≡ Some x → find q xs ≡ None
+    → q x ≡ false
 missed p q [] x h k = absurd (none-some x h)
 missed p q (y ∷ xs) x h k = by (p y) (q y) refl h k (missed p q xs x)
   where
-    by : (b c : Bool) → q y ≡ c → cond b (Some y) (find p xs) ≡ Some x → cond c (Some y) (find q xs) ≡ None → (find p xs ≡ Some x → find q xs ≡ None → q x ≡ false) → q x ≡ false
+    by : (b c : Bool) → q y ≡ c → cond b (Some y) (find p xs) ≡ Some x
+        → cond c (Some y) (find q xs) ≡ None → (find p xs ≡ Some x → find q xs ≡ None → q x ≡ false)
+        → q x ≡ false
     by b true f h k rest = absurd (none-some y (sym k))
     by true false f h k rest = ap q (sym (same_Some y x h)) ∙ f
     by false false f h k rest = rest h k
 
 -- what one test finds passes another test, so that one passes
-also_passes : {X : Type 0} (p q : X → Bool) (xs : List X) (x : X) → find p xs ≡ Some x → q x ≡ true → list_any q xs ≡ true
+also_passes : {X : Type 0} (p q : X → Bool) (xs : List X) (x : X) → find p xs ≡ Some x → q x ≡ true
+    → list_any q xs ≡ true
 also_passes p q xs x h k = by (find q xs) refl
   where
     by : (found : Option _) → find q xs ≡ found → list_any q xs ≡ true
@@ -56,71 +62,100 @@ also_passes p q xs x h k = by (find q xs) refl
 abbrev pub Keyed : Entries → Type 0
 Keyed entries = AllByRecursion (λ e. e.0 ≡ e.1.id) entries
 
-same_id : (id : List ℕ) (e : List ℕ × EndpointParts) → e.0 ≡ e.1.id → bytes_eq id e.0 ≡ has_id id e.1
+same_id : (id : List ℕ) (e : List ℕ × EndpointParts) → e.0 ≡ e.1.id
+    → bytes_eq id e.0 ≡ has_id id e.1
 same_id id e h = ap (bytes_eq id) h ∙ nat_list_eq_equiv.symm id e.1.id
 
-pub entry_found : (id : List ℕ) (entries : Entries) → Keyed entries → entry_of entries id ≡ endpoint_of (values_of entries) id
+pub entry_found : (id : List ℕ) (entries : Entries) → Keyed entries
+    → kept_endpoint_of entries id ≡ endpoint_of (values_of entries) id
 entry_found id [] h = refl
 entry_found id (e ∷ es) h = λ j. cond (same_id id e h.0 j) (Some e.1) (entry_found id es h.1 j)
 
-pub entry_registered : (id : List ℕ) (entries : Entries) → Keyed entries → is_some (entry_of entries id) ≡ is_registered (values_of entries) id
-entry_registered id entries h = ap is_some (entry_found id entries h) ∙ is_some-find (has_id id) (values_of entries)
+pub entry_registered : (id : List ℕ) (entries : Entries) → Keyed entries
+    → is_some (kept_endpoint_of entries id) ≡ is_registered (values_of entries) id
+entry_registered id entries h =
+    ap is_some (entry_found id entries h)
+    ∙ is_some-find (has_id id) (values_of entries)
 
 -- what is found is the entry of its own ID
-pub own_entry : (p : EndpointParts → Bool) (entries : Entries) → Keyed entries → IsDistinct bytes_eq (keys_of entries) → (f : EndpointParts)
-    → find p (values_of entries) ≡ Some f → entry_of entries f.id ≡ Some f
+pub own_entry : (p : EndpointParts → Bool) (entries : Entries) → Keyed entries
+    → IsDistinct bytes_eq (keys_of entries) → (f : EndpointParts)
+    → find p (values_of entries) ≡ Some f → kept_endpoint_of entries f.id ≡ Some f
 own_entry p [] h d f found = absurd (none-some f found)
-own_entry p (e ∷ es) h d f found = by (p e.1) found (own_entry p es h.1 (IsDistinct-tail bytes_eq e.0 (keys_of es) d) f)
+own_entry p (e ∷ es) h d f found =
+    by (p e.1) found (own_entry p es h.1 (IsDistinct-tail bytes_eq e.0 (keys_of es) d) f)
   where
-    later : (b : Bool) → bytes_eq f.id e.0 ≡ b → entry_of es f.id ≡ Some f → cond b (Some e.1) (entry_of es f.id) ≡ Some f
-    later true q rest = absurd (none-some f (sym (lookup-none (bytes_eq f.id) es (none_past_head nat_list_eq_equiv f.id e es d q)) ∙ rest))
+    later : (b : Bool) → bytes_eq f.id e.0 ≡ b → kept_endpoint_of es f.id ≡ Some f
+        → cond b (Some e.1) (kept_endpoint_of es f.id) ≡ Some f
+    later true q rest =
+        absurd (none-some f
+        (sym (lookup-none (bytes_eq f.id) es (none_past_head nat_list_eq_equiv f.id e es d q))
+        ∙ rest))
     later false q rest = rest
 
-    by : (b : Bool) → cond b (Some e.1) (find p (values_of es)) ≡ Some f → (find p (values_of es) ≡ Some f → entry_of es f.id ≡ Some f) → cond (bytes_eq f.id e.0) (Some e.1) (entry_of es f.id) ≡ Some f
+    by : (b : Bool) → cond b (Some e.1) (find p (values_of es)) ≡ Some f
+        → (find p (values_of es) ≡ Some f → kept_endpoint_of es f.id ≡ Some f)
+        → cond (bytes_eq f.id e.0) (Some e.1) (kept_endpoint_of es f.id) ≡ Some f
     by true found rest =
         let same = same_Some e.1 f found in
-        let here : bytes_eq f.id e.0 ≡ true = same_id f.id e h.0 ∙ ap (λ g. bytes_eq g.id f.id) same ∙ nat_list_eq_equiv.refl f.id in
-        ap (λ b. cond b (Some e.1) (entry_of es f.id)) here ∙ found
+        let here : bytes_eq f.id e.0 ≡ true = same_id f.id e h.0 ∙ ap (λ g. bytes_eq g.id f.id) same
+        ∙ nat_list_eq_equiv.refl f.id in
+        ap (λ b. cond b (Some e.1) (kept_endpoint_of es f.id)) here ∙ found
     by false found rest = later (bytes_eq f.id e.0) refl (rest found)
 
 -- an entry passes no test that finds nothing
-entry_missed : (p : EndpointParts → Bool) (entries : Entries) (id : List ℕ) (f : EndpointParts) → entry_of entries id ≡ Some f → find p (values_of entries) ≡ None → p f ≡ false
+entry_missed : (p : EndpointParts → Bool) (entries : Entries) (id : List ℕ) (f : EndpointParts)
+    → kept_endpoint_of entries id ≡ Some f → find p (values_of entries) ≡ None → p f ≡ false
 entry_missed p [] id f h k = absurd (none-some f h)
 entry_missed p (e ∷ es) id f h k = by (bytes_eq id e.0) (p e.1) refl h k (entry_missed p es id f)
   where
-    by : (b c : Bool) → p e.1 ≡ c → cond b (Some e.1) (entry_of es id) ≡ Some f → cond c (Some e.1) (find p (values_of es)) ≡ None
-        → (entry_of es id ≡ Some f → find p (values_of es) ≡ None → p f ≡ false) → p f ≡ false
+    by : (b c : Bool) → p e.1 ≡ c → cond b (Some e.1) (kept_endpoint_of es id) ≡ Some f
+        → cond c (Some e.1) (find p (values_of es)) ≡ None
+        → (kept_endpoint_of es id ≡ Some f → find p (values_of es) ≡ None → p f ≡ false)
+        → p f ≡ false
     by b true q h k rest = absurd (none-some e.1 (sym k))
     by true false q h k rest = ap p (sym (same_Some e.1 f h)) ∙ q
     by false false q h k rest = rest h k
 
 -- an entry has the ID by which it was found
-entry_id : (entries : Entries) (id : List ℕ) (f : EndpointParts) → Keyed entries → entry_of entries id ≡ Some f → bytes_eq f.id id ≡ true
-entry_id entries id f h found = find_passes (has_id id) (values_of entries) f (sym (entry_found id entries h) ∙ found)
+entry_id : (entries : Entries) (id : List ℕ) (f : EndpointParts) → Keyed entries
+    → kept_endpoint_of entries id ≡ Some f → bytes_eq f.id id ≡ true
+entry_id entries id f h found =
+    find_passes (has_id id) (values_of entries) f (sym (entry_found id entries h) ∙ found)
 
 -- ---- removal
-none_left : (id : List ℕ) (entries : Entries) → Keyed entries → NonePasses (bytes_eq id) entries → without_endpoint (values_of entries) id ≡ values_of entries
+none_left : (id : List ℕ) (entries : Entries) → Keyed entries → NonePasses (bytes_eq id) entries
+    → without_endpoint (values_of entries) id ≡ values_of entries
 none_left id [] h n = refl
 none_left id (e ∷ es) h n =
     let other : has_id id e.1 ≡ false = sym (same_id id e h.0) ∙ n.0 in
     λ j. cond (not (other j)) (e.1 ∷ none_left id es h.1 n.1 j) (none_left id es h.1 n.1 j)
 
-pub values-remove : (id : List ℕ) (entries : Entries) → Keyed entries → IsDistinct bytes_eq (keys_of entries) → values_of (remove_entry (bytes_eq id) entries) ≡ without_endpoint (values_of entries) id
+pub values-remove : (id : List ℕ) (entries : Entries) → Keyed entries
+    → IsDistinct bytes_eq (keys_of entries)
+    → values_of (remove_entry (bytes_eq id) entries) ≡ without_endpoint (values_of entries) id
 values-remove id [] h d = refl
 values-remove id (e ∷ es) h d =
-    by (bytes_eq id e.0) refl (values-remove id es h.1 (IsDistinct-tail bytes_eq e.0 (keys_of es) d))
-    ∙ (λ j. cond (not (same_id id e h.0 j)) (e.1 ∷ without_endpoint (values_of es) id) (without_endpoint (values_of es) id))
+    by (bytes_eq id e.0) refl
+    (values-remove id es h.1 (IsDistinct-tail bytes_eq e.0 (keys_of es) d))
+    ∙ (λ j. cond (not (same_id id e h.0 j)) (e.1 ∷ without_endpoint (values_of es) id)
+    (without_endpoint (values_of es) id))
   where
-    by : (b : Bool) → bytes_eq id e.0 ≡ b → values_of (remove_entry (bytes_eq id) es) ≡ without_endpoint (values_of es) id
-        → values_of (cond b es (e ∷ remove_entry (bytes_eq id) es)) ≡ cond (not b) (e.1 ∷ without_endpoint (values_of es) id) (without_endpoint (values_of es) id)
+    by : (b : Bool) → bytes_eq id e.0 ≡ b
+        → values_of (remove_entry (bytes_eq id) es) ≡ without_endpoint (values_of es) id
+        → values_of (cond b es (e ∷ remove_entry (bytes_eq id) es))
+        ≡ cond (not b) (e.1 ∷ without_endpoint (values_of es) id)
+        (without_endpoint (values_of es) id)
     by true q rest = sym (none_left id es h.1 (none_past_head nat_list_eq_equiv id e es d q))
     by false q rest = ap (λ xs. e.1 ∷ xs) rest
 
-pub Keyed-remove : (id : List ℕ) (entries : Entries) → Keyed entries → Keyed (remove_entry (bytes_eq id) entries)
+pub Keyed-remove : (id : List ℕ) (entries : Entries) → Keyed entries
+    → Keyed (remove_entry (bytes_eq id) entries)
 Keyed-remove id [] h = tt
 Keyed-remove id (e ∷ es) h = by (bytes_eq id e.0) (Keyed-remove id es h.1)
   where
-    by : (b : Bool) → Keyed (remove_entry (bytes_eq id) es) → Keyed (cond b es (e ∷ remove_entry (bytes_eq id) es))
+    by : (b : Bool) → Keyed (remove_entry (bytes_eq id) es)
+        → Keyed (cond b es (e ∷ remove_entry (bytes_eq id) es))
     by true rest = h.1
     by false rest = (h.0, rest)
 
@@ -128,25 +163,36 @@ Keyed-remove id (e ∷ es) h = by (bytes_eq id e.0) (Keyed-remove id es h.1)
 abbrev put_at : EndpointParts → List EndpointParts → ℕ → List EndpointParts
 put_at e endpoints place = take place endpoints ++ e ∷ drop (place + 1) endpoints
 
-put_later : (e f : EndpointParts) (endpoints : List EndpointParts) (place : ℕ) → put_at e (f ∷ endpoints) (1 + place) ≡ f ∷ put_at e endpoints place
+put_later : (e f : EndpointParts) (endpoints : List EndpointParts) (place : ℕ)
+    → put_at e (f ∷ endpoints) (1 + place) ≡ f ∷ put_at e endpoints place
 put_later e f endpoints place =
     let one : 1 + place ≡ suc place = omega arith in
     ap (put_at e (f ∷ endpoints)) one ∙ simp unary_clauses refl
 
-pub values-insert : (e : EndpointParts) (entries : Entries) → Keyed entries → values_of (insert_entry bytes_eq entries e.id e) ≡ with_endpoint (values_of entries) e
+pub values-insert : (e : EndpointParts) (entries : Entries) → Keyed entries
+    → values_of (insert_entry bytes_eq entries e.id e) ≡ with_endpoint (values_of entries) e
 values-insert e [] h = refl
-values-insert e (f ∷ es) h = by (bytes_eq e.id f.0) (values-insert e es h.1) ∙ ap (λ b. put_at e (f.1 ∷ values_of es) (cond (not b) (1 + position_or_len (has_id e.id) (values_of es)) 0)) (same_id e.id f h.0)
+values-insert e (f ∷ es) h =
+    by (bytes_eq e.id f.0) (values-insert e es h.1)
+    ∙ ap (λ b. put_at e (f.1 ∷ values_of es)
+    (cond (not b) (1 + position_or_len (has_id e.id) (values_of es)) 0)) (same_id e.id f h.0)
   where
     by : (b : Bool) → values_of (insert_entry bytes_eq es e.id e) ≡ with_endpoint (values_of es) e
-        → values_of (if b then (f.0, e) ∷ es else f ∷ insert_entry bytes_eq es e.id e) ≡ put_at e (f.1 ∷ values_of es) (cond (not b) (1 + position_or_len (has_id e.id) (values_of es)) 0)
+        → values_of (if b then (f.0, e) ∷ es else f ∷ insert_entry bytes_eq es e.id e)
+        ≡ put_at e (f.1 ∷ values_of es)
+        (cond (not b) (1 + position_or_len (has_id e.id) (values_of es)) 0)
     by true rest = refl
-    by false rest = ap (λ xs. f.1 ∷ xs) rest ∙ sym (put_later e f.1 (values_of es) (position_or_len (has_id e.id) (values_of es)))
+    by false rest =
+        ap (λ xs. f.1 ∷ xs) rest
+        ∙ sym (put_later e f.1 (values_of es) (position_or_len (has_id e.id) (values_of es)))
 
-pub Keyed-insert : (e : EndpointParts) (entries : Entries) → Keyed entries → Keyed (insert_entry bytes_eq entries e.id e)
+pub Keyed-insert : (e : EndpointParts) (entries : Entries) → Keyed entries
+    → Keyed (insert_entry bytes_eq entries e.id e)
 Keyed-insert e [] h = (refl, tt)
 Keyed-insert e (f ∷ es) h = by (bytes_eq e.id f.0) refl (Keyed-insert e es h.1)
   where
-    by : (b : Bool) → bytes_eq e.id f.0 ≡ b → Keyed (insert_entry bytes_eq es e.id e) → Keyed (if b then (f.0, e) ∷ es else f ∷ insert_entry bytes_eq es e.id e)
+    by : (b : Bool) → bytes_eq e.id f.0 ≡ b → Keyed (insert_entry bytes_eq es e.id e)
+        → Keyed (if b then (f.0, e) ∷ es else f ∷ insert_entry bytes_eq es e.id e)
     by true q rest = (sym (same_text e.id f.0 (sym q)), h.1)
     by false q rest = (h.0, rest)
 
@@ -164,217 +210,369 @@ found_if test (Some e) = if test e then Some e else None
 -- the endpoint of the owner that was found
 abbrev entry_at : Entries → Option (List ℕ) → Option EndpointParts
 entry_at entries None = None
-entry_at entries (Some owner) = entry_of entries owner
+entry_at entries (Some owner) = kept_endpoint_of entries owner
 
 module _ (entries : Entries) (owners : Owners) (h : IsIndexed entries owners) where
   -- an alias of an endpoint leads to its ID
-  leads : (alias id : List ℕ) (f : EndpointParts) → entry_of entries id ≡ Some f → has_alias f alias ≡ true → owner_of owners alias ≡ Some id
-  leads alias id f there has = by (owner_of owners alias) (h.owned alias id ∙ ap (found_with alias) there ∙ has)
+  leads : (alias id : List ℕ) (f : EndpointParts) → kept_endpoint_of entries id ≡ Some f
+      → has_alias f alias ≡ true → owner_of owners alias ≡ Some id
+  leads alias id f there has =
+      by (owner_of owners alias) (h.owned alias id ∙ ap (found_with alias) there ∙ has)
     where
       by : (owner : Option (List ℕ)) → is_owner id owner ≡ true → owner ≡ Some id
       by None q = cc
       by (Some owner) q = ap (λ x. Some x) (same_text owner id (sym q))
 
   -- an alias that leads to an ID is one of the endpoint of that ID
-  led : (alias id : List ℕ) → owner_of owners alias ≡ Some id → found_with alias (entry_of entries id) ≡ true
+  led : (alias id : List ℕ) → owner_of owners alias ≡ Some id
+      → found_with alias (kept_endpoint_of entries id) ≡ true
   led alias id there = sym (h.owned alias id) ∙ ap (is_owner id) there ∙ nat_list_eq_equiv.refl id
 
   -- a test of the endpoint of an ID
-  entry_tested : (id : List ℕ) (q : EndpointParts → Bool) → list_any (λ f. has_id id f && q f) (values_of entries) ≡ found_and q (entry_of entries id)
-  entry_tested id q = by (find (λ f. has_id id f && q f) (values_of entries)) refl (entry_of entries id) refl
+  entry_tested : (id : List ℕ) (q : EndpointParts → Bool)
+      → list_any (λ f. has_id id f && q f) (values_of entries)
+      ≡ found_and q (kept_endpoint_of entries id)
+  entry_tested id q =
+      by (find (λ f. has_id id f && q f) (values_of entries)) refl (kept_endpoint_of entries id)
+      refl
     where
-      by : (found : Option EndpointParts) → find (λ f. has_id id f && q f) (values_of entries) ≡ found → (entry : Option EndpointParts) → entry_of entries id ≡ entry
+      by : (found : Option EndpointParts)
+          → find (λ f. has_id id f && q f) (values_of entries) ≡ found
+          → (entry : Option EndpointParts) → kept_endpoint_of entries id ≡ entry
           → list_any (λ f. has_id id f && q f) (values_of entries) ≡ found_and q entry
       by None k None there = found-none (λ f. has_id id f && q f) (values_of entries) k
       by None k (Some g) there =
-          let missed : (has_id id g && q g) ≡ false = entry_missed (λ f. has_id id f && q f) entries id g there k in
+          let missed : (has_id id g && q g) ≡ false =
+          entry_missed (λ f. has_id id f && q f) entries id g there k in
           let own = entry_id entries id g h.keyed there in
-          found-none (λ f. has_id id f && q f) (values_of entries) k ∙ sym missed ∙ ap (λ b. b && q g) own
+          found-none (λ f. has_id id f && q f) (values_of entries) k ∙ sym missed
+          ∙ ap (λ b. b && q g) own
       by (Some f) k entry there =
-          let both = and_parts (has_id id f) (q f) (find_passes (λ f. has_id id f && q f) (values_of entries) f k) in
-          let own : entry_of entries f.id ≡ Some f = own_entry (λ f. has_id id f && q f) entries h.keyed h.distinct f k in
-          let here : entry ≡ Some f = sym there ∙ ap (entry_of entries) (sym (same_text f.id id (sym both.0))) ∙ own in
-          found-some (λ f. has_id id f && q f) (values_of entries) f k ∙ sym both.1 ∙ ap (found_and q) (sym here)
+          let both = and_parts (has_id id f) (q f)
+          (find_passes (λ f. has_id id f && q f) (values_of entries) f k) in
+          let own : kept_endpoint_of entries f.id ≡ Some f =
+          own_entry (λ f. has_id id f && q f) entries h.keyed h.distinct f k in
+          let here : entry ≡ Some f = sym there
+          ∙ ap (kept_endpoint_of entries) (sym (same_text f.id id (sym both.0))) ∙ own in
+          found-some (λ f. has_id id f && q f) (values_of entries) f k ∙ sym both.1
+          ∙ ap (found_and q) (sym here)
 
   -- whether the ID is registered from elsewhere
-  pub entry_taken : (e : EndpointParts) → id_is_taken (values_of entries) e ≡ found_and (λ f. not (same_address f.address e.address)) (entry_of entries e.id)
+  pub entry_taken : (e : EndpointParts)
+      → id_is_taken (values_of entries) e
+      ≡ found_and (λ f. not (same_address f.address e.address)) (kept_endpoint_of entries e.id)
   entry_taken e = entry_tested e.id (λ f. not (same_address f.address e.address))
 
   -- the endpoint of a zone with an alias
-  entry_by_alias : (zone number : List ℕ) → by_alias (values_of entries) zone number ≡ found_if (λ e. bytes_eq e.zone zone) (entry_at entries (owner_of owners number))
-  entry_by_alias zone number = by (find (λ e. bytes_eq e.zone zone && has_alias e number) (values_of entries)) refl (owner_of owners number) refl
+  entry_by_alias : (zone number : List ℕ)
+      → by_alias (values_of entries) zone number
+      ≡ found_if (λ e. bytes_eq e.zone zone) (entry_at entries (owner_of owners number))
+  entry_by_alias zone number =
+      by (find (λ e. bytes_eq e.zone zone && has_alias e number) (values_of entries)) refl
+      (owner_of owners number) refl
     where
-      other : (owner : List ℕ) → owner_of owners number ≡ Some owner → find (λ e. bytes_eq e.zone zone && has_alias e number) (values_of entries) ≡ None
-          → (entry : Option EndpointParts) → entry_of entries owner ≡ entry → None ≡ found_if (λ e. bytes_eq e.zone zone) entry
+      other : (owner : List ℕ) → owner_of owners number ≡ Some owner
+          → find (λ e. bytes_eq e.zone zone && has_alias e number) (values_of entries) ≡ None
+          → (entry : Option EndpointParts) → kept_endpoint_of entries owner ≡ entry
+          → None ≡ found_if (λ e. bytes_eq e.zone zone) entry
       other owner w k None there = refl
       other owner w k (Some g) there =
-          let has : has_alias g number ≡ true = ap (found_with number) (sym there) ∙ led number owner w in
-          let missed = entry_missed (λ e. bytes_eq e.zone zone && has_alias e number) entries owner g there k in
-          let apart : bytes_eq g.zone zone ≡ false = left (bytes_eq g.zone zone) (has_alias g number) has missed in
+          let has : has_alias g number ≡ true = ap (found_with number) (sym there)
+          ∙ led number owner w in
+          let missed =
+          entry_missed (λ e. bytes_eq e.zone zone && has_alias e number) entries owner g there k
+          in
+          let apart : bytes_eq g.zone zone ≡ false =
+          left (bytes_eq g.zone zone) (has_alias g number) has missed in
           sym (ap (λ b. if b then Some g else None) apart)
         where
           left : (a b : Bool) → b ≡ true → (a && b) ≡ false → a ≡ false
           left true b e f = sym e ∙ f
           left false b e f = refl
 
-      by : (found : Option EndpointParts) → find (λ e. bytes_eq e.zone zone && has_alias e number) (values_of entries) ≡ found → (owner : Option (List ℕ)) → owner_of owners number ≡ owner
+      by : (found : Option EndpointParts)
+          → find (λ e. bytes_eq e.zone zone && has_alias e number) (values_of entries) ≡ found
+          → (owner : Option (List ℕ)) → owner_of owners number ≡ owner
           → found ≡ found_if (λ e. bytes_eq e.zone zone) (entry_at entries owner)
       by None k None w = refl
-      by None k (Some owner) w = other owner w k (entry_of entries owner) refl
+      by None k (Some owner) w = other owner w k (kept_endpoint_of entries owner) refl
       by (Some f) k owner w =
-          let both = and_parts (bytes_eq f.zone zone) (has_alias f number) (find_passes (λ e. bytes_eq e.zone zone && has_alias e number) (values_of entries) f k) in
-          let own : entry_of entries f.id ≡ Some f = own_entry (λ e. bytes_eq e.zone zone && has_alias e number) entries h.keyed h.distinct f k in
+          let both = and_parts (bytes_eq f.zone zone) (has_alias f number)
+          (find_passes (λ e. bytes_eq e.zone zone && has_alias e number) (values_of entries) f
+          k) in
+          let own : kept_endpoint_of entries f.id ≡ Some f =
+          own_entry (λ e. bytes_eq e.zone zone && has_alias e number) entries h.keyed h.distinct
+          f k in
           let here : owner ≡ Some f.id = sym w ∙ leads number f.id f own both.1 in
-          sym (ap (λ w. found_if (λ e. bytes_eq e.zone zone) (entry_at entries w)) here ∙ ap (found_if (λ e. bytes_eq e.zone zone)) own ∙ ap (λ b. if b then Some f else None) both.0)
+          sym (ap (λ w. found_if (λ e. bytes_eq e.zone zone) (entry_at entries w)) here
+          ∙ ap (found_if (λ e. bytes_eq e.zone zone)) own
+          ∙ ap (λ b. if b then Some f else None) both.0)
 
-  pub by_alias_nowhere : (zone number : List ℕ) → owner_of owners number ≡ None → by_alias (values_of entries) zone number ≡ None
-  by_alias_nowhere zone number nowhere = entry_by_alias zone number ∙ ap (λ owner. found_if (λ e. bytes_eq e.zone zone) (entry_at entries owner)) nowhere
+  pub by_alias_nowhere : (zone number : List ℕ) → owner_of owners number ≡ None
+      → by_alias (values_of entries) zone number ≡ None
+  by_alias_nowhere zone number nowhere = entry_by_alias zone number
+      ∙ ap (λ owner. found_if (λ e. bytes_eq e.zone zone) (entry_at entries owner)) nowhere
 
-  pub by_alias_owned : (zone number owner : List ℕ) (entry : Option EndpointParts) → owner_of owners number ≡ Some owner → entry_of entries owner ≡ entry
+  pub by_alias_owned : (zone number owner : List ℕ) (entry : Option EndpointParts)
+      → owner_of owners number ≡ Some owner → kept_endpoint_of entries owner ≡ entry
       → by_alias (values_of entries) zone number ≡ found_if (λ e. bytes_eq e.zone zone) entry
   by_alias_owned zone number owner entry owned there =
-      entry_by_alias zone number ∙ ap (λ owner. found_if (λ e. bytes_eq e.zone zone) (entry_at entries owner)) owned ∙ ap (found_if (λ e. bytes_eq e.zone zone)) there
+      entry_by_alias zone number
+      ∙ ap (λ owner. found_if (λ e. bytes_eq e.zone zone) (entry_at entries owner)) owned
+      ∙ ap (found_if (λ e. bytes_eq e.zone zone)) there
 
   -- an endpoint with one of the aliases, found by its owner
-  shared : (f : EndpointParts) (aliases : List (List ℕ)) (id : List ℕ) → entry_of entries f.id ≡ Some f → not (has_id id f) ≡ true → list_any (has_alias f) aliases ≡ true
+  shared : (f : EndpointParts) (aliases : List (List ℕ)) (id : List ℕ)
+      → kept_endpoint_of entries f.id ≡ Some f → not (has_id id f) ≡ true
+      → list_any (has_alias f) aliases ≡ true
       → list_any (λ alias. is_another id (owner_of owners alias)) aliases ≡ true
   shared f aliases id own other share = by (find (has_alias f) aliases) refl
     where
-      by : (found : Option (List ℕ)) → find (has_alias f) aliases ≡ found → list_any (λ alias. is_another id (owner_of owners alias)) aliases ≡ true
-      by None k = absurd (both_ways (list_any (has_alias f) aliases) (found-none (has_alias f) aliases k) share)
+      by : (found : Option (List ℕ)) → find (has_alias f) aliases ≡ found
+          → list_any (λ alias. is_another id (owner_of owners alias)) aliases ≡ true
+      by None k =
+          absurd (both_ways (list_any (has_alias f) aliases) (found-none (has_alias f) aliases k)
+          share)
       by (Some alias) k =
           also_passes (has_alias f) (λ alias. is_another id (owner_of owners alias)) aliases alias k
-          (ap (is_another id) (leads alias f.id f own (find_passes (has_alias f) aliases alias k)) ∙ other)
+          (ap (is_another id) (leads alias f.id f own (find_passes (has_alias f) aliases alias k))
+          ∙ other)
 
   -- the endpoint to which one of the aliases leads
-  leads_elsewhere : (p : EndpointParts → Bool) (alias id : List ℕ) → ((f : EndpointParts) → not (has_id id f) ≡ true → has_alias f alias ≡ true → p f ≡ true)
+  leads_elsewhere : (p : EndpointParts → Bool) (alias id : List ℕ)
+      → ((f : EndpointParts) → not (has_id id f) ≡ true → has_alias f alias ≡ true → p f ≡ true)
       → find p (values_of entries) ≡ None → is_another id (owner_of owners alias) ≡ false
   leads_elsewhere p alias id passes none = by (owner_of owners alias) refl
     where
-      at : (owner : List ℕ) → owner_of owners alias ≡ Some owner → not (bytes_eq owner id) ≡ true → (entry : Option EndpointParts) → entry_of entries owner ≡ entry → ⊥
-      at owner w other None there = both_ways false refl (ap (found_with alias) (sym there) ∙ led alias owner w)
+      at : (owner : List ℕ) → owner_of owners alias ≡ Some owner → not (bytes_eq owner id) ≡ true
+          → (entry : Option EndpointParts) → kept_endpoint_of entries owner ≡ entry → ⊥
+      at owner w other None there =
+          both_ways false refl (ap (found_with alias) (sym there) ∙ led alias owner w)
       at owner w other (Some f) there =
-          let has : has_alias f alias ≡ true = ap (found_with alias) (sym there) ∙ led alias owner w in
-          let own : f.id ≡ owner = same_text f.id owner (sym (entry_id entries owner f h.keyed there)) in
-          both_ways (p f) (entry_missed p entries owner f there none) (passes f (ap (λ id2. not (bytes_eq id2 id)) own ∙ other) has)
+          let has : has_alias f alias ≡ true = ap (found_with alias) (sym there)
+          ∙ led alias owner w in
+          let own : f.id ≡ owner =
+          same_text f.id owner (sym (entry_id entries owner f h.keyed there)) in
+          both_ways (p f) (entry_missed p entries owner f there none)
+          (passes f (ap (λ id2. not (bytes_eq id2 id)) own ∙ other) has)
 
       by : (owner : Option (List ℕ)) → owner_of owners alias ≡ owner → is_another id owner ≡ false
       by None w = refl
-      by (Some owner) w = false_from_ne_true (not (bytes_eq owner id)) (λ other. at owner w other (entry_of entries owner) refl)
+      by (Some owner) w =
+          false_from_ne_true (not (bytes_eq owner id))
+          (λ other. at owner w other (kept_endpoint_of entries owner) refl)
 
   -- whether one of the aliases is another endpoint's
-  pub aliases_taken : (e : EndpointParts) → alias_is_taken (values_of entries) e ≡ list_any (λ alias. is_another e.id (owner_of owners alias)) e.aliases
-  aliases_taken e = by (find (λ f. not (has_id e.id f) && share_alias f e) (values_of entries)) refl (find (λ alias. is_another e.id (owner_of owners alias)) e.aliases) refl
+  pub aliases_taken : (e : EndpointParts)
+      → alias_is_taken (values_of entries) e
+      ≡ list_any (λ alias. is_another e.id (owner_of owners alias)) e.aliases
+  aliases_taken e =
+      by (find (λ f. not (has_id e.id f) && share_alias f e) (values_of entries)) refl
+      (find (λ alias. is_another e.id (owner_of owners alias)) e.aliases) refl
     where
-      by : (found : Option EndpointParts) → find (λ f. not (has_id e.id f) && share_alias f e) (values_of entries) ≡ found
-          → (other : Option (List ℕ)) → find (λ alias. is_another e.id (owner_of owners alias)) e.aliases ≡ other
-          → list_any (λ f. not (has_id e.id f) && share_alias f e) (values_of entries) ≡ list_any (λ alias. is_another e.id (owner_of owners alias)) e.aliases
+      by : (found : Option EndpointParts)
+          → find (λ f. not (has_id e.id f) && share_alias f e) (values_of entries) ≡ found
+          → (other : Option (List ℕ))
+          → find (λ alias. is_another e.id (owner_of owners alias)) e.aliases ≡ other
+          → list_any (λ f. not (has_id e.id f) && share_alias f e) (values_of entries)
+          ≡ list_any (λ alias. is_another e.id (owner_of owners alias)) e.aliases
       by (Some f) k other l =
-          let both = and_parts (not (has_id e.id f)) (share_alias f e) (find_passes (λ f. not (has_id e.id f) && share_alias f e) (values_of entries) f k) in
-          let own = own_entry (λ f. not (has_id e.id f) && share_alias f e) entries h.keyed h.distinct f k in
-          found-some (λ f. not (has_id e.id f) && share_alias f e) (values_of entries) f k ∙ sym (shared f e.aliases e.id own both.0 both.1)
+          let both = and_parts (not (has_id e.id f)) (share_alias f e)
+          (find_passes (λ f. not (has_id e.id f) && share_alias f e) (values_of entries) f k) in
+          let own = own_entry (λ f. not (has_id e.id f) && share_alias f e) entries h.keyed
+          h.distinct f k in
+          found-some (λ f. not (has_id e.id f) && share_alias f e) (values_of entries) f k
+          ∙ sym (shared f e.aliases e.id own both.0 both.1)
       by None k None l =
-          found-none (λ f. not (has_id e.id f) && share_alias f e) (values_of entries) k ∙ sym (found-none (λ alias. is_another e.id (owner_of owners alias)) e.aliases l)
+          found-none (λ f. not (has_id e.id f) && share_alias f e) (values_of entries) k
+          ∙ sym (found-none (λ alias. is_another e.id (owner_of owners alias)) e.aliases l)
       by None k (Some alias) l =
-          let passes : (f : EndpointParts) → not (has_id e.id f) ≡ true → has_alias f alias ≡ true → (not (has_id e.id f) && share_alias f e) ≡ true =
-          λ f other has. and_from (not (has_id e.id f)) (share_alias f e) other (also_passes (λ alias. is_another e.id (owner_of owners alias)) (has_alias f) e.aliases alias l has) in
-          absurd (both_ways (is_another e.id (owner_of owners alias)) (leads_elsewhere (λ f. not (has_id e.id f) && share_alias f e) alias e.id passes k) (find_passes (λ alias. is_another e.id (owner_of owners alias)) e.aliases alias l))
+          let passes : (f : EndpointParts) → not (has_id e.id f) ≡ true → has_alias f alias ≡ true
+          → (not (has_id e.id f) && share_alias f e) ≡ true =
+          λ f other has. and_from (not (has_id e.id f)) (share_alias f e) other
+          (also_passes (λ alias. is_another e.id (owner_of owners alias)) (has_alias f)
+          e.aliases alias l has) in
+          absurd (both_ways (is_another e.id (owner_of owners alias))
+          (leads_elsewhere (λ f. not (has_id e.id f) && share_alias f e) alias e.id passes k)
+          (find_passes (λ alias. is_another e.id (owner_of owners alias)) e.aliases alias l))
 
   -- ---- changes
   -- the aliases that were found are those of the endpoint
-  found_lists : (alias : List ℕ) (entry : Option EndpointParts) → found_with alias entry ≡ lists (aliases_of entry) alias
+  found_lists : (alias : List ℕ) (entry : Option EndpointParts)
+      → found_with alias entry ≡ lists (aliases_of entry) alias
   found_lists alias None = refl
   found_lists alias (Some e) = refl
 
   -- an alias of an endpoint leads to no other
-  leads_once : (alias id other : List ℕ) → found_with alias (entry_of entries id) ≡ true → bytes_eq id other ≡ false → found_with alias (entry_of entries other) ≡ false
-  leads_once alias id other has apart = by (entry_of entries id) refl has
+  leads_once : (alias id other : List ℕ) → found_with alias (kept_endpoint_of entries id) ≡ true
+      → bytes_eq id other ≡ false → found_with alias (kept_endpoint_of entries other) ≡ false
+  leads_once alias id other has apart = by (kept_endpoint_of entries id) refl has
     where
-      by : (entry : Option EndpointParts) → entry_of entries id ≡ entry → found_with alias entry ≡ true → found_with alias (entry_of entries other) ≡ false
+      by : (entry : Option EndpointParts) → kept_endpoint_of entries id ≡ entry
+          → found_with alias entry ≡ true
+          → found_with alias (kept_endpoint_of entries other) ≡ false
       by None there has = absurd (both_ways false refl has)
-      by (Some f) there has = sym (h.owned alias other) ∙ ap (is_owner other) (leads alias id f there has) ∙ apart
+      by (Some f) there has =
+          sym (h.owned alias other)
+          ∙ ap (is_owner other) (leads alias id f there has)
+          ∙ apart
 
-  -- where the aliases of an endpoint are forgotten, the rest stand for the others
-  pub others_owned : (id : List ℕ) (rest : Owners) → Forgets owners rest (aliases_of (entry_of entries id))
-      → (alias other : List ℕ) → is_owner other (owner_of rest alias) ≡ found_with alias (cond (bytes_eq id other) None (entry_of entries other))
-  others_owned id rest forgets alias other = ap (is_owner other) (forgets alias) ∙ by (lists (aliases_of (entry_of entries id)) alias) refl (bytes_eq id other) refl
+  -- if the aliases of an endpoint are forgotten, the rest stand for the others
+  pub others_owned : (id : List ℕ) (rest : Owners)
+      → Forgets owners rest (aliases_of (kept_endpoint_of entries id))
+      → (alias other : List ℕ)
+      → is_owner other (owner_of rest alias)
+      ≡ found_with alias (cond (bytes_eq id other) None (kept_endpoint_of entries other))
+  others_owned id rest forgets alias other =
+      ap (is_owner other) (forgets alias)
+      ∙ by (lists (aliases_of (kept_endpoint_of entries id)) alias) refl (bytes_eq id other) refl
     where
-      by : (c : Bool) → lists (aliases_of (entry_of entries id)) alias ≡ c → (b : Bool) → bytes_eq id other ≡ b
-          → is_owner other (if c then None else owner_of owners alias) ≡ found_with alias (cond b None (entry_of entries other))
+      by : (c : Bool) → lists (aliases_of (kept_endpoint_of entries id)) alias ≡ c → (b : Bool)
+          → bytes_eq id other ≡ b
+          → is_owner other (if c then None else owner_of owners alias)
+          ≡ found_with alias (cond b None (kept_endpoint_of entries other))
       by true k true l = refl
-      by true k false l = sym (leads_once alias id other (found_lists alias (entry_of entries id) ∙ k) l)
+      by true k false l =
+          sym (leads_once alias id other (found_lists alias (kept_endpoint_of entries id) ∙ k) l)
       by false k true l =
           let same : id ≡ other = same_text id other (sym l) in
-          h.owned alias other ∙ ap (λ id2. found_with alias (entry_of entries id2)) (sym same) ∙ found_lists alias (entry_of entries id) ∙ k
+          h.owned alias other
+          ∙ ap (λ id2. found_with alias (kept_endpoint_of entries id2)) (sym same)
+          ∙ found_lists alias (kept_endpoint_of entries id) ∙ k
       by false k false l = h.owned alias other
 
-  -- behind a removal
-  pub owned-remove : (id : List ℕ) (new : Entries) (rest : Owners) → Forgets owners rest (aliases_of (entry_of entries id))
-      → ((other : List ℕ) → entry_of new other ≡ cond (bytes_eq id other) None (entry_of entries other)) → AreOwnersOf rest new
-  owned-remove id new rest forgets updates alias other = others_owned id rest forgets alias other ∙ ap (found_with alias) (sym (updates other))
+  -- after a removal
+  pub owned-remove : (id : List ℕ) (new : Entries) (rest : Owners)
+      → Forgets owners rest (aliases_of (kept_endpoint_of entries id))
+      → ((other : List ℕ) → kept_endpoint_of new other
+      ≡ cond (bytes_eq id other) None (kept_endpoint_of entries other))
+      → AreOwnersOf rest new
+  owned-remove id new rest forgets updates alias other =
+      others_owned id rest forgets alias other
+      ∙ ap (found_with alias) (sym (updates other))
 
   -- an alias of the new endpoint is no other endpoint's
-  free_alias : (e : EndpointParts) (alias other : List ℕ) → alias_is_taken (values_of entries) e ≡ false → has_alias e alias ≡ true → bytes_eq e.id other ≡ false → found_with alias (entry_of entries other) ≡ false
-  free_alias e alias other free has apart = false_from_ne_true (found_with alias (entry_of entries other)) (by (entry_of entries other) refl (find (bytes_eq alias) e.aliases) refl)
+  free_alias : (e : EndpointParts) (alias other : List ℕ)
+      → alias_is_taken (values_of entries) e ≡ false → has_alias e alias ≡ true
+      → bytes_eq e.id other ≡ false → found_with alias (kept_endpoint_of entries other) ≡ false
+  free_alias e alias other free has apart =
+      false_from_ne_true (found_with alias (kept_endpoint_of entries other))
+      (by (kept_endpoint_of entries other) refl (find (bytes_eq alias) e.aliases) refl)
     where
-      by : (entry : Option EndpointParts) → entry_of entries other ≡ entry → (found : Option (List ℕ)) → find (bytes_eq alias) e.aliases ≡ found → found_with alias entry ≡ true → ⊥
+      by : (entry : Option EndpointParts) → kept_endpoint_of entries other ≡ entry
+          → (found : Option (List ℕ)) → find (bytes_eq alias) e.aliases ≡ found
+          → found_with alias entry ≡ true → ⊥
       by None there found k f = both_ways false refl f
-      by (Some f) there None k g = both_ways (has_alias e alias) (found-none (bytes_eq alias) e.aliases k) has
+      by (Some f) there None k g =
+          both_ways (has_alias e alias) (found-none (bytes_eq alias) e.aliases k) has
       by (Some f) there (Some a) k g =
-          let same : alias ≡ a = same_text alias a (sym (find_passes (bytes_eq alias) e.aliases a k)) in
+          let same : alias ≡ a =
+          same_text alias a (sym (find_passes (bytes_eq alias) e.aliases a k)) in
           let elsewhere : is_another e.id (owner_of owners a) ≡ true =
-          ap (λ alias2. is_another e.id (owner_of owners alias2)) (sym same) ∙ ap (is_another e.id) (leads alias other f there g) ∙ ap not (nat_list_eq_equiv.symm other e.id ∙ apart) in
-          both_ways (alias_is_taken (values_of entries) e) free (aliases_taken e ∙ also_passes (bytes_eq alias) (λ alias2. is_another e.id (owner_of owners alias2)) e.aliases a k elsewhere)
+          ap (λ alias2. is_another e.id (owner_of owners alias2)) (sym same)
+          ∙ ap (is_another e.id) (leads alias other f there g)
+          ∙ ap not (nat_list_eq_equiv.symm other e.id ∙ apart) in
+          both_ways (alias_is_taken (values_of entries) e) free
+          (aliases_taken e
+          ∙ also_passes (bytes_eq alias) (λ alias2. is_another e.id (owner_of owners alias2))
+          e.aliases a k elsewhere)
 
-  -- behind a registration
-  pub owned-insert : (e : EndpointParts) (new : Entries) (rest all : Owners) → alias_is_taken (values_of entries) e ≡ false → Forgets owners rest (aliases_of (entry_of entries e.id)) → Notes rest all e.aliases e.id
-      → ((other : List ℕ) → entry_of new other ≡ cond (bytes_eq e.id other) (Some e) (entry_of entries other)) → AreOwnersOf all new
-  owned-insert e new rest all free forgets notes updates alias other =
-      ap (is_owner other) (notes alias) ∙ by (has_alias e alias) refl (bytes_eq e.id other) refl ∙ ap (found_with alias) (sym (updates other))
+  -- after a registration
+  pub owned-insert : (e : EndpointParts) (new : Entries) (rest all : Owners)
+      → alias_is_taken (values_of entries) e ≡ false
+      → Forgets owners rest (aliases_of (kept_endpoint_of entries e.id))
+      → LeadTo rest all e.aliases e.id
+      → ((other : List ℕ) → kept_endpoint_of new other
+      ≡ cond (bytes_eq e.id other) (Some e) (kept_endpoint_of entries other))
+      → AreOwnersOf all new
+  owned-insert e new rest all free forgets leads_to updates alias other =
+      ap (is_owner other) (leads_to alias) ∙ by (has_alias e alias) refl (bytes_eq e.id other) refl
+      ∙ ap (found_with alias) (sym (updates other))
     where
-      by : (a : Bool) → has_alias e alias ≡ a → (b : Bool) → bytes_eq e.id other ≡ b → is_owner other (if a then Some e.id else owner_of rest alias) ≡ found_with alias (cond b (Some e) (entry_of entries other))
+      by : (a : Bool) → has_alias e alias ≡ a → (b : Bool) → bytes_eq e.id other ≡ b
+          → is_owner other (if a then Some e.id else owner_of rest alias)
+          ≡ found_with alias (cond b (Some e) (kept_endpoint_of entries other))
       by true k true l = l ∙ sym k
       by true k false l = l ∙ sym (free_alias e alias other free k l)
-      by false k true l = others_owned e.id rest forgets alias other ∙ ap (λ b. found_with alias (cond b None (entry_of entries other))) l ∙ sym k
-      by false k false l = others_owned e.id rest forgets alias other ∙ ap (λ b. found_with alias (cond b None (entry_of entries other))) l
+      by false k true l =
+          others_owned e.id rest forgets alias other
+          ∙ ap (λ b. found_with alias (cond b None (kept_endpoint_of entries other))) l
+          ∙ sym k
+      by false k false l =
+          others_owned e.id rest forgets alias other
+          ∙ ap (λ b. found_with alias (cond b None (kept_endpoint_of entries other))) l
 
--- behind a removal, where the aliases of the one that was found are forgotten
-pub indexed-remove : (id : List ℕ) (entries new : Entries) (owners rest : Owners) (found : Option EndpointParts) → IsIndexed entries owners → found ≡ entry_of entries id → Forgets owners rest (aliases_of found)
-    → new ≡ remove_entry (bytes_eq id) entries → IsDistinct bytes_eq (keys_of new) → ((other : List ℕ) → entry_of new other ≡ cond (bytes_eq id other) None (entry_of entries other)) → IsIndexed new rest
+-- after a removal: the aliases of the one that was found are forgotten
+pub indexed-remove : (id : List ℕ) (entries new : Entries) (owners rest : Owners)
+    (found : Option EndpointParts)
+    → IsIndexed entries owners → found ≡ kept_endpoint_of entries id
+    → Forgets owners rest (aliases_of found)
+    → new ≡ remove_entry (bytes_eq id) entries → IsDistinct bytes_eq (keys_of new)
+    → ((other : List ℕ) → kept_endpoint_of new other
+    ≡ cond (bytes_eq id other) None (kept_endpoint_of entries other))
+    → IsIndexed new rest
 indexed-remove id entries new owners rest found h old forgets same distinct updates =
     record {
       keyed = subst Keyed (sym same) (Keyed-remove id entries h.keyed);
       distinct = distinct;
-      owned = owned-remove entries owners h id new rest (subst (λ entry. Forgets owners rest (aliases_of entry)) old forgets) updates;
+      owned = owned-remove entries owners h id new rest
+          (subst (λ entry. Forgets owners rest (aliases_of entry)) old forgets) updates;
     }
 
--- behind a registration, where the aliases of the one that was found are forgotten, and then the new ones noted
-pub indexed-insert : (e : EndpointParts) (id : List ℕ) (aliases : List (List ℕ)) (entries new : Entries) (owners rest all : Owners) (found : Option EndpointParts) → IsIndexed entries owners
-    → id ≡ e.id → aliases ≡ e.aliases → alias_is_taken (values_of entries) e ≡ false → found ≡ entry_of entries id → Forgets owners rest (aliases_of found) → Notes rest all aliases id
-    → new ≡ insert_entry bytes_eq entries id e → IsDistinct bytes_eq (keys_of new) → ((other : List ℕ) → entry_of new other ≡ cond (bytes_eq id other) (Some e) (entry_of entries other)) → IsIndexed new all
-indexed-insert e id aliases entries new owners rest all found h own its free old forgets notes same distinct updates =
+-- after a registration: the aliases of the one that was found are forgotten, and then the new ones
+-- lead to it
+pub indexed-insert : (e : EndpointParts) (id : List ℕ) (aliases : List (List ℕ))
+    (entries new : Entries) (owners rest all : Owners) (found : Option EndpointParts)
+    → IsIndexed entries owners
+    → id ≡ e.id → aliases ≡ e.aliases → alias_is_taken (values_of entries) e ≡ false
+    → found ≡ kept_endpoint_of entries id → Forgets owners rest (aliases_of found)
+    → LeadTo rest all aliases id
+    → new ≡ insert_entry bytes_eq entries id e → IsDistinct bytes_eq (keys_of new)
+    → ((other : List ℕ) → kept_endpoint_of new other
+    ≡ cond (bytes_eq id other) (Some e) (kept_endpoint_of entries other))
+    → IsIndexed new all
+indexed-insert e id aliases entries new owners rest all found h own its free old forgets leads_to
+    same distinct updates =
     record {
-      keyed = subst Keyed (sym (same ∙ ap (λ i. insert_entry bytes_eq entries i e) own)) (Keyed-insert e entries h.keyed);
+      keyed = subst Keyed (sym (same ∙ ap (λ i. insert_entry bytes_eq entries i e) own))
+          (Keyed-insert e entries h.keyed);
       distinct = distinct;
       owned = owned-insert entries owners h e new rest all free
-          (subst (λ entry. Forgets owners rest (aliases_of entry)) (old ∙ ap (entry_of entries) own) forgets)
-          (subst (λ i. Notes rest all e.aliases i) own (subst (λ a. Notes rest all a id) its notes))
-          (λ other. updates other ∙ ap (λ i. cond (bytes_eq i other) (Some e) (entry_of entries other)) own);
+          (subst (λ entry. Forgets owners rest (aliases_of entry))
+          (old ∙ ap (kept_endpoint_of entries) own) forgets)
+          (subst (λ i. LeadTo rest all e.aliases i) own
+          (subst (λ a. LeadTo rest all a id) its leads_to))
+          (λ other. updates other
+          ∙ ap (λ i. cond (bytes_eq i other) (Some e) (kept_endpoint_of entries other)) own);
     }
 
--- behind a change of the room alone
-pub indexed-reordered : (entries old_entries : Entries) (owners old_owners : Owners) → IsIndexed old_entries old_owners → entries ≡ old_entries
-    → ((alias : List ℕ) → owner_of owners alias ≡ owner_of old_owners alias) → IsIndexed entries owners
+-- after a change of the room alone
+pub indexed-reordered : (entries old_entries : Entries) (owners old_owners : Owners)
+    → IsIndexed old_entries old_owners → entries ≡ old_entries
+    → ((alias : List ℕ) → owner_of owners alias ≡ owner_of old_owners alias)
+    → IsIndexed entries owners
 indexed-reordered entries old_entries owners old_owners h same reordered =
-    subst (λ es. IsIndexed es owners) (sym same) (record { keyed = h.keyed; distinct = h.distinct; owned = λ alias id. ap (is_owner id) (reordered alias) ∙ h.owned alias id })
+    subst (λ es. IsIndexed es owners) (sym same)
+    (record {
+      keyed = h.keyed;
+      distinct = h.distinct;
+      owned =
+          λ alias id. ap (is_owner id) (reordered alias) ∙ h.owned alias id;
+    })
 
 -- ---- aliases one by one
 -- one more alias that was taken out or put in
-pub listed_more : (aliases : List (List ℕ)) (place : ℕ) (next alias : List ℕ) (w owner : Option (List ℕ)) → place < length aliases → next ≡ get_or aliases place next
-    → cond (bytes_eq next alias) w (if lists (take place aliases) alias then w else owner) ≡ (if lists (take (place + 1) aliases) alias then w else owner)
+pub listed_more : (aliases : List (List ℕ)) (place : ℕ) (next alias : List ℕ)
+    (w owner : Option (List ℕ))
+    → place < length aliases → next ≡ get_or aliases place next
+    → cond (bytes_eq next alias) w (if lists (take place aliases) alias then w else owner)
+    ≡ (if lists (take (place + 1) aliases) alias then w else owner)
 listed_more aliases place next alias w owner within there =
     by (bytes_eq next alias) (lists (take place aliases) alias)
-    ∙ ap (λ b. if b then w else owner) (ap (λ b. lists (take place aliases) alias || b) (nat_list_eq_equiv.symm next alias ∙ ap (bytes_eq alias) there) ∙ sym (list_any_more (bytes_eq alias) aliases place next within))
+    ∙ ap (λ b. if b then w else owner)
+    (ap (λ b. lists (take place aliases) alias || b)
+    (nat_list_eq_equiv.symm next alias ∙ ap (bytes_eq alias) there)
+    ∙ sym (list_any_more (bytes_eq alias) aliases place next within))
   where
     by : (b c : Bool) → cond b w (if c then w else owner) ≡ (if (c || b) then w else owner)
     by true true = refl

@@ -19,6 +19,6 @@ has_alias e alias = list_any (bytes_eq alias) e.aliases
 abbrev pub share_alias : EndpointParts → EndpointParts → Bool
 share_alias f e = list_any (has_alias f) e.aliases
 
--- with an alias behind the others, unless it is one of them
+-- with an alias after the others, unless it is one of them
 abbrev pub with_alias : EndpointParts → List ℕ → EndpointParts
 with_alias e alias = if has_alias e alias then e else record e { aliases = e.aliases ++ alias ∷ [] }

@@ -24,7 +24,8 @@ same_address a b = bytes_eq a.ip b.ip && (a.port == b.port)
 
 -- this ID is registered from another address
 abbrev pub id_is_taken : List EndpointParts → EndpointParts → Bool
-id_is_taken endpoints e = list_any (λ f. has_id e.id f && not (same_address f.address e.address)) endpoints
+id_is_taken endpoints e =
+    list_any (λ f. has_id e.id f && not (same_address f.address e.address)) endpoints
 
 -- an alias belongs to another endpoint, in whatever zone
 abbrev pub alias_is_taken : List EndpointParts → EndpointParts → Bool

@@ -1,9 +1,7 @@
 //! Endpoints as they register.
 
-ghost use Rattle.std.specs.Prelude.{◌≡◌, [], ◌∷◌, ◌++◌, ◌==◌, length, IfOk, OnOk, OnErr};
-ghost use Rattle.std.specs.List.{list_any};
-ghost use Rattle.std.specs.Str.{bytes_eq};
-ghost use Rattle.registry.specs.Endpoint.{EndpointParts, has_alias, with_alias};
+ghost use Rattle.std.specs.Prelude.{◌≡◌, [], IfOk, OnOk, OnErr};
+ghost use Rattle.registry.specs.Endpoint.{has_alias, with_alias};
 
 use gk_terms::{Address, Dialled, Name};
 use std::alloc::{AllocError, AllocFailed, Global};
@@ -34,7 +32,13 @@ impl Model for Endpoint {
 
     ghost Value = { EndpointParts };
 
-    ghost view = { λ e. record { kind = e.kind; id = e.id; zone = e.zone; address = e.address; aliases = e.aliases.items } };
+    ghost view = { λ e. record {
+      kind = e.kind;
+      id = e.id;
+      zone = e.zone;
+      address = e.address;
+      aliases = e.aliases.items;
+    } };
 }
 
 impl Endpoint {
@@ -46,7 +50,8 @@ impl Endpoint {
         zone: Name,
         address: Address,
     ) -> Endpoint
-        ensures { result ≡ record { kind = kind; id = id; zone = zone; address = address; aliases = [] } }
+        ensures { result
+            ≡ record { kind = kind; id = id; zone = zone; address = address; aliases = [] } }
     {
         Endpoint {
             kind,
@@ -57,7 +62,7 @@ impl Endpoint {
         }
     }
 
-    /// An equal endpoint. Memory may be refused.
+    /// An equal endpoint. Memory may run out.
     pub fn copy(&self) -> Result<Endpoint, AllocError>
         ensures { IfOk result (λ copy. copy ≡ self.now) }
     {
@@ -70,7 +75,8 @@ impl Endpoint {
         })
     }
 
-    /// Adds an alias; one that the endpoint has changes nothing. Where memory is refused, nothing changes.
+    /// Adds an alias. If the endpoint has it already, nothing changes. If memory runs out, nothing
+    /// changes.
     pub fn add_alias(&mut self, alias: Dialled) -> Result<(), AllocError>
         ensures ok { OnOk result (self.new ≡ with_alias self.old alias) }
         ensures err { OnErr result (self.new ≡ self.old) }

@@ -5,7 +5,7 @@ ghost use Rattle.std.specs.Option.{option_copied};
 ghost use Rattle.std.specs.List.{list_any};
 ghost use Rattle.std.specs.HashMap.{spare};
 ghost use Rattle.registry.specs.Registration.{endpoint_of, by_alias, is_registered, id_is_taken, alias_is_taken, with_endpoint, without_endpoint};
-ghost use Rattle.registry.specs.RegistryIndex.{Forgets, Notes, aliases_of, is_another, owner_of};
+ghost use Rattle.registry.specs.RegistryIndex.{Forgets, LeadTo, aliases_of, is_another, owner_of};
 
 use crate::endpoints::Endpoint;
 use gk_terms::{Dialled, Name};
@@ -14,8 +14,8 @@ use std::alloc::{AllocError, Global};
 use std::collections::HashMap;
 use std::marker::Model;
 
-/// The registered endpoints: by ID, in order of registration, and the ID to which each E.164 alias leads.
-/// A contract sees the list of the endpoints.
+/// The registered endpoints: by ID, in order of registration, and the ID to which each E.164 alias
+/// leads. A contract sees the list of the endpoints.
 #[derive(Drop)]
 pub struct Registry {
     endpoints: IndexMap<Name, Endpoint>,
@@ -104,8 +104,9 @@ impl Registry {
         is_any_anothers(&self.owners, endpoint.aliases(), &endpoint.id())
     }
 
-    /// Puts the endpoint in the place of the one with its ID, or else at the end. None of its aliases may be another
-    /// endpoint's, as `alias_is_taken` tells. Where memory is refused, nothing changes.
+    /// Puts the endpoint in the place of the one with its ID, or else at the end. None of its
+    /// aliases may be another endpoint's; `alias_is_taken` tests that. If memory runs out, nothing
+    /// changes.
     pub fn put(&mut self, endpoint: Endpoint) -> Result<(), AllocError>
         requires free { alias_is_taken self.old endpoint ≡ false }
         ensures ok { OnOk result (self.new ≡ with_endpoint self.old endpoint) }
@@ -116,14 +117,15 @@ impl Registry {
         // There is room now, so that nothing fails half-way.
         let id = endpoint.id();
         forget_aliases_of(&mut self.owners, self.endpoints.get(&id));
-        note(&mut self.owners, endpoint.aliases(), &id);
+        lead(&mut self.owners, endpoint.aliases(), &id);
         let inserted: Result<_, _> = self.endpoints.insert(id, endpoint);
         let _ = inserted.unwrap();
         Ok(())
     }
 
-    /// Removes the endpoint with this ID, if it is registered. Takes no memory. Its time is linear in the number of
-    /// the endpoints that registered after it: each moves up by one place, so that the order of registration is kept.
+    /// Removes the endpoint with this ID, if it is registered. Takes no memory. Its time is linear
+    /// in the number of the endpoints that registered after it: each moves up by one place, so that
+    /// the order of registration is kept.
     pub fn remove(&mut self, id: &Name)
         ensures { self.new ≡ without_endpoint self.old id.now }
     {
@@ -132,7 +134,7 @@ impl Registry {
     }
 }
 
-/// Whether the alias leads to another ID than this.
+/// Whether the alias leads to an ID other than this one.
 fn is_anothers(owners: &HashMap<Dialled, Name>, alias: &Dialled, id: &Name) -> bool
     ensures { result ≡ is_another id.now (owner_of owners.now.entries alias.now) }
 {
@@ -142,16 +144,18 @@ fn is_anothers(owners: &HashMap<Dialled, Name>, alias: &Dialled, id: &Name) -> b
     }
 }
 
-/// Whether one of the aliases does.
+/// Whether one of the aliases leads to an ID other than this one.
 fn is_any_anothers(owners: &HashMap<Dialled, Name>, aliases: &[Dialled], id: &Name) -> bool
-    ensures { result ≡ list_any (λ alias. is_another id.now (owner_of owners.now.entries alias)) aliases.now }
+    ensures { result
+        ≡ list_any (λ alias. is_another id.now (owner_of owners.now.entries alias)) aliases.now }
 {
     aliases.iter().any(|alias| is_anothers(owners, alias, id))
 }
 
 /// Takes the aliases of the endpoint, if there is one, out of the map.
 fn forget_aliases_of(owners: &mut HashMap<Dialled, Name>, endpoint: Option<&Endpoint>)
-    ensures forgets { Forgets owners.old.entries owners.new.entries (aliases_of (option_copied endpoint.entry)) }
+    ensures forgets { Forgets owners.old.entries owners.new.entries
+        (aliases_of (option_copied endpoint.entry)) }
     ensures room { spare owners.old ≤ spare owners.new }
 {
     if let Some(endpoint) = endpoint {
@@ -169,10 +173,10 @@ fn forget(owners: &mut HashMap<Dialled, Name>, aliases: &[Dialled])
     }
 }
 
-/// Lets these aliases lead to this ID. The map has room for them.
-fn note(owners: &mut HashMap<Dialled, Name>, aliases: &[Dialled], id: &Name)
+/// Makes these aliases lead to this ID. The map has room for them.
+fn lead(owners: &mut HashMap<Dialled, Name>, aliases: &[Dialled], id: &Name)
     requires room { length aliases.now ≤ spare owners.old }
-    ensures { Notes owners.old.entries owners.new.entries aliases.now id.now }
+    ensures { LeadTo owners.old.entries owners.new.entries aliases.now id.now }
 {
     for alias in aliases {
         let inserted: Result<_, _> = owners.insert(*alias, *id);

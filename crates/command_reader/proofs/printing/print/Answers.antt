@@ -2,12 +2,10 @@ use Rattle.std.proofs.Common.{sym, subst}
 use Rattle.std.specs.List.{All}
 use Rattle.command_reader.specs.Accepted.{PrintsBack}
 use Rattle.command_reader.proofs.FileBack.{file_back}
-use Rattle.command_reader.proofs.PrintingLemmas.{All-kept}
 use Rattle.command_reader.proofs.printing.print.Goals as goal
 
 pub print_lines-requires : goal.print_lines-requires
-print_lines-requires g c =
-    All-kept PrintsBack c.kept.result.now (subst (All PrintsBack) (sym c.kept.ensures.lines) c.kept.ensures.accepted.printable.each)
+print_lines-requires g c = subst (All PrintsBack) (sym c.as_slice.ensures.commands) c.as_slice.ensures.accepted.printable.each
 
 pub returns-clause-reads_back : goal.returns-clause-reads_back
-returns-clause-reads_back g c = file_back c.args.commands.now.lines c.kept.ensures.accepted
+returns-clause-reads_back g c = file_back c.args.commands.now.commands c.as_slice.ensures.accepted

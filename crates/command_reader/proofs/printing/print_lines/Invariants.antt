@@ -1,10 +1,10 @@
 use Rattle.std.proofs.Common.{◌≡◌, take}
 use Rattle.std.specs.Io.KnownBytes.{Appends}
-use Rattle.command_reader.proofs.PrintingLemmas.{text_of_kept}
+use Rattle.command_reader.specs.Printing.{text_of}
 use Rattle.command_reader.proofs.printing.print_lines.Given as goal
 
-abbrev pub invariant-loop-numbered : goal.invariant-loop-numbered
-invariant-loop-numbered g l = record {
-  written : Appends (g.W.Sink.contents l.fn.writer) (g.W.Sink.contents l.writer) (text_of_kept (take l.numbered-index l.kept));
+abbrev pub invariant-loop-command : goal.invariant-loop-command
+invariant-loop-command g l = record {
+  written : Appends (g.W.Sink.contents l.fn.writer) (g.W.Sink.contents l.writer) (text_of (take l.command-index l.commands));
   noted : g.W.Sink.has_failed l.writer ≡ g.W.Sink.has_failed l.fn.writer;
 }

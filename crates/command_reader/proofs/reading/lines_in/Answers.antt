@@ -1,10 +1,12 @@
-use Rattle.std.proofs.Common.{rules, ◌≡◌, ◌∷◌, Ok, Err, map, sym, ap, ◌∙◌}
-use Rattle.std.specs.Prelude.{◌⊎◌}
+use Rattle.std.proofs.Common.{rules, ◌≡◌, ◌∷◌, Ok, Err, map, ap}
 use Rattle.std.proofs.lemmas.Result.{err_from_is_err_and}
 use Rattle.gk_terms.specs.Text.{lines_of, content_of}
-use Rattle.command_reader.specs.Reading.{line_after, lines_after, LacksMemoryFor}
-use Rattle.command_reader.proofs.MemoryLemmas.{read_on, refused_here, refused_later}
+use Rattle.command_reader.specs.Reading.{MayReadLine}
+use Rattle.command_reader.proofs.ReadOnLemmas.{one_line, refused_line, no_more_lines}
 use Rattle.command_reader.proofs.reading.lines_in.Goals as goal
+
+pub loop-line-init : goal.loop-line-init
+loop-line-init c = rw (c.into_iter-line-iterator.ensures.into_iter_gives, c.of-line-items.ensures, c.new-draft.ensures) (λ end said. said)
 
 pub returns-in_err-draft : goal.returns-in_err-draft
 returns-in_err-draft c =
@@ -12,15 +14,15 @@ returns-in_err-draft c =
     let line = content_of c.in-Some.line.now in
     let lines : lines_of c.loop-line.line-iterator ≡ line ∷ lines_of c.next.new.self = ap (map content_of) c.in-Some.ensures.steps in
     let fault = c.in_err-draft.field-0.0 in
-    let refused : (line_after c.loop-line.draft line ≡ Err fault.kind) ⊎ LacksMemoryFor c.loop-line.draft line fault.kind = search rules in
-    rw (p.1, p.2) (c.loop-line.invariant.refused _ (rw lines (refused_here _ _ _ _ c.in_err-draft.ensures.0 refused)))
+    let refused : MayReadLine c.loop-line.draft line (Err fault) = search rules in
+    rw (p.1, p.2) (c.loop-line.invariant (Err fault) (rw lines (refused_line _ _ _ fault refused)))
 
 pub loop-line-preserved : goal.loop-line-preserved
 loop-line-preserved c =
     let line = content_of c.in-Some.line.now in
     let lines : lines_of c.loop-line.line-iterator ≡ line ∷ lines_of c.next.new.self = ap (map content_of) c.in-Some.ensures.steps in
-    let well : line_after c.loop-line.draft line ≡ Ok c.in_ok-draft.draft = search rules in
-    record {
-      same = sym (ap (lines_after c.loop-line.draft) lines ∙ read_on _ _ _ _ well) ∙ c.loop-line.invariant.same;
-      refused = λ fault later. c.loop-line.invariant.refused fault (rw lines (refused_later _ _ _ _ fault well later));
-    }
+    let read : MayReadLine c.loop-line.draft line (Ok c.in_ok-draft.draft) = search rules in
+    λ end said. c.loop-line.invariant end (rw lines (one_line _ _ _ _ end read said))
+
+pub returns : goal.returns
+returns c = c.loop-line.invariant (Ok c.loop-line.draft) (rw (ap (map content_of) c.in-None.ensures.steps.0) (no_more_lines c.loop-line.draft))

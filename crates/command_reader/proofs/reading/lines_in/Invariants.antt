@@ -1,12 +1,11 @@
-use Rattle.std.proofs.Common.{◌≡◌}
+use Rattle.std.specs.Prelude.{Result}
 use Rattle.gk_terms.specs.Text.{lines_of}
 use Rattle.command_reader.specs.declared.faults.LineFault.{LineFault}
-use Rattle.command_reader.specs.Reading.{nothing_read, lines_after, AreRefusedWith}
+use Rattle.command_reader.specs.Progress.{Progress}
+use Rattle.command_reader.specs.Reading.{nothing_read, MayReadOn}
 use Rattle.command_reader.proofs.reading.lines_in.Given as goal
 
--- the lines that are left, behind those read, are all lines; and where they are refused, so are all
+-- whatever may be answered of the lines that are left, after those read, may be answered of all lines
 abbrev pub invariant-loop-line : goal.invariant-loop-line
-invariant-loop-line l = record {
-  same : lines_after l.draft (lines_of l.line-iterator) ≡ lines_after nothing_read (lines_of l.fn.bytes);
-  refused : (fault : LineFault) → AreRefusedWith l.draft (lines_of l.line-iterator) fault → AreRefusedWith nothing_read (lines_of l.fn.bytes) fault;
-}
+invariant-loop-line l =
+    (end : Result Progress LineFault) → MayReadOn l.draft (lines_of l.line-iterator) end → MayReadOn nothing_read (lines_of l.fn.bytes) end

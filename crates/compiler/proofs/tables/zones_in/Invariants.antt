@@ -3,4 +3,4 @@ use Rattle.compiler.specs.TablesIndex.{AreZonesOf}
 use Rattle.compiler.proofs.tables.zones_in.Given as goal
 
 abbrev pub invariant-loop-place : goal.invariant-loop-place
-invariant-loop-place l = AreZonesOf l.zones.entries (take l.place l.commands.lines)
+invariant-loop-place l = AreZonesOf l.zones.entries (take l.place l.commands.commands)

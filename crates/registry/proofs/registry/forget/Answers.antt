@@ -11,6 +11,7 @@ loop-alias-preserved c =
       forgets = λ alias.
           c.remove.ensures.updates.0 alias
           ∙ ap (cond (bytes_eq next alias) None) (c.loop-alias.invariant.forgets alias)
-          ∙ listed_more c.args.aliases.now c.loop-alias.alias-index next alias None (owner_of c.args.owners.now.entries alias) c.loop-alias-test.true c.alias-item.is;
+          ∙ listed_more c.args.aliases.now c.loop-alias.alias-index next alias None
+          (owner_of c.args.owners.now.entries alias) c.loop-alias-test.true c.alias-item.is;
       room = omega (arith, c.loop-alias.invariant.room, c.remove.ensures.spare);
     }

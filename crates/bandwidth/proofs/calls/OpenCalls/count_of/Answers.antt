@@ -10,7 +10,8 @@ use Rattle.bandwidth.proofs.calls.OpenCalls.count_of.Goals as goal
 use Rattle.bandwidth.proofs.calls.OpenCalls.count_of.Goals.{After-unwrap_or-count}
 
 -- the count that was looked up is that of the calls
-counted : (c : After-unwrap_or-count) → c.unwrap_or-count.result ≡ count_owned (values_of c.self.inside.calls.entries) c.args.id.now
+counted : (c : After-unwrap_or-count)
+    → c.unwrap_or-count.result ≡ count_owned (values_of c.self.inside.calls.entries) c.args.id.now
 counted c =
     c.unwrap_or-count.ensures
     ∙ ap (λ count. unwrap_or count 0) (c.copied.ensures ∙ c.get.ensures.value)
@@ -19,7 +20,16 @@ counted c =
 pub prove-unreachable-requires : goal.prove-unreachable-requires
 prove-unreachable-requires c =
     let entries = c.self.inside.calls.entries in
-    omega (arith, c.if-prove.true, c.len.ensures.len, counted ((goal.at.prove-unreachable-requires c).After-unwrap_or-count), count_by-le-length (has_owner c.args.id.now) (values_of entries), length-values_of entries)
+    omega (
+      arith,
+      c.if-prove.true,
+      c.len.ensures.len,
+      counted
+          ((goal.at.prove-unreachable-requires c).After-unwrap_or-count),
+      count_by-le-length
+          (has_owner c.args.id.now) (values_of entries),
+      length-values_of entries,
+    )
 
 pub returns-clause-count : goal.returns-clause-count
 returns-clause-count c =

@@ -1,13 +1,23 @@
-use Rattle.std.proofs.Common.{ap, ◌∙◌}
-use Rattle.std.specs.Prelude.{is_some}
+use Rattle.std.proofs.Common.{sym, ap, subst, ◌∙◌, ◌≡◌}
+use Rattle.command_reader.specs.Accepted.{IsAccepted, IsPrintable}
+use Rattle.command_reader.specs.Configuration.{Configuration}
 use Rattle.command_reader.specs.Progress.{Progress, commands_in}
-use Rattle.command_reader.specs.Reading.{unknown_zone}
-use Rattle.command_reader.specs.Zones.{first_local_of}
 use Rattle.command_reader.proofs.FileBack.{accepted_lines}
+use Rattle.command_reader.proofs.NumberLemmas.{held_commands}
 use Rattle.command_reader.proofs.draft.Draft.into_commands.Goals as goal
 
 pub new-requires-clause-accepted : goal.new-requires-clause-accepted
 new-requires-clause-accepted c =
-    let read : Progress = record { kept = c.self.inside.kept.items; passed = c.self.inside.passed } in
-    accepted_lines read c.self.invariant.2 (ap unknown_zone c.self.view_is ∙ c.requires.declared)
-    (ap (λ p. is_some (first_local_of (commands_in p))) c.self.view_is ∙ c.requires.has_local)
+    let same = held_commands c.self.inside.numbers.items _ _ _ c.self.invariant.0 c.self.view_is in
+    subst IsAccepted same (accepted_lines c.args.self (subst IsPrintable (sym same) c.self.invariant.3) c.requires.declared c.requires.has_local)
+
+-- both parts of a configuration
+same_parts : (configuration : Configuration) (read : Progress) → configuration.commands ≡ commands_in read → configuration.passed ≡ read.passed
+    → configuration ≡ record { commands = commands_in read; passed = read.passed }
+same_parts configuration read commands passed =
+    ap (λ cs. record { commands = cs; passed = configuration.passed }) commands ∙ ap (λ n. record { commands = commands_in read; passed = n }) passed
+
+pub returns : goal.returns
+returns c =
+    let same = held_commands c.self.inside.numbers.items _ _ _ c.self.invariant.0 c.self.view_is in
+    same_parts c.new.result c.args.self (c.new.ensures.commands ∙ sym same) (c.new.ensures.passed ∙ ap (λ (read : Progress). read.passed) c.self.view_is)

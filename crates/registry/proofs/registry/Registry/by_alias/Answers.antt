@@ -2,7 +2,7 @@ use Rattle.std.proofs.Common.{◌≡◌, true, false, Some, None, sym, ap, ◌�
 use Rattle.std.specs.Prelude.{bytes_eq, if◌then◌else◌}
 use Rattle.std.specs.Option.{option_copied}
 use Rattle.registry.specs.Registration.{by_alias}
-use Rattle.registry.specs.RegistryIndex.{entry_of, owner_of}
+use Rattle.registry.specs.RegistryIndex.{kept_endpoint_of, owner_of}
 use Rattle.registry.proofs.RegistryLemmas.{by_alias_nowhere, by_alias_owned}
 use Rattle.registry.proofs.registry.Registry.by_alias.Goals as goal
 
@@ -12,9 +12,11 @@ returns-in_err-get c =
     let zone = c.args.zone.now in
     let number = c.args.number.now in
     let owners = c.self.inside.owners.entries in
-    let nowhere : owner_of owners number ≡ None = sym c.get.ensures.value ∙ ap option_copied c.in_err-get.was in
+    let nowhere : owner_of owners number ≡ None = sym c.get.ensures.value
+    ∙ ap option_copied c.in_err-get.was in
     ap option_copied c.from_residual.ensures
-    ∙ sym (by_alias_nowhere c.self.inside.endpoints.entries owners c.self.invariant zone number nowhere)
+    ∙ sym (by_alias_nowhere c.self.inside.endpoints.entries owners c.self.invariant zone number
+    nowhere)
     ∙ ap (λ endpoints. by_alias endpoints zone number) c.self.view_is
 
 -- its owner is no endpoint
@@ -25,8 +27,10 @@ returns-in_err-endpoint c =
     let entries = c.self.inside.endpoints.entries in
     let owners = c.self.inside.owners.entries in
     let owner = c.in_ok-get.field-0.now in
-    let owned : owner_of owners number ≡ Some owner = sym c.get.ensures.value ∙ ap option_copied c.in_ok-get.was in
-    let stranger : entry_of entries owner ≡ None = sym c.get-2.ensures.value ∙ ap option_copied c.in_err-endpoint.was in
+    let owned : owner_of owners number ≡ Some owner = sym c.get.ensures.value
+    ∙ ap option_copied c.in_ok-get.was in
+    let stranger : kept_endpoint_of entries owner ≡ None = sym c.get-2.ensures.value
+    ∙ ap option_copied c.in_err-endpoint.was in
     ap option_copied c.from_residual-in_err-endpoint.ensures
     ∙ sym (by_alias_owned entries owners c.self.invariant zone number owner None owned stranger)
     ∙ ap (λ endpoints. by_alias endpoints zone number) c.self.view_is
@@ -40,11 +44,15 @@ returns-then-eq c =
     let owners = c.self.inside.owners.entries in
     let owner = c.in_ok-get.field-0.now in
     let found = c.in_ok-endpoint.endpoint.now in
-    let owned : owner_of owners number ≡ Some owner = sym c.get.ensures.value ∙ ap option_copied c.in_ok-get.was in
-    let entry : entry_of entries owner ≡ Some found = sym c.get-2.ensures.value ∙ ap option_copied c.in_ok-endpoint.was in
-    let there : bytes_eq found.zone zone ≡ true = ap (λ name. bytes_eq name zone) (sym c.zone.ensures) ∙ sym c.eq.ensures ∙ c.if-eq.true in
+    let owned : owner_of owners number ≡ Some owner = sym c.get.ensures.value
+    ∙ ap option_copied c.in_ok-get.was in
+    let entry : kept_endpoint_of entries owner ≡ Some found = sym c.get-2.ensures.value
+    ∙ ap option_copied c.in_ok-endpoint.was in
+    let there : bytes_eq found.zone zone ≡ true =
+    ap (λ name. bytes_eq name zone) (sym c.zone.ensures) ∙ sym c.eq.ensures ∙ c.if-eq.true in
     sym (ap (λ b. if b then Some found else None) there)
-    ∙ sym (by_alias_owned entries owners c.self.invariant zone number owner (Some found) owned entry)
+    ∙ sym (by_alias_owned entries owners c.self.invariant zone number owner (Some found) owned
+    entry)
     ∙ ap (λ endpoints. by_alias endpoints zone number) c.self.view_is
 
 -- its owner is in another zone
@@ -56,9 +64,13 @@ returns-else-eq c =
     let owners = c.self.inside.owners.entries in
     let owner = c.in_ok-get.field-0.now in
     let found = c.in_ok-endpoint.endpoint.now in
-    let owned : owner_of owners number ≡ Some owner = sym c.get.ensures.value ∙ ap option_copied c.in_ok-get.was in
-    let entry : entry_of entries owner ≡ Some found = sym c.get-2.ensures.value ∙ ap option_copied c.in_ok-endpoint.was in
-    let elsewhere : bytes_eq found.zone zone ≡ false = ap (λ name. bytes_eq name zone) (sym c.zone.ensures) ∙ sym c.eq.ensures ∙ c.if-eq.false in
+    let owned : owner_of owners number ≡ Some owner = sym c.get.ensures.value
+    ∙ ap option_copied c.in_ok-get.was in
+    let entry : kept_endpoint_of entries owner ≡ Some found = sym c.get-2.ensures.value
+    ∙ ap option_copied c.in_ok-endpoint.was in
+    let elsewhere : bytes_eq found.zone zone ≡ false =
+    ap (λ name. bytes_eq name zone) (sym c.zone.ensures) ∙ sym c.eq.ensures ∙ c.if-eq.false in
     sym (ap (λ b. if b then Some found else None) elsewhere)
-    ∙ sym (by_alias_owned entries owners c.self.invariant zone number owner (Some found) owned entry)
+    ∙ sym (by_alias_owned entries owners c.self.invariant zone number owner (Some found) owned
+    entry)
     ∙ ap (λ endpoints. by_alias endpoints zone number) c.self.view_is

@@ -1,7 +1,7 @@
 use Rattle.std.proofs.Common.{◌≡◌, not, Some, None, sym, ap, ◌∙◌}
 use Rattle.std.specs.Option.{option_copied}
 use Rattle.registry.specs.Registration.{id_is_taken, same_address}
-use Rattle.registry.specs.RegistryIndex.{entry_of}
+use Rattle.registry.specs.RegistryIndex.{kept_endpoint_of}
 use Rattle.registry.proofs.RegistryLemmas.{found_and, entry_taken}
 use Rattle.registry.proofs.registry.Registry.id_is_taken.Goals as goal
 
@@ -10,7 +10,9 @@ returns-in-Some c =
     let e = c.args.endpoint.now in
     let entries = c.self.inside.endpoints.entries in
     let found = c.in-Some.other.now in
-    let entry : entry_of entries e.id ≡ Some found = ap (entry_of entries) (sym c.id.ensures) ∙ sym c.get.ensures.value ∙ ap option_copied c.in-Some.is in
+    let entry : kept_endpoint_of entries e.id ≡ Some found =
+    ap (kept_endpoint_of entries) (sym c.id.ensures) ∙ sym c.get.ensures.value
+    ∙ ap option_copied c.in-Some.is in
     c.ne.ensures
     ∙ ap (λ address. not (same_address address c.address-in-Some.result)) c.address.ensures
     ∙ ap (λ address. not (same_address found.address address)) c.address-in-Some.ensures
@@ -22,7 +24,9 @@ pub returns-in-None : goal.returns-in-None
 returns-in-None c =
     let e = c.args.endpoint.now in
     let entries = c.self.inside.endpoints.entries in
-    let entry : entry_of entries e.id ≡ None = ap (entry_of entries) (sym c.id.ensures) ∙ sym c.get.ensures.value ∙ ap option_copied c.in-None.is in
+    let entry : kept_endpoint_of entries e.id ≡ None =
+    ap (kept_endpoint_of entries) (sym c.id.ensures) ∙ sym c.get.ensures.value
+    ∙ ap option_copied c.in-None.is in
     sym (ap (found_and (λ f. not (same_address f.address e.address))) entry)
     ∙ sym (entry_taken entries c.self.inside.owners.entries c.self.invariant e)
     ∙ ap (λ endpoints. id_is_taken endpoints e) c.self.view_is

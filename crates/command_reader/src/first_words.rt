@@ -1,0 +1,142 @@
+//! What one line says, by its first word. Here and in the modules of each kind of line, words are compared by guards:
+//! with several byte strings as patterns of one `match`, no proof is found.
+
+ghost use Rattle.std.specs.Prelude.{◌≡◌, None, ◌∷◌};
+ghost use Rattle.gk_terms.specs.Text.{words_of};
+ghost use Rattle.gk_terms.specs.Fields.{nothing_more};
+ghost use Rattle.command_reader.specs.Fields.{is_one_of};
+ghost use Rattle.command_reader.specs.Memory.{UnlessMemory, KeptAndDeclaresNone};
+ghost use Rattle.command_reader.specs.Line.{arq_at, no_at, passed_alone, passed_whole, left_out_commands, passed_at, named_command_at, command_at, line_of};
+
+use crate::bandwidth_lines::bandwidth;
+use crate::commands::Command;
+use crate::faults::FaultKind;
+use crate::technology_lines::gw_type_prefix;
+use crate::zone_lines::zone;
+use gk_terms::fields::nothing_more;
+use gk_terms::limits::MOST_LINE_BYTES;
+use gk_terms::words::Words;
+use std::alloc::Global;
+
+#[tactic(auto, unfolding(crate::specs::Line::line_of))]
+/// The command of a line, nothing if it is passed over, or its first fault from the left. Memory is taken only
+/// for names of gateways and of hop-off zones. If it is refused, and the line has no fault, the answer is
+/// `NoMemory`.
+pub fn command_in(alloc: Global, line: &[u8]) -> Result<Option<Command>, FaultKind>
+    ensures { UnlessMemory KeptAndDeclaresNone (line_of line.now) result }
+{
+    if line.len() > MOST_LINE_BYTES {
+        return Err(FaultKind::TooLong);
+    }
+    command_at(alloc, &mut Words::of(line))
+}
+
+/// The same, by the words of the line.
+fn command_at(alloc: Global, words: &mut Words<'_>) -> Result<Option<Command>, FaultKind>
+    ensures { UnlessMemory KeptAndDeclaresNone (command_at (words_of words.old)) result }
+{
+    match words.next() {
+        None => Ok(None),
+        Some([b'!', ..]) => Ok(None),
+        Some(first) => named_command_at(alloc, first, words),
+    }
+}
+
+/// What the line says, by its first word and those after it.
+fn named_command_at(
+    alloc: Global,
+    first: &[u8],
+    words: &mut Words<'_>,
+) -> Result<Option<Command>, FaultKind>
+    ensures { UnlessMemory KeptAndDeclaresNone
+        (named_command_at first.now (words_of words.old)) result }
+{
+    if first == b"zone".as_slice() {
+        Ok(Some(zone(alloc, words)?))
+    } else if first == b"gw-type-prefix".as_slice() {
+        Ok(Some(gw_type_prefix(alloc, words)?))
+    } else if first == b"arq".as_slice() {
+        Ok(Some(arq(words)?))
+    } else if first == b"bandwidth".as_slice() {
+        Ok(Some(bandwidth(words)?))
+    } else {
+        Ok(passed_at(first, words)?)
+    }
+}
+
+/// `arq` and what follows it.
+fn arq(words: &mut Words<'_>) -> Result<Command, FaultKind>
+    ensures { result ≡ arq_at (words_of words.old) }
+{
+    match words.next() {
+        None => Err(FaultKind::Missing),
+        Some(word) if word == b"reject-unknown-prefix".as_slice() => {
+            nothing_more(Command::RejectUnknownPrefix, words)
+        }
+        Some(_) => Err(FaultKind::UnknownCommand),
+    }
+}
+
+/// A line that no command begins: it is passed over or at fault.
+fn passed_at(first: &[u8], words: &mut Words<'_>) -> Result<Option<Command>, FaultKind>
+    ensures { result ≡ passed_at first.now (words_of words.old) }
+{
+    if first == b"no".as_slice() {
+        no(words)
+    } else if is_passed_alone(first) {
+        alone(words)
+    } else if is_passed_whole(first) {
+        Ok(None)
+    } else if is_left_out(first) {
+        Err(FaultKind::Unsupported)
+    } else {
+        Err(FaultKind::UnknownCommand)
+    }
+}
+
+/// `no` and what follows it.
+fn no(words: &mut Words<'_>) -> Result<Option<Command>, FaultKind>
+    ensures { result ≡ no_at (words_of words.old) }
+{
+    match words.next() {
+        None => Err(FaultKind::Missing),
+        Some(word) if word == b"shutdown".as_slice() => alone(words),
+        Some(word) if word == b"use-proxy".as_slice() => Ok(None),
+        Some(_) => Err(FaultKind::Unsupported),
+    }
+}
+
+/// A line that is passed over if it has no further word.
+fn alone(words: &mut Words<'_>) -> Result<Option<Command>, FaultKind>
+    ensures { result ≡ nothing_more FaultKind.Extra None (words_of words.old) }
+{
+    nothing_more(None, words)
+}
+
+/// Whether a line that begins with the word is passed over if it has no further word.
+fn is_passed_alone(word: &[u8]) -> bool
+    ensures { result ≡ is_one_of passed_alone word.now }
+{
+    word == b"gatekeeper".as_slice() || word == b"exit".as_slice() || word == b"end".as_slice()
+}
+
+/// Whether a line that begins with the word is passed over, whatever follows.
+fn is_passed_whole(word: &[u8]) -> bool
+    ensures { result ≡ is_one_of passed_whole word.now }
+{
+    word == b"accounting".as_slice() || word == b"timer".as_slice() || word == b"lrq".as_slice()
+}
+
+/// Whether the word begins a command that is left out.
+fn is_left_out(word: &[u8]) -> bool
+    ensures { result ≡ is_one_of left_out_commands word.now }
+{
+    word == b"alias".as_slice()
+        || word == b"endpoint".as_slice()
+        || word == b"gw".as_slice()
+        || word == b"load-balance".as_slice()
+        || word == b"security".as_slice()
+        || word == b"server".as_slice()
+        || word == b"shutdown".as_slice()
+        || word == b"use-proxy".as_slice()
+}

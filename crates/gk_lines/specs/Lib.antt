@@ -1,0 +1,3 @@
+pub mod LineBuffer
+pub mod LineReader
+pub mod Streams

@@ -1,0 +1,34 @@
+-- Readers and writers: what they note of their calls, and what stands in a writer that failed.
+use Rattle.std.specs.Prelude.{◌≡◌, ℕ, ◌+◌, ◌^◌, ◌<◌, Bool, true, List, ◌++◌, Option, Some, None, Result, Ok, Err, ⊤, if◌then◌else◌}
+use Rattle.std.specs.Io.KnownBytes.{Appends}
+
+-- ---- notes
+-- a stream has failed if its call says so, and else its note is as it was
+abbrev pub Notes : {A E : Type 0} → Bool → Bool → Result A E → Type 0
+Notes old new (Ok x) = new ≡ old
+Notes old new (Err fault) = new ≡ true
+
+-- the same where a fault may be that of another stream, or none of a stream: the note is set
+-- exactly by this stream's
+abbrev pub NotesIf : {A E : Type 0} → (E → Bool) → Bool → Bool → Result A E → Type 0
+NotesIf is_its old new (Ok x) = new ≡ old
+NotesIf is_its old new (Err fault) = new ≡ (if is_its fault then true else old)
+
+-- one more call was counted
+abbrev pub CountsCall : ℕ → ℕ → Type 0
+CountsCall old new = old + 1 < 2 ^ 64 → new ≡ old + 1
+
+-- ---- known bytes
+-- what is known of a reader's bytes stays known, and the bytes before and after are so related
+abbrev pub KnownStep : Option (List ℕ) → Option (List ℕ) → (List ℕ → List ℕ → Type 0) → Type 0
+KnownStep None new R = ⊤
+KnownStep (Some xs) None R = ⊥
+KnownStep (Some xs) (Some ys) R = R xs ys
+
+-- known bytes grew by these bytes but for a rest of them
+abbrev pub AppendsUpTo : Option (List ℕ) → Option (List ℕ) → List ℕ → List ℕ → Type 0
+AppendsUpTo old new bytes rest = (front : List ℕ) × (bytes ≡ front ++ rest) × Appends old new front
+
+-- known bytes grew by a front of these
+abbrev pub AppendsFront : Option (List ℕ) → Option (List ℕ) → List ℕ → Type 0
+AppendsFront old new bytes = (rest : List ℕ) × AppendsUpTo old new bytes rest

@@ -1,0 +1,178 @@
+//! A line in a place of fixed size.
+
+ghost use Rattle.std.specs.Prelude.{◌≡◌, ◌+◌, ◌*◌, ◌≤◌, [], ◌∷◌, ◌++◌, length, take, drop, decimal};
+ghost use Rattle.gk_terms.specs.Text.{content_of};
+ghost use Rattle.gk_terms.specs.Address.{ip_text, address_text};
+ghost use Rattle.gk_terms.specs.declared.limits.TheConstants.{MOST_NAME_BYTES};
+ghost use Rattle.gk_lines.specs.LineBuffer.{MOST_DIGITS, extended, with_words};
+
+use gk_terms::limits::MOST_LINE_BYTES;
+use gk_terms::text_lines::content;
+use gk_terms::{Address, Name};
+use itoa::Buffer;
+use std::marker::Model;
+
+/// How many bytes of a line are kept: those of the longest line that is read, its carriage return
+/// and its line feed. A line that fills them without a line feed is too long, whatever follows.
+pub const ROOM: usize = MOST_LINE_BYTES + 2;
+
+/// One line, as it is read or made: its first bytes, `len` of them, stand in the array. What has no
+/// room is left out. Takes no memory. A contract sees the line's bytes.
+#[derive(Drop)]
+pub struct LineBuffer {
+    bytes: [u8; ROOM],
+    len: usize,
+}
+
+impl Model for LineBuffer {
+    ghost use Rattle.std.specs.Prelude.{ℕ, ◌≡◌, ◌≤◌, List, length, take};
+    ghost use Rattle.gk_lines.specs.LineBuffer.{ROOM_BYTES};
+
+    ghost Value = { List ℕ };
+
+    ghost view = { λ l. take l.len l.bytes };
+
+    ghost invariant = { λ l. (l.len ≤ ROOM_BYTES) × (length l.bytes ≡ ROOM_BYTES) };
+}
+
+impl LineBuffer {
+    /// A line without a byte.
+    pub fn new() -> LineBuffer
+        ensures { result ≡ [] }
+    {
+        LineBuffer {
+            bytes: [0; ROOM],
+            len: 0,
+        }
+    }
+
+    /// The bytes of the line.
+    pub fn as_bytes(&self) -> &[u8]
+        ensures { result.now ≡ self.now }
+    {
+        &self.bytes[..self.len]
+    }
+
+    /// What the line says, without its line feed and one carriage return just before that.
+    pub fn content(&self) -> &[u8]
+        ensures { result.now ≡ content_of self.now }
+    {
+        content(self.as_bytes())
+    }
+
+    /// Drops all bytes.
+    pub fn clear(&mut self)
+        ensures { self.new ≡ [] }
+    {
+        self.len = 0;
+    }
+
+    /// Makes it a line of one word.
+    pub fn begin(&mut self, word: &[u8])
+        ensures { self.new ≡ extended [] word.now }
+    {
+        self.clear();
+        self.push(word);
+    }
+
+    /// Makes it a line of one number.
+    pub fn begin_number(&mut self, number: u32)
+        ensures number { self.new ≡ extended [] (decimal number) }
+        ensures short { length (decimal number) ≤ MOST_DIGITS }
+    {
+        self.clear();
+        self.digits(number);
+    }
+
+    /// Adds bytes at the end, as far as they have room.
+    pub fn push(&mut self, bytes: &[u8])
+        ensures { self.new ≡ extended self.old bytes.now }
+    {
+        let count = bytes.len().min(ROOM - self.len);
+        write_at(&mut self.bytes, self.len, &bytes[..count]);
+        self.len += count;
+    }
+
+    /// Adds a word, with a space before it.
+    pub fn word(&mut self, word: &[u8])
+        ensures { self.new ≡ extended self.old (32 ∷ word.now) }
+    {
+        self.push(b" ");
+        self.push(word);
+    }
+
+    /// Adds a name as a word.
+    pub fn name(&mut self, name: &Name)
+        ensures name { self.new ≡ extended self.old (32 ∷ name.now) }
+        ensures short { length name.now ≤ MOST_NAME_BYTES }
+    {
+        self.word(name.as_bytes());
+    }
+
+    /// Adds each name as a word.
+    pub fn names(&mut self, names: &[Name])
+        ensures { self.new ≡ with_words self.old names.now }
+    {
+        for name in names {
+            self.word(name.as_bytes());
+        }
+    }
+
+    /// Adds a number as a word.
+    pub fn number(&mut self, number: u32)
+        ensures number { self.new ≡ extended self.old (32 ∷ decimal number) }
+        ensures short { length (decimal number) ≤ MOST_DIGITS }
+    {
+        self.push(b" ");
+        self.digits(number);
+    }
+
+    /// Adds the digits of a number.
+    fn digits(&mut self, number: u32)
+        ensures digits { self.new ≡ extended self.old (decimal number) }
+        ensures short { length (decimal number) ≤ MOST_DIGITS }
+    {
+        let mut buffer = Buffer::new();
+        self.push(buffer.format(number).as_bytes());
+    }
+
+    /// Adds an IPv4 address as a word.
+    pub fn ip(&mut self, ip: [u8; 4])
+        ensures ip { self.new ≡ extended self.old (32 ∷ ip_text ip) }
+        ensures short { length (ip_text ip) ≤ 4 * MOST_DIGITS + 3 }
+    {
+        let [first, second, third, fourth] = ip;
+        self.number(u32::from(first));
+        self.octet(second);
+        self.octet(third);
+        self.octet(fourth);
+    }
+
+    /// Adds a further part of an IPv4 address.
+    fn octet(&mut self, octet: u8)
+        ensures octet { self.new ≡ extended self.old (46 ∷ decimal octet) }
+        ensures short { length (decimal octet) ≤ MOST_DIGITS }
+    {
+        self.push(b".");
+        self.digits(u32::from(octet));
+    }
+
+    /// Adds an address as a word, always with its port.
+    pub fn address(&mut self, address: &Address)
+        ensures address { self.new ≡ extended self.old (32 ∷ address_text address.now) }
+        ensures short { length (address_text address.now) ≤ 5 * MOST_DIGITS + 4 }
+    {
+        self.ip(address.ip());
+        self.push(b":");
+        self.digits(u32::from(address.port()));
+    }
+}
+
+/// Writes bytes over those from a place on.
+fn write_at(target: &mut [u8], place: usize, bytes: &[u8])
+    requires { place + length bytes.now ≤ length target.old }
+    ensures { target.new ≡ take place target.old ++ bytes.now
+        ++ drop (place + length bytes.now) target.old }
+{
+    target[place..place + bytes.len()].copy_from_slice(bytes);
+}

@@ -1,0 +1,139 @@
+//! A session: requests in, replies out.
+
+ghost use Rattle.std.specs.Prelude.{◌≡◌, ◌≢◌, ◌+◌, ◌^◌, ◌<◌, ◌≤◌, ℕ, List, IfOk, IfErr, OnOk, OnErr};
+ghost use Rattle.std.specs.Io.KnownBytes.{Appends, IsAtEnd};
+ghost use Rattle.gk_lines.specs.Streams.{Notes, NotesIf, KnownStep, AppendsFront};
+ghost use Rattle.gk_lines.specs.LineReader.{left_of, AtEndIfEnded, CountsTurns};
+ghost use Rattle.gk_protocol.specs.Answers.{line_of};
+ghost use Rattle.gk_protocol.specs.Requests.{answer_of_none};
+ghost use Rattle.gk_protocol.specs.Session.{Ends, is_read_fault, is_write_fault};
+ghost use Rattle.gk_protocol.specs.AnswersLine.{AnswersLine};
+
+use crate::answer_lines::show;
+use crate::answerer::Answerer;
+use crate::answers::Answer;
+use crate::request_faults::NoRequest;
+use crate::request_lines::request_in;
+use crate::session_faults::SessionFault;
+use admission::{RegisterRefusal, Reply};
+use gk_lines::{LineBuffer, LineReader, Sink, Source, WriteFault, write_whole};
+use std::alloc::Global;
+
+/// Answers the requests that the reader gives to its end, and says how many replies were written.
+/// The reader is called at most so many `turns`; each request is answered, and its reply written in
+/// one call of the writer if it takes the whole, before the reader is called again.
+///
+/// `ReadFault` comes exactly if the reader fails, `WriteFault` exactly if the writer fails or takes
+/// no byte, `TurnsSpent` only if the reader was called as often as it may be. `NoMemory` does not
+/// come: a request that finds no memory gets a reply that says so.
+pub fn session<R: Source, W: Sink, A: Answerer>(
+    alloc: Global,
+    reader: &mut R,
+    writer: &mut W,
+    answerer: &mut A,
+    turns: u32,
+) -> Result<u64, SessionFault>
+    // What was written, by how the session ended, however the reader cut the bytes into pieces.
+    ensures written { KnownStep (R.remaining reader.old) (R.remaining reader.new) (λ bytes rest.
+        (ahead : List ℕ) × (text : List ℕ)
+        × Ends A.may_answer bytes ahead rest answerer.old answerer.new text result
+        × Appends (W.contents writer.old) (W.contents writer.new) text) }
+    ensures end { OnOk result (IsAtEnd (R.remaining reader.new)) }
+    ensures buffered { IfErr result (λ fault. fault ≢ SessionFault.NoMemory) }
+
+    // For streams that had not failed before, a fault of one of them comes exactly if that one
+    // failed.
+    ensures reader_noted { NotesIf is_read_fault (R.has_failed reader.old)
+        (R.has_failed reader.new) result }
+    ensures writer_noted { NotesIf is_write_fault (W.has_failed writer.old)
+        (W.has_failed writer.new) result }
+
+    // One turn is one call of the reader.
+    ensures turns { R.calls reader.old + turns < 2 ^ 64
+        → R.calls reader.new ≤ R.calls reader.old + turns }
+    ensures turns_spent { IfErr result (λ fault. fault ≡ SessionFault.TurnsSpent
+        → R.calls reader.old + turns < 2 ^ 64 → R.calls reader.new ≡ R.calls reader.old + turns) }
+{
+    let mut lines = LineReader::new(turns);
+    session_from(alloc, &mut lines, reader, writer, answerer)
+}
+
+/// The same over an input of which some lines were taken: `lines` is what was read ahead of the
+/// reader, and the turns that are left.
+pub fn session_from<R: Source, W: Sink, A: Answerer>(
+    alloc: Global,
+    lines: &mut LineReader,
+    reader: &mut R,
+    writer: &mut W,
+    answerer: &mut A,
+) -> Result<u64, SessionFault>
+    requires { AtEndIfEnded lines.old (R.remaining reader.old) }
+    ensures written { KnownStep (left_of lines.old (R.remaining reader.old))
+        (R.remaining reader.new) (λ bytes rest.
+        (text : List ℕ)
+        × Ends A.may_answer bytes lines.new.pending rest answerer.old answerer.new text result
+        × Appends (W.contents writer.old) (W.contents writer.new) text) }
+    ensures end { OnOk result (IsAtEnd (R.remaining reader.new)) }
+    ensures buffered { IfErr result (λ fault. fault ≢ SessionFault.NoMemory) }
+    ensures reader_noted { NotesIf is_read_fault (R.has_failed reader.old)
+        (R.has_failed reader.new) result }
+    ensures writer_noted { NotesIf is_write_fault (W.has_failed writer.old)
+        (W.has_failed writer.new) result }
+    ensures turns { CountsTurns (R.calls reader.old)
+        (R.calls reader.new) lines.old.turns lines.new.turns }
+    ensures turns_spent { IfErr result
+        (λ fault. fault ≡ SessionFault.TurnsSpent → lines.new.turns ≡ 0) }
+{
+    // Each reply takes a line, and each line a turn or a byte: so the count of replies fits.
+    let _turns = lines.turns();
+    let mut line = LineBuffer::new();
+    let mut reply = LineBuffer::new();
+    let mut replies = 0u64;
+    while lines.next_line(reader, &mut line)? {
+        match answer_to(alloc, line.content(), answerer) {
+            None => {}
+            Some(answer) => {
+                send(&mut reply, writer, &answer)?;
+                replies += 1;
+            }
+        }
+    }
+    Ok(replies)
+}
+
+/// The answer to a line; nothing to a blank one.
+fn answer_to<A: Answerer>(alloc: Global, line: &[u8], answerer: &mut A) -> Option<Answer>
+    ensures { AnswersLine A.may_answer answerer.old line.now result answerer.new }
+{
+    match request_in(alloc, line) {
+        Ok(None) => None,
+        Ok(Some(request)) => Some(answerer.answer(request)),
+        Err(none) => Some(answer_to_none(none)),
+    }
+}
+
+/// The answer to a line that is not a request.
+fn answer_to_none(none: NoRequest) -> Answer
+    ensures { result ≡ answer_of_none none }
+{
+    match none {
+        NoRequest::Fault(fault) => Answer::Malformed(fault),
+        NoRequest::NoMemory { sequence, id } => {
+            let reason = RegisterRefusal::NoMemory;
+            let reply = Reply::RegisterRefused { id, reason };
+            Answer::Reply { sequence, reply }
+        }
+    }
+}
+
+/// Writes an answer as one line, in one call of the writer if it takes the whole.
+fn send<W: Sink>(reply: &mut LineBuffer, writer: &mut W, answer: &Answer) -> Result<(), WriteFault>
+    ensures whole { OnOk result
+        (Appends (W.contents writer.old) (W.contents writer.new) (line_of answer.now)) }
+    ensures front { OnErr result
+        (AppendsFront (W.contents writer.old) (W.contents writer.new) (line_of answer.now)) }
+    ensures noted { Notes (W.has_failed writer.old) (W.has_failed writer.new) result }
+{
+    show(reply, answer);
+    write_whole(writer, reply.as_bytes())
+}

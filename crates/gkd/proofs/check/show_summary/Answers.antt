@@ -1,0 +1,9 @@
+use Rattle.std.proofs.Common.{arith}
+use Rattle.gk_lines.proofs.LineBufferLemmas.{line_in_room}
+use Rattle.gkd.specs.Check.{summary_words}
+use Rattle.gkd.proofs.check.show_summary.Goals as goal
+
+pub returns : goal.returns
+returns c =
+    rw (c.push.ensures, c.word-3.ensures, c.word-2.ensures, c.number.ensures.number, c.word.ensures, c.begin_number.ensures.number)
+    (line_in_room (summary_words c.args.count c.args.passed) (omega (arith, c.begin_number.ensures.short, c.number.ensures.short)))

@@ -1,0 +1,64 @@
+-- What a run writes if memory lasts, computed.
+use Rattle.std.specs.Prelude.{◌≡◌, ℕ, List, [], ◌∷◌, ◌++◌, Result, Ok, Err, flat_map}
+use Rattle.command_reader.specs.declared.faults.LineFault.{LineFault}
+use Rattle.command_reader.specs.Configuration.{Configuration}
+use Rattle.command_reader.specs.Reading.{reading_in}
+use Rattle.admission.specs.declared.limits.Limits.{Limits}
+use Rattle.admission.specs.Step.{step}
+use Rattle.admission.specs.History.{CoreParts, state_of, core_after}
+use Rattle.gk_protocol.specs.declared.request_faults.RequestFault.{RequestFault}
+use Rattle.gk_protocol.specs.declared.requests.Request.{Request}
+use Rattle.gk_protocol.specs.declared.answers.Answer.{Answer}
+use Rattle.gk_protocol.specs.declared.answers.Answer.TheVariants.{Reply, Malformed}
+use Rattle.gk_protocol.specs.Answers.{line_of}
+use Rattle.gk_protocol.specs.CoreAnswers.{numbered_event, MayAnswer}
+use Rattle.gk_protocol.specs.Session.{Asked, requests_of, Runs}
+use Rattle.gkd.specs.declared.configuration.Until.TheVariants.{EndLine}
+use Rattle.gkd.specs.Configuration.{configuration_of, rest_of}
+use Rattle.gkd.specs.Run.{opened}
+
+-- the machine's answer to what was asked, and the core after it
+abbrev pub answer_of : CoreParts → Result Request RequestFault → Answer
+answer_of core (Ok request) =
+    let asked = numbered_event request in Reply asked.0 (step (state_of core) asked.1).reply
+answer_of core (Err fault) = Malformed fault
+
+abbrev pub core_of : CoreParts → Result Request RequestFault → CoreParts
+core_of core (Ok request) = let asked = numbered_event request in core_after core asked.1
+core_of core (Err fault) = core
+
+-- the lines of the answers, one after another
+abbrev pub replies_of : CoreParts → List Asked → List ℕ
+replies_of core [] = []
+replies_of core (asked ∷ others) =
+    line_of (answer_of core asked.request) ++ replies_of (core_of core asked.request) others
+
+abbrev pub output_after : Limits → List ℕ → Result Configuration LineFault
+    → Result (List ℕ) LineFault
+output_after limits rest (Ok configuration) =
+    Ok (replies_of (opened configuration limits) (requests_of rest))
+output_after limits rest (Err fault) = Err fault
+
+-- what a run over these bytes writes, or the fault of its configuration
+unfoldable pub output_of : Limits → List ℕ → Result (List ℕ) LineFault
+output_of limits bytes =
+    output_after limits (rest_of EndLine bytes) (reading_in (configuration_of EndLine bytes))
+
+-- the requests after an accepted configuration may get just these replies
+abbrev pub OutputIsRun : Type 0
+OutputIsRun =
+    (limits : Limits) (bytes text : List ℕ) → output_of limits bytes ≡ Ok text
+    → (configuration : Configuration)
+    × (reading_in (configuration_of EndLine bytes) ≡ Ok configuration)
+    × ((last : CoreParts)
+    × Runs MayAnswer (opened configuration limits)
+    (requests_of (rest_of EndLine bytes)) text last)
+
+-- ---- worked rows
+-- lines as bytes, each with its line feed
+abbrev pub bytes_of : List (List ℕ) → List ℕ
+bytes_of lines = flat_map (λ line. line ++ 10 ∷ []) lines
+
+-- a run over the first lines writes the second
+abbrev pub Writes : Limits → List (List ℕ) → List (List ℕ) → Type 0
+Writes limits input output = output_of limits (bytes_of input) ≡ Ok (bytes_of output)

@@ -1,0 +1,76 @@
+//! A whole run over memory at the stated limits.
+
+use crate::run::{RunFault, run_over};
+use crate::test_runs::lines_in;
+use admission::STATED_LIMITS;
+use gk_lines::Noted;
+use std::alloc::{AllocError, Global};
+use std::test::Fail;
+
+/// Adds a configuration of 20,000 lines: one pattern leads from `gk-a` to `gk-x`, and the others are remarks.
+fn write_configuration(input: &mut String) -> Result<(), AllocError> {
+    writeln!(input, "zone local gk-a example.com")?;
+    writeln!(input, "zone remote gk-x example.com 10.9.0.1")?;
+    writeln!(input, "zone prefix gk-x 9*")?;
+    for _ in 0..19_996 {
+        writeln!(input, "!")?;
+    }
+    writeln!(input, "end")
+}
+
+/// Adds a registration, and that it is granted.
+fn write_registration(
+    input: &mut String,
+    replies: &mut String,
+    number: u32,
+) -> Result<(), AllocError> {
+    writeln!(input, "RRQ {number} TERM t{number} gk-a 10.0.1.1")?;
+    writeln!(replies, "RCF {number} t{number} gk-a")
+}
+
+/// Adds an admission, and that it is granted.
+fn write_admission(
+    input: &mut String,
+    replies: &mut String,
+    number: u32,
+) -> Result<(), AllocError> {
+    let caller = number / 7;
+    writeln!(input, "ARQ {number} t{caller} {number} 9{number} 640")?;
+    writeln!(replies, "ACF {number} {number} ZONE gk-x 10.9.0.1:1719 640")
+}
+
+/// Adds one registration and one admission more, and that they are refused.
+fn write_refusals(input: &mut String, replies: &mut String) -> Result<(), AllocError> {
+    writeln!(input, "RRQ 60001 TERM t10001 gk-a 10.0.1.1")?;
+    writeln!(replies, "RRJ 60001 t10001 undefinedReason endpoints-full")?;
+    writeln!(input, "ARQ 60002 t1 60001 9 640")?;
+    writeln!(replies, "ARJ 60002 60001 resourceUnavailable calls-full")
+}
+
+/// How a run over this input ends, and what it writes.
+fn run_of(alloc: Global, input: &[u8]) -> (Result<u64, RunFault>, Vec<u8>) {
+    let mut output = Vec::new(alloc);
+    let mut reader = Noted::new(input);
+    let mut writer = Noted::new(&mut output);
+    let result = run_over(alloc, STATED_LIMITS, &mut reader, &mut writer);
+    (result, output)
+}
+
+#[test]
+fn ten_thousand_endpoints_and_fifty_thousand_calls(rt: HostRuntime) -> Result<(), Fail> {
+    let mut input = String::new(rt.alloc());
+    let mut replies = String::new(rt.alloc());
+    write_configuration(&mut input)?;
+    assert_eq!(rt; lines_in(input.as_bytes()), 20_000);
+    for number in 1..=10_000 {
+        write_registration(&mut input, &mut replies, number)?;
+    }
+    for number in 10_001..=60_000 {
+        write_admission(&mut input, &mut replies, number)?;
+    }
+    write_refusals(&mut input, &mut replies)?;
+    let (result, output) = run_of(rt.alloc(), input.as_bytes());
+    assert!(rt; output.as_slice() == replies.as_bytes());
+    assert_eq!(rt; result, Ok(60_002));
+    Ok(())
+}

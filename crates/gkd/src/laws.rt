@@ -1,0 +1,24 @@
+//! Laws of the definitions: what they compute to, and that this is a run.
+
+ghost use Rattle.std.specs.Prelude.{◌≡◌};
+ghost use Rattle.gkd.specs.Output.{OutputIsRun};
+ghost use Rattle.gkd.specs.Rows as Rows;
+
+use admission::STATED_LIMITS;
+
+/// What the definitions compute as the output of a run is what a run may write: `run_over` may
+/// answer so.
+pub fn output_is_run()
+    ensures { OutputIsRun }
+{}
+
+/// Worked rows, computed on the definitions alone, from the bytes of configuration and requests to
+/// those of the replies, within the stated limits.
+pub fn worked_rows()
+    ensures limits { Rows.stated ≡ STATED_LIMITS }
+    ensures first_run { Rows.FirstRun }
+    ensures open_call { Rows.OpenCall }
+    ensures full_record { Rows.FullRecord }
+    ensures stranger { Rows.Stranger }
+    ensures faults { Rows.Faults }
+{}
