@@ -17,16 +17,15 @@ use Rattle.admission.specs.declared.replies.Reply.TheVariants.{Registered, Regis
 use Rattle.admission.specs.declared.record.Entry.{Entry}
 use Rattle.registry.specs.Endpoint.{EndpointParts}
 use Rattle.admission.specs.State.{State, opening_of, free_places}
-use Rattle.registry.specs.Registration.{has_id, endpoint_of, is_registered, with_endpoint, without_endpoint}
-use Rattle.admission.specs.Step.{with_zone_meant}
+use Rattle.registry.specs.Registration.{has_id, endpoint_of, is_registered, in_zone_meant, with_endpoint, without_endpoint}
 use Rattle.compiler.specs.Plan.{plan_of}
 use Rattle.admission.specs.Routing.{route_of}
 use Rattle.bandwidth.specs.Calls.{is_open}
-use Rattle.admission.specs.Step.{verdict_of, verdict_of_route, admission_verdict_of, is_granted, places_needed, record_refusal, count_refusal, opened_call_of_plan, with_admitted, with_grant, with_count, state_after, step}
+use Rattle.admission.specs.Step.{verdict_of, verdict_of_route, admission_verdict_of, is_granted, places_needed, record_refusal, count_refusal, opened_call_of_target, with_admitted, with_grant, with_count, state_after, step}
 use Rattle.admission.specs.History.{entry_of, IsLegal, replay}
-use Rattle.admission.specs.HistoryLaws.{StandsAfter, RecordedAdmissionsAreRouted, RecordedRefusalsFoundNone, IsWithinLimits, RecordsAreSound}
+use Rattle.admission.specs.HistoryLaws.{StandsAfter, RecordedAdmissionsAreRouted, RecordedRefusalsAreUnrouted, IsWithinLimits, RecordsAreSound}
 use Rattle.admission.proofs.StepLemmas.{step_commands, step_version, step_limits, step_records, step_not_refused, step_state}
-use Rattle.admission.proofs.RouteLaws.{admissions_are_routed, refusals_found_none}
+use Rattle.admission.proofs.RouteLaws.{admissions_are_routed, refusals_are_unrouted}
 
 -- ---- entries
 -- whatever each step keeps, a history keeps
@@ -66,14 +65,14 @@ recorded_admissions_are_routed lines configuration limits entries before e accep
     (verdict_there opening entries before e legal stands (Admit id call digits units)
     (Admitted replied_call destination granted) asked replied)
 
-pub recorded_refusals_found_none : RecordedRefusalsFoundNone
-recorded_refusals_found_none lines configuration limits entries before e accepted legal stands call
-    units id digits replied_call asked replied =
+pub recorded_refusals_are_unrouted : RecordedRefusalsAreUnrouted
+recorded_refusals_are_unrouted lines configuration limits entries before e accepted legal stands call
+    units id digits replied_call refusal asked replied =
     let opening = opening_of configuration.commands limits in
-    refusals_found_none lines configuration (replay opening before) accepted
-    (replay_commands opening before) call units id digits replied_call
+    refusals_are_unrouted lines configuration (replay opening before) accepted
+    (replay_commands opening before) call units id digits replied_call refusal
     (verdict_there opening entries before e legal stands (Admit id call digits units)
-    (AdmitRefused replied_call (NoRoute NoDefault)) asked replied)
+    (AdmitRefused replied_call (NoRoute refusal)) asked replied)
 
 -- ---- endpoints
 -- what is found has a place
@@ -180,7 +179,7 @@ module _ (s : State) (within : IsWithinLimits s) where
       && nat_le s.limits.endpoints (length s.endpoints)) ≡ false
       → 1 ≤ free_places s → IsWithinLimits (with_count (cond t (with_grant s (Register e)) s))
   register_within e true room free = record {
-    endpoints = length_with_endpoint s.endpoints (with_zone_meant s.commands e) s.limits.endpoints
+    endpoints = length_with_endpoint s.endpoints (in_zone_meant s.commands e) s.limits.endpoints
         within.endpoints room;
     calls = within.calls;
     records = (counted_within free).records;
@@ -204,7 +203,7 @@ module _ (s : State) (within : IsWithinLimits s) where
   admit_within call units digits (Some caller) true needed room two one free =
       let longer =
       length-append s.calls
-      (opened_call_of_plan caller call units (plan_of s.commands digits) ∷ []) in
+      (opened_call_of_target caller call units (plan_of s.commands digits) ∷ []) in
       record {
         endpoints = within.endpoints;
         calls = omega (arith, longer, leb-false s.limits.calls (length s.calls) room);

@@ -2,5 +2,8 @@ pub mod CoreLemmas
 pub mod HistoryLaws
 pub mod MachineLemmas
 pub mod RecordLemmas
+pub mod RegisteringLemmas
 pub mod RouteLaws
 pub mod StepLemmas
+pub mod FirstLaws
+pub mod TargetLaws

@@ -5,18 +5,20 @@ use Rattle.std.proofs.lemmas.Option.{none-some}
 use Rattle.std.proofs.lemmas.Bool.{cases_Bool}
 use Rattle.admission.specs.State.{State, free_places}
 use Rattle.registry.specs.Endpoint.{EndpointParts}
-use Rattle.registry.specs.Registration.{endpoint_of, id_is_taken, alias_is_taken}
-use Rattle.compiler.specs.Zones.{is_local, zone_meant}
+use Rattle.registry.specs.Registration.{endpoint_of, id_is_taken, alias_is_taken, registration_fault}
+use Rattle.registry.specs.declared.faults.Duplicate.TheVariants.{Id, E164}
+use Rattle.registry.specs.declared.faults.RegistryFault.TheVariants as faults
+use Rattle.command_reader.specs.Zones.{is_local}
+use Rattle.compiler.specs.Zones.{zone_meant}
 use Rattle.bandwidth.specs.Calls.{is_open}
 use Rattle.compiler.specs.Plan.{plan_of}
 use Rattle.admission.specs.Routing.{route_of}
 use Rattle.admission.specs.Ruling.{opened_call_of_route, opened_call_of, with_opened}
 use Rattle.admission.specs.declared.routes.Route.{Route}
 use Rattle.admission.specs.declared.routes.Route.TheVariants.{To, Refused}
-use Rattle.admission.specs.declared.replies.Duplicate.TheVariants.{Id, E164}
-use Rattle.admission.specs.declared.replies.RegisterRefusal.TheVariants.{UnknownZone, DuplicateAlias}
+use Rattle.admission.specs.declared.replies.RegisterRefusal.TheVariants as register
 use Rattle.admission.specs.declared.replies.AdmitRefusal.TheVariants.{CallOpen}
-use Rattle.admission.specs.Step.{registration_refusal, verdict_of, is_granted, verdict_of_route, admission_verdict_of, with_admitted, with_verdict, places_needed, record_full_reply_of, record_refusal, are_endpoints_full, are_calls_full, count_refusal}
+use Rattle.admission.specs.Step.{register_refusal, verdict_of, is_granted, verdict_of_route, admission_verdict_of, with_admitted, with_verdict, places_needed, record_full_reply_of, record_refusal, are_endpoints_full, are_calls_full, count_refusal}
 use Rattle.admission.specs.declared.events.Event.{Event}
 use Rattle.admission.specs.declared.events.Event.TheVariants.{Register, Unregister, Admit}
 use Rattle.admission.specs.declared.replies.Reply.{Reply}
@@ -92,19 +94,23 @@ module _ (s : State) (id : List ℕ) (call : ℕ) (digits : List ℕ) (units : �
   unfolding verdict_of
   opened_changes = opened_by_caller (endpoint_of s.endpoints id)
 
--- if a registration is not refused, its aliases are free
-pub free_from_no_refusal : (s : State) (e : EndpointParts) → registration_refusal s e ≡ None
-    → alias_is_taken s.endpoints e ≡ false
-free_from_no_refusal s e h =
+-- a registration that is not refused in the words of a reply is not in those of a registry
+pub not_refused : (s : State) (e : EndpointParts) → register_refusal s e ≡ None
+    → registration_fault s.commands s.endpoints e ≡ None
+not_refused s e h =
     by (is_local s.commands (zone_meant s.commands e.zone)) (id_is_taken s.endpoints e)
     (alias_is_taken s.endpoints e) h
   where
     by : (local same taken : Bool)
         → (if local then
-        (if same then Some (DuplicateAlias Id) else
-        (if taken then Some (DuplicateAlias E164) else None)) else Some UnknownZone) ≡ None
-        → taken ≡ false
-    by false same taken h = cc
-    by true true taken h = cc
-    by true false true h = cc
+        (if same then Some (register.DuplicateAlias Id) else
+        (if taken then Some (register.DuplicateAlias E164) else None)) else Some register.UnknownZone)
+        ≡ None
+        → (if local then
+        (if same then Some (faults.DuplicateAlias Id) else
+        (if taken then Some (faults.DuplicateAlias E164) else None)) else Some faults.UnknownZone)
+        ≡ None
+    by false same taken h = let impossible : ⊥ = cc in absurd impossible
+    by true true taken h = let impossible : ⊥ = cc in absurd impossible
+    by true false true h = let impossible : ⊥ = cc in absurd impossible
     by true false false h = refl

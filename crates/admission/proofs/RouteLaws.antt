@@ -1,128 +1,52 @@
--- How calls are routed: each reply to an admission comes of the longest matching pattern, or of the
--- caller's own zone.
-use Rattle.std.proofs.Common.{◌≡◌, ◌≢◌, ◌⊎◌, inl, inr, ℕ, ◌+◌, Bool, true, false, not, cond, ◌&&◌, ◌||◌, List, [], ◌∷◌, map, filter, find, Option, Some, None, Result, Ok, Err, option_map, is_some, bytes_eq, refl, sym, ap, subst, ◌∙◌, true≢false}
-use Rattle.std.specs.List.{All, list_any}
+-- How calls are routed: each reply to an admission comes of one way through the routing flow.
+use Rattle.std.proofs.Common.{◌≡◌, ◌≢◌, ℕ, ◌+◌, Bool, true, false, not, cond, ◌&&◌, ◌||◌, List, [], ◌∷◌, length, filter, find, Option, Some, None, slice_get, Result, Ok, Err, map, option_map, is_some, bytes_eq, nat_lt, refl, sym, ap, subst, ◌∙◌, true≢false}
+use Rattle.std.specs.Prelude.{IsTrue}
+use Rattle.std.specs.List.{All, Contains, list_any}
 use Rattle.std.specs.Cmp.Lexicographic.{same_text}
 use Rattle.std.proofs.lemmas.Cmp.{nat_list_eq_equiv}
 use Rattle.std.proofs.lemmas.Bool.{and_parts, and_from}
-use Rattle.std.proofs.lemmas.List.Elements.{All-nil, All-cons, All-weaker, All-contains}
+use Rattle.std.proofs.lemmas.List.Elements.{All-nil, All-cons}
 use Rattle.std.proofs.lemmas.Map.Views.{Contains-from_any, list_any-from_Contains}
 use Rattle.std.proofs.lemmas.Option.{none-some}
-use Rattle.gk_terms.proofs.ChoiceLemmas.{find_passes}
-use Rattle.digit_patterns.specs.PatternParts.{PatternParts}
-use Rattle.digit_patterns.specs.Pattern.{matches, Matches, outranks}
-use Rattle.digit_patterns.specs.Table.{best_of, row_matches}
-use Rattle.digit_patterns.proofs.RankLaws.{best_of-none, best_of-IsBest}
+use Rattle.gk_terms.proofs.ChoiceLemmas.{IsRankOrder}
 use Rattle.command_reader.specs.declared.faults.LineFault.{LineFault}
 use Rattle.command_reader.specs.declared.commands.Command.{Command}
-use Rattle.command_reader.specs.declared.commands.Command.TheVariants.{ZoneLocal, ZoneRemote, ZonePrefix, GwTypePrefix, RejectUnknownPrefix, BandwidthDefault, BandwidthZone, BandwidthRemote}
-use Rattle.command_reader.specs.Zones.{Zone, zone_of, zones_of, is_declared, first_local_of}
-use Rattle.command_reader.specs.Zones as Declared
+use Rattle.command_reader.specs.declared.zones.ZoneKind.TheVariants as kinds
+use Rattle.command_reader.specs.Zones.{zone_of, is_declared, named_by, first_local_of}
 use Rattle.command_reader.specs.Configuration.{Configuration}
 use Rattle.command_reader.specs.Progress.{NumberedCommand, Progress, commands_in, line_count}
-use Rattle.command_reader.specs.Reading.{names_unknown, unknown_zone, zones_checked, finished, whole_of, fault_at, lines_after, nothing_read}
+use Rattle.command_reader.specs.Reading.{names_unknown, unknown_zone, zones_checked, finished, whole_of, fault_at, lines_after, nothing_read, reading_in}
 use Rattle.command_reader.specs.declared.faults.FaultKind.TheVariants.{NoLocalZone}
+use Rattle.compiler.specs.Pick.{is_picked_before}
+use Rattle.compiler.specs.Technology.{default_technology_of}
+use Rattle.compiler.specs.Rows.{Row}
+use Rattle.compiler.specs.Plan.{Target, RemoteZone, LocalZone, CallersZone, UnknownPrefix, plan_of}
+use Rattle.compiler.specs.Priority.{priority_of}
+use Rattle.registry.specs.declared.endpoints.EndpointKind.{EndpointKind}
+use Rattle.registry.specs.declared.endpoints.EndpointKind.TheVariants.{Gateway, Terminal}
+use Rattle.registry.specs.Endpoint.{EndpointParts, has_alias, has_technology}
+use Rattle.registry.specs.Registration.{endpoint_of, by_alias}
+use Rattle.registry.specs.Gateway.{is_gateway, serves, is_candidate, gateway_of, IsChosen}
+use Rattle.bandwidth.specs.Calls.{is_open}
 use Rattle.admission.specs.declared.events.Event.TheVariants.{Admit}
 use Rattle.admission.specs.declared.routes.Destination.{Destination}
 use Rattle.admission.specs.declared.routes.Destination.TheVariants as destinations
 use Rattle.admission.specs.declared.routes.Route.{Route}
 use Rattle.admission.specs.declared.routes.Route.TheVariants.{To, Refused}
-use Rattle.admission.specs.declared.routes.RouteRefusal.TheVariants.{NoDefault}
+use Rattle.admission.specs.declared.routes.RouteRefusal.{RouteRefusal}
+use Rattle.admission.specs.declared.routes.RouteRefusal.TheVariants as refusals
 use Rattle.admission.specs.declared.replies.AdmitRefusal.TheVariants.{CallerNotRegistered, CallOpen, NoRoute}
 use Rattle.admission.specs.declared.replies.Reply.{Reply}
 use Rattle.admission.specs.declared.replies.Reply.TheVariants.{Admitted, AdmitRefused}
-use Rattle.registry.specs.Endpoint.{EndpointParts, has_alias}
 use Rattle.admission.specs.State.{State}
-use Rattle.registry.specs.Registration.{endpoint_of, by_alias}
-use Rattle.compiler.specs.Plan.{Row, rows_of, longest_row_of, plan_of_zone, plan_of_row, plan_of}
-use Rattle.admission.specs.Routing.{destination_of, route_of_endpoint, route_of_plan, route_of}
-use Rattle.command_reader.specs.Reading.{reading_in}
-use Rattle.bandwidth.specs.Calls.{is_open}
+use Rattle.admission.specs.Routing.{destination_of, to_gateway, by_default, by_alias_or_default, in_local_zone, route_of_target, route_of}
 use Rattle.admission.specs.Step.{verdict_of, verdict_of_route, admission_verdict_of}
-use Rattle.admission.specs.RouteLaws.{IsFirst, HasDigits, ReachesEndpoint, ReachesNone, IsLongestRow, NoneMatches, RoutedByPattern, RoutedByCallersZone, IsRouted, PatternFoundNone, CallersZoneFoundNone, FoundNone, AdmissionsAreRouted, RefusalsFoundNone, StrangersAreRefused}
-
--- ---- the first of a list
-untrue : (t : Bool) → t ≡ false → ¬ (t ≡ true)
-untrue t e f = true≢false (sym f ∙ e)
-
--- nothing was found, so nothing is there
-nothing : {X Y : Type 0} (f : X → Y) (o : Option X) → option_map f o ≡ None → o ≡ None
-nothing f None h = refl
-nothing f (Some x) h = cc
-
-module _ {X : Type 0} (p : X → Bool) where
-  -- a choice from the elements that pass a test is one by both tests
-  find_filtered : (q : X → Bool) (xs : List X) → find q (filter p xs) ≡ find (λ x. p x && q x) xs
-  find_filtered q [] = refl
-  find_filtered q (x ∷ xs) = by (p x) (find_filtered q xs)
-    where
-      by : (b : Bool) → find q (filter p xs) ≡ find (λ x. p x && q x) xs
-          → find q (cond b (x ∷ filter p xs) (filter p xs))
-          ≡ cond (b && q x) (Some x) (find (λ x. p x && q x) xs)
-      by true rest = ap (cond (q x) (Some x)) rest
-      by false rest = rest
-
-  -- one passes, so one is found
-  find_some : (xs : List X) → list_any p xs ≡ true → find p xs ≡ None → ⊥
-  find_some [] h e = true≢false (sym h)
-  find_some (x ∷ xs) h e = by (p x) (find_some xs) h e
-    where
-      by : (t : Bool) → (list_any p xs ≡ true → find p xs ≡ None → ⊥) → (t || list_any p xs) ≡ true
-          → cond t (Some x) (find p xs) ≡ None → ⊥
-      by true rest h e = none-some x (sym e)
-      by false rest h e = rest h e
-
-module _ {X : Type 0} (p : X → Bool) (Has : X → Type 0) (told : (x : X) → p x ≡ true → Has x)
-    (untold : (x : X) → p x ≡ false → ¬ Has x) where
-  -- what is found is the first with the property that the test tells
-  found_first : (xs : List X) (x : X) → find p xs ≡ Some x → IsFirst Has xs x
-  found_first [] x h = absurd (none-some x h)
-  found_first (y ∷ ys) x h = by (p y) refl (found_first ys x) h
-    where
-      by : (t : Bool) → p y ≡ t → (find p ys ≡ Some x → IsFirst Has ys x)
-          → cond t (Some y) (find p ys) ≡ Some x → IsFirst Has (y ∷ ys) x
-      by true e rest h =
-          let same : y ≡ x = cc in
-          record {
-            before = [];
-            after = ys;
-            stands = ap (λ z. z ∷ ys) same;
-            has =
-                subst Has same (told y e);
-            none_before = All-nil (λ z. ¬ Has z);
-          }
-      by false e rest h =
-          let first = rest h in
-          record {
-            before = y ∷ first.before;
-            after = first.after;
-            stands = ap (λ zs. y ∷ zs) first.stands;
-            has = first.has;
-            none_before = All-cons (λ z. ¬ Has z) y first.before (untold y e) first.none_before;
-          }
-
-  -- none is found only if none has it
-  found_none : (xs : List X) → find p xs ≡ None → All (λ x. ¬ Has x) xs
-  found_none [] h = All-nil (λ x. ¬ Has x)
-  found_none (y ∷ ys) h = by (p y) refl (found_none ys) h
-    where
-      by : (t : Bool) → p y ≡ t → (find p ys ≡ None → All (λ x. ¬ Has x) ys)
-          → cond t (Some y) (find p ys) ≡ None → All (λ x. ¬ Has x) (y ∷ ys)
-      by true e rest h = absurd (none-some y (sym h))
-      by false e rest h = All-cons (λ x. ¬ Has x) y ys (untold y e) (rest h)
-
--- the first with a property is the first with each that it has and that implies it
-first_of_fewer : {X : Type 0} (Has Less : X → Type 0) (xs : List X) (x : X)
-    → ((y : X) → Less y → Has y) → Less x → IsFirst Has xs x → IsFirst Less xs x
-first_of_fewer Has Less xs x implies less first = record {
-  before = first.before;
-  after = first.after;
-  stands = first.stands;
-  has = less;
-  none_before =
-      All-weaker (λ y. ¬ Has y) (λ y. ¬ Less y) (λ y none l. none (implies y l)) first.before
-      first.none_before;
-}
+use Rattle.admission.specs.RouteLaws.{HasDigits, ReachesNone, IsToReach, Sent, Kept, IsLedTo, Away, ByTechnology, ByAlias, ByDefault, IsRouted, IsLost, Rejected, WithoutTechnology, WithoutDefault, WithoutAlias, IsUnrouted, AdmissionsAreRouted, RefusalsAreUnrouted, StrangersAreRefused}
+use Rattle.compiler.proofs.PickLemmas.{pick_is_order}
+use Rattle.registry.specs.GatewayLaws.{HasNoCandidate}
+use Rattle.registry.proofs.GatewayLaws.{chosen_from_computed, none_computed}
+use Rattle.admission.proofs.FirstLaws.{nothing, found_first, found_none}
+use Rattle.admission.proofs.TargetLaws.{NamesDeclared, Means, plan_means}
 
 -- ---- endpoints
 module _ (zone digits : List ℕ) where
@@ -144,111 +68,185 @@ module _ (zone digits : List ℕ) where
       list_any-from_Contains nat_list_eq_equiv digits e.aliases has.1 in
       true≢false (sym (and_from (bytes_eq e.zone zone) (has_alias e digits) there alias) ∙ h)
 
-  reaches : (endpoints : List EndpointParts) (destination : Destination)
-      → route_of_endpoint (by_alias endpoints zone digits) ≡ To destination
-      → ReachesEndpoint endpoints zone digits destination
-  reaches endpoints destination h = by (by_alias endpoints zone digits) refl h
-    where
-      by : (found : Option EndpointParts) → by_alias endpoints zone digits ≡ found
-          → route_of_endpoint found ≡ To destination
-          → ReachesEndpoint endpoints zone digits destination
-      by None e h = let impossible : ⊥ = cc in absurd impossible
-      by (Some x) e h =
-          let same : destination_of x.kind x ≡ destination = cc in (
-            x,
-            found_first (λ e. bytes_eq e.zone zone && has_alias e digits) (HasDigits zone digits)
-                digits_told digits_untold endpoints x e,
-            sym same,
-          )
-
-  reaches_none : (endpoints : List EndpointParts)
-      → route_of_endpoint (by_alias endpoints zone digits) ≡ Refused NoDefault
+  reaches_none : (endpoints : List EndpointParts) → by_alias endpoints zone digits ≡ None
       → ReachesNone endpoints zone digits
-  reaches_none endpoints h = by (by_alias endpoints zone digits) refl h
+  reaches_none endpoints h =
+      found_none (λ e. bytes_eq e.zone zone && has_alias e digits) (HasDigits zone digits)
+      digits_told digits_untold endpoints h
+
+-- ---- gateways
+module _ (commands : List Command) (endpoints : List EndpointParts) (zone prefix : List ℕ)
+    (row : Option Row) where
+  -- what is chosen is a gateway, so it is a destination as one
+  as_gateway : (e : EndpointParts) → IsChosen commands endpoints zone prefix row e
+      → destination_of e.kind e ≡ destinations.Gateway e.id e.address
+  as_gateway e chosen = by e.kind refl
     where
-      by : (found : Option EndpointParts) → by_alias endpoints zone digits ≡ found
-          → route_of_endpoint found ≡ Refused NoDefault → ReachesNone endpoints zone digits
-      by None e h =
-          found_none (λ e. bytes_eq e.zone zone && has_alias e digits) (HasDigits zone digits)
-          digits_told digits_untold endpoints e
-      by (Some x) e h = let impossible : ⊥ = cc in absurd impossible
+      gateway : is_gateway e.kind ≡ true
+      gateway =
+          let serving = (and_parts (serves zone prefix e) (nat_lt 0 (priority_of commands row e.id))
+          chosen.candidate).0 in
+          let here = (and_parts (is_gateway e.kind && bytes_eq e.zone zone) (has_technology e prefix)
+          serving).0 in
+          (and_parts (is_gateway e.kind) (bytes_eq e.zone zone) here).0
 
--- ---- patterns
--- the row that is found is the first of its pattern: whether a row is found depends on its pattern
--- alone
-first_row : (rows : List Row) (digits : List ℕ) (row : Row) → best_of rows digits ≡ Some row
-    → IsFirst (λ (other : Row). other.0 ≡ row.0) rows row
-first_row rows digits row h =
-    let found : find (λ (r : Row). chosen r.0) rows ≡ Some row =
-    sym (find_filtered (row_matches digits) (λ (r : Row). unbeaten r.0) rows) ∙ h in
-    let passed : chosen row.0 ≡ true = find_passes (λ (r : Row). chosen r.0) rows row found in
-    first_of_fewer (λ (r : Row). chosen r.0 ≡ true) (λ (r : Row). r.0 ≡ row.0) rows row
-    (λ r same. ap chosen same ∙ passed) refl
-    (found_first (λ (r : Row). chosen r.0) (λ (r : Row). chosen r.0 ≡ true) (λ r e. e)
-    (λ r e. untrue (chosen r.0) e) rows row found)
-  where
-    unbeaten : PatternParts → Bool
-    unbeaten pattern =
-        not (list_any (λ (other : Row). outranks other.0 pattern)
-        (filter (row_matches digits) rows))
+      by : (kind : EndpointKind) → e.kind ≡ kind
+          → destination_of kind e ≡ destinations.Gateway e.id e.address
+      by Gateway same = refl
+      by Terminal same = absurd (true≢false (sym gateway ∙ ap is_gateway same))
 
-    chosen : PatternParts → Bool
-    chosen pattern = matches pattern digits && unbeaten pattern
+-- ---- routes
+module _ (s : State) (caller digits : List ℕ) where
+  -- a gateway of the zone, by the way that the prefix came about
+  by_gateway : (zone prefix : List ℕ) (row : Option Row) (destination : Destination)
+      → ((e : EndpointParts) → IsChosen s.commands s.endpoints zone prefix row e
+      → IsLedTo s caller digits (destinations.Gateway e.id e.address))
+      → (found : Option EndpointParts)
+      → gateway_of s.commands s.endpoints zone prefix row ≡ found
+      → to_gateway found ≡ To destination → IsLedTo s caller digits destination
+  by_gateway zone prefix row destination way None e h =
+      let impossible : ⊥ = cc in absurd impossible
+  by_gateway zone prefix row destination way (Some found) e h =
+      let chosen : IsChosen s.commands s.endpoints zone prefix row found =
+      chosen_from_computed (priority_of s.commands row) s.endpoints zone prefix found e in
+      let is : destination_of found.kind found ≡ destination = cc in
+      let same = sym (as_gateway s.commands s.endpoints zone prefix row found chosen) ∙ is in
+      subst (IsLedTo s caller digits) same (way found chosen)
 
-longest_row : (commands : List Command) (digits : List ℕ) (row : Row)
-    → longest_row_of commands digits ≡ Some row → IsLongestRow commands digits row
-longest_row commands digits row h = record {
-  longest = best_of-IsBest (rows_of commands) digits row h;
-  first = first_row (rows_of commands) digits row h;
-}
+  by_alias_led : (zone : List ℕ) (row : Option Row) (destination : Destination)
+      → IsToReach s.commands caller digits zone None row → (found : Option EndpointParts)
+      → by_alias s.endpoints zone digits ≡ found
+      → by_alias_or_default s.commands s.endpoints zone row found ≡ To destination
+      → IsLedTo s caller digits destination
+  by_alias_led zone row destination reach (Some found) e h =
+      let is : destination_of found.kind found ≡ destination = cc in
+      subst (IsLedTo s caller digits) is
+      (ByAlias zone row found reach
+      (found_first (λ e. bytes_eq e.zone zone && has_alias e digits) (HasDigits zone digits)
+      (digits_told zone digits) (digits_untold zone digits) s.endpoints found e))
+  by_alias_led zone row destination reach None e h =
+      default (default_technology_of s.commands) refl h
+    where
+      default : (prefix : Option (List ℕ)) → default_technology_of s.commands ≡ prefix
+          → by_default s.commands s.endpoints zone row prefix ≡ To destination
+          → IsLedTo s caller digits destination
+      default None f h = let impossible : ⊥ = cc in absurd impossible
+      default (Some prefix) f h =
+          by_gateway zone prefix row destination
+          (λ found chosen. ByDefault zone prefix row found reach
+          (reaches_none zone digits s.endpoints e) f chosen)
+          (gateway_of s.commands s.endpoints zone prefix row) refl h
 
-none_matches : (commands : List Command) (digits : List ℕ) → longest_row_of commands digits ≡ None
-    → NoneMatches commands digits
-none_matches commands digits h =
-    All-weaker (λ (row : Row). matches row.0 digits ≡ false) (λ (row : Row). ¬ Matches row.0 digits)
-    (λ row e. untrue (matches row.0 digits) e) (rows_of commands)
-    (best_of-none (rows_of commands) digits h)
+  in_zone_led : (zone : List ℕ) (row : Option Row) (destination : Destination)
+      → (technology : Option (List ℕ)) → IsToReach s.commands caller digits zone technology row
+      → in_local_zone s.commands s.endpoints zone row digits technology ≡ To destination
+      → IsLedTo s caller digits destination
+  in_zone_led zone row destination None reach h =
+      by_alias_led zone row destination reach (by_alias s.endpoints zone digits) refl h
+  in_zone_led zone row destination (Some prefix) reach h =
+      by_gateway zone prefix row destination
+      (λ found chosen. ByTechnology zone prefix row found reach chosen)
+      (gateway_of s.commands s.endpoints zone prefix row) refl h
+
+  led : (destination : Destination) (target : Target) → Means s.commands digits target
+      → route_of_target s.commands s.endpoints caller digits target ≡ To destination
+      → IsLedTo s caller digits destination
+  led destination (RemoteZone zone address) (technology, row, cost, priority, sent, kind) h =
+      let is : destinations.Zone zone address ≡ destination = cc in
+      subst (IsLedTo s caller digits) is
+      (Away zone technology row address cost priority sent kind)
+  led destination (LocalZone zone technology row) (sent, kind) h =
+      in_zone_led zone row destination technology (Sent zone technology row sent kind) h
+  led destination (CallersZone technology) (rest, looked, none, kept) h =
+      in_zone_led caller None destination technology (Kept technology rest looked none kept) h
+  led destination UnknownPrefix means h = let impossible : ⊥ = cc in absurd impossible
+
+  -- ---- refusals
+  without_gateway : (zone prefix : List ℕ) (row : Option Row) (refusal : RouteRefusal)
+      → (HasNoCandidate s.commands s.endpoints zone prefix row
+      → IsLost s caller digits refusals.NoGateway)
+      → (found : Option EndpointParts)
+      → gateway_of s.commands s.endpoints zone prefix row ≡ found
+      → to_gateway found ≡ Refused refusal → IsLost s caller digits refusal
+  without_gateway zone prefix row refusal way (Some found) e h =
+      let impossible : ⊥ = cc in absurd impossible
+  without_gateway zone prefix row refusal way None e h =
+      let is : refusals.NoGateway ≡ refusal = cc in
+      subst (IsLost s caller digits) is
+      (way (none_computed (priority_of s.commands row) s.endpoints zone prefix e))
+
+  by_alias_lost : (zone : List ℕ) (row : Option Row) (refusal : RouteRefusal)
+      → IsToReach s.commands caller digits zone None row → (found : Option EndpointParts)
+      → by_alias s.endpoints zone digits ≡ found
+      → by_alias_or_default s.commands s.endpoints zone row found ≡ Refused refusal
+      → IsLost s caller digits refusal
+  by_alias_lost zone row refusal reach (Some found) e h =
+      let impossible : ⊥ = cc in absurd impossible
+  by_alias_lost zone row refusal reach None e h =
+      default (default_technology_of s.commands) refl h
+    where
+      default : (prefix : Option (List ℕ)) → default_technology_of s.commands ≡ prefix
+          → by_default s.commands s.endpoints zone row prefix ≡ Refused refusal
+          → IsLost s caller digits refusal
+      default None f h =
+          let is : refusals.NoDefault ≡ refusal = cc in
+          subst (IsLost s caller digits) is
+          (WithoutAlias zone row reach (reaches_none zone digits s.endpoints e) f)
+      default (Some prefix) f h =
+          without_gateway zone prefix row refusal
+          (λ none. WithoutDefault zone prefix row reach (reaches_none zone digits s.endpoints e) f
+          none) (gateway_of s.commands s.endpoints zone prefix row) refl h
+
+  in_zone_lost : (zone : List ℕ) (row : Option Row) (refusal : RouteRefusal)
+      → (technology : Option (List ℕ)) → IsToReach s.commands caller digits zone technology row
+      → in_local_zone s.commands s.endpoints zone row digits technology ≡ Refused refusal
+      → IsLost s caller digits refusal
+  in_zone_lost zone row refusal None reach h =
+      by_alias_lost zone row refusal reach (by_alias s.endpoints zone digits) refl h
+  in_zone_lost zone row refusal (Some prefix) reach h =
+      without_gateway zone prefix row refusal (λ none. WithoutTechnology zone prefix row reach none)
+      (gateway_of s.commands s.endpoints zone prefix row) refl h
+
+  lost : (refusal : RouteRefusal) (target : Target) → Means s.commands digits target
+      → route_of_target s.commands s.endpoints caller digits target ≡ Refused refusal
+      → IsLost s caller digits refusal
+  lost refusal (RemoteZone zone address) means h = let impossible : ⊥ = cc in absurd impossible
+  lost refusal (LocalZone zone technology row) (sent, kind) h =
+      in_zone_lost zone row refusal technology (Sent zone technology row sent kind) h
+  lost refusal (CallersZone technology) (rest, looked, none, kept) h =
+      in_zone_lost caller None refusal technology (Kept technology rest looked none kept) h
+  lost refusal UnknownPrefix (technology, rest, looked, none, rejected) h =
+      let is : refusals.UnknownPrefix ≡ refusal = cc in
+      subst (IsLost s caller digits) is (Rejected technology rest looked none rejected)
 
 -- ---- an accepted configuration declares each zone that it names
-abbrev RowsDeclared : List Command → List Command → Type 0
-RowsDeclared all commands = All (λ (row : Row). is_declared all row.1 ≡ true) (rows_of commands)
-
--- none is found, so none after the first
-after_known : (command : Command) (t : Bool) (rest : Option Command)
-    → cond t (Some command) rest ≡ None → rest ≡ None
-after_known command true rest h = absurd (none-some command (sym h))
-after_known command false rest h = h
+known : (all names : List (List ℕ)) (is : List ℕ → Bool)
+    → list_any (λ name. not (is name)) names ≡ false → All (λ name. is name ≡ true) names
+known all [] is h = All-nil (λ name. is name ≡ true)
+known all (name ∷ names) is h = by (is name) refl (known all names is) h
+  where
+    by : (t : Bool) → is name ≡ t
+        → (list_any (λ name. not (is name)) names ≡ false → All (λ name. is name ≡ true) names)
+        → (not t || list_any (λ name. not (is name)) names) ≡ false
+        → All (λ name. is name ≡ true) (name ∷ names)
+    by true e rest h = All-cons (λ name. is name ≡ true) name names e (rest h)
+    by false e rest h = absurd (true≢false h)
 
 declared_in : (all commands : List Command) → find (names_unknown all) commands ≡ None
-    → RowsDeclared all commands
-declared_in all [] h = All-nil (λ (row : Row). is_declared all row.1 ≡ true)
-declared_in all (ZoneLocal name domain address ∷ commands) h = declared_in all commands h
-declared_in all (ZoneRemote name domain address cost priority ∷ commands) h =
-    declared_in all commands h
-declared_in all (ZonePrefix zone pattern gateways ∷ commands) h =
-    by (is_declared all zone) refl (declared_in all commands) h
+    → NamesDeclared all commands
+declared_in all [] h =
+    All-nil (λ command. All (λ name. is_declared all name ≡ true) (named_by command))
+declared_in all (command ∷ commands) h =
+    by (names_unknown all command) refl (declared_in all commands) h
   where
-    by : (t : Bool) → is_declared all zone ≡ t
-        → (find (names_unknown all) commands ≡ None → RowsDeclared all commands)
-        → cond (not t || false) (Some (ZonePrefix zone pattern gateways))
-        (find (names_unknown all) commands) ≡ None
-        → RowsDeclared all (ZonePrefix zone pattern gateways ∷ commands)
-    by true e rest h =
-        All-cons (λ (row : Row). is_declared all row.1 ≡ true) (pattern, zone) (rows_of commands) e
-        (rest h)
-    by false e rest h = absurd (none-some (ZonePrefix zone pattern gateways) (sym h))
-declared_in all (GwTypePrefix prefix hopoffs is_default ∷ commands) h =
-    declared_in all commands
-    (after_known (GwTypePrefix prefix hopoffs is_default)
-    (names_unknown all (GwTypePrefix prefix hopoffs is_default))
-    (find (names_unknown all) commands) h)
-declared_in all (RejectUnknownPrefix ∷ commands) h = declared_in all commands h
-declared_in all (BandwidthDefault kind size ∷ commands) h = declared_in all commands h
-declared_in all (BandwidthZone kind zone size ∷ commands) h =
-    declared_in all commands
-    (after_known (BandwidthZone kind zone size)
-    (names_unknown all (BandwidthZone kind zone size)) (find (names_unknown all) commands) h)
-declared_in all (BandwidthRemote size ∷ commands) h = declared_in all commands h
+    by : (t : Bool) → names_unknown all command ≡ t
+        → (find (names_unknown all) commands ≡ None → NamesDeclared all commands)
+        → cond t (Some command) (find (names_unknown all) commands) ≡ None
+        → NamesDeclared all (command ∷ commands)
+    by true e rest h = absurd (none-some command (sym h))
+    by false e rest h =
+        All-cons (λ command. All (λ name. is_declared all name ≡ true) (named_by command)) command
+        commands (known [] (named_by command) (is_declared all) e) (rest h)
 
 unnumbered : (p : Command → Bool) (kept : List NumberedCommand)
     → find (λ n. p n.command) kept ≡ None → find p (map (λ n. n.command) kept) ≡ None
@@ -263,7 +261,7 @@ unnumbered p (n ∷ kept) h = by (p n.command) (unnumbered p kept) h
     by false rest h = rest h
 
 finished_declares : (read : Progress) (configuration : Configuration)
-    → finished read ≡ Ok configuration → RowsDeclared configuration.commands configuration.commands
+    → finished read ≡ Ok configuration → NamesDeclared configuration.commands configuration.commands
 finished_declares read configuration h = by (unknown_zone read) refl h
   where
     local : (t : Bool)
@@ -275,86 +273,31 @@ finished_declares read configuration h = by (unknown_zone read) refl h
 
     by : (unknown : Option LineFault) → unknown_zone read ≡ unknown
         → zones_checked read unknown ≡ Ok configuration
-        → RowsDeclared configuration.commands configuration.commands
+        → NamesDeclared configuration.commands configuration.commands
     by (Some fault) e h = let impossible : ⊥ = cc in absurd impossible
     by None e h =
         let known = unnumbered (names_unknown (commands_in read)) read.kept (nothing _ _ e) in
-        subst (λ (commands : List Command). RowsDeclared commands commands)
+        subst (λ (commands : List Command). NamesDeclared commands commands)
         (local (is_some (first_local_of (commands_in read))) h)
         (declared_in (commands_in read) (commands_in read) known)
 
 accepted_declares : (lines : List (List ℕ)) (configuration : Configuration)
     → reading_in lines ≡ Ok configuration
-    → RowsDeclared configuration.commands configuration.commands
+    → NamesDeclared configuration.commands configuration.commands
 accepted_declares lines configuration h = by (lines_after nothing_read lines) h
   where
     by : (r : Result Progress LineFault) → whole_of r ≡ Ok configuration
-        → RowsDeclared configuration.commands configuration.commands
+        → NamesDeclared configuration.commands configuration.commands
     by (Err fault) h = let impossible : ⊥ = cc in absurd impossible
     by (Ok read) h = finished_declares read configuration h
 
--- so the zone of the row that is found is known
-zone_known : (commands : List Command) (digits : List ℕ) (row : Row)
-    → RowsDeclared commands commands → IsLongestRow commands digits row
-    → zone_of commands row.1 ≡ None → ⊥
-zone_known commands digits row declared longest none =
-    let there = All-contains (λ (r : Row). is_declared commands r.1 ≡ true) (rows_of commands) row
-    declared longest.longest.row in
-    find_some (λ (zone : List ℕ × Zone). bytes_eq row.1 zone.0) (zones_of commands) there
-    (nothing _ _ none)
-
--- ---- routes
-route_is : (commands : List Command) (endpoints : List EndpointParts) (zone digits : List ℕ)
-    → route_of commands endpoints zone digits
-    ≡ route_of_plan endpoints zone digits
-    (plan_of_row commands (longest_row_of commands digits))
-unfolding route_of plan_of
-route_is commands endpoints zone digits = refl
-
-module _ (s : State) (caller digits : List ℕ) (declared : RowsDeclared s.commands s.commands) where
-  by_row : (destination : Destination) (row : Row) → longest_row_of s.commands digits ≡ Some row
-      → (zone : Option Zone) → zone_of s.commands row.1 ≡ zone
-      → route_of_plan s.endpoints caller digits (plan_of_zone row.1 zone) ≡ To destination
-      → RoutedByPattern s digits destination
-  by_row destination row f None e h =
-      absurd (zone_known s.commands digits row declared (longest_row s.commands digits row f) e)
-  by_row destination row f (Some Declared.Local) e h = (
-    row,
-    longest_row s.commands digits row f,
-    inr
-        (e, reaches row.1 digits s.endpoints destination h),
-  )
-  by_row destination row f (Some (Declared.Remote address)) e h =
-      let same : destinations.Zone row.1 address ≡ destination = cc in
-      (row, longest_row s.commands digits row f, inl (address, e, sym same))
-
-  routed : (destination : Destination) (row : Option Row) → longest_row_of s.commands digits ≡ row
-      → route_of_plan s.endpoints caller digits (plan_of_row s.commands row) ≡ To destination
-      → RoutedByPattern s digits destination ⊎ RoutedByCallersZone s caller digits destination
-  routed destination None f h =
-      inr (none_matches s.commands digits f, reaches caller digits s.endpoints destination h)
-  routed destination (Some row) f h =
-      inl (by_row destination row f (zone_of s.commands row.1) refl h)
-
-  none_by_row : (row : Row) → longest_row_of s.commands digits ≡ Some row → (zone : Option Zone)
-      → zone_of s.commands row.1 ≡ zone
-      → route_of_plan s.endpoints caller digits (plan_of_zone row.1 zone) ≡ Refused NoDefault
-      → PatternFoundNone s digits
-  none_by_row row f None e h =
-      absurd (zone_known s.commands digits row declared (longest_row s.commands digits row f) e)
-  none_by_row row f (Some Declared.Local) e h =
-      (row, longest_row s.commands digits row f, e, reaches_none row.1 digits s.endpoints h)
-  none_by_row row f (Some (Declared.Remote address)) e h =
-      let impossible : ⊥ = cc in absurd impossible
-
-  nowhere : (row : Option Row) → longest_row_of s.commands digits ≡ row
-      → route_of_plan s.endpoints caller digits (plan_of_row s.commands row) ≡ Refused NoDefault
-      → PatternFoundNone s digits ⊎ CallersZoneFoundNone s caller digits
-  nowhere None f h =
-      inr (none_matches s.commands digits f, reaches_none caller digits s.endpoints h)
-  nowhere (Some row) f h = inl (none_by_row row f (zone_of s.commands row.1) refl h)
-
 -- ---- verdicts
+route_is : (s : State) (caller digits : List ℕ)
+    → route_of s.commands s.endpoints caller digits
+    ≡ route_of_target s.commands s.endpoints caller digits (plan_of s.commands digits)
+unfolding route_of
+route_is s caller digits = refl
+
 verdict_is : (s : State) (call units : ℕ) (id digits : List ℕ)
     → verdict_of s (Admit id call digits units)
     ≡ admission_verdict_of s call digits units (endpoint_of s.endpoints id)
@@ -378,12 +321,12 @@ by_route s call units digits caller verdict other h = by (is_open s.calls call) 
 
 accepted_state : (lines : List (List ℕ)) (configuration : Configuration) (s : State)
     → reading_in lines ≡ Ok configuration → s.commands ≡ configuration.commands
-    → RowsDeclared s.commands s.commands
+    → NamesDeclared s.commands s.commands
 accepted_state lines configuration s accepted same =
-    subst (λ (l : List Command). RowsDeclared l l) (sym same)
+    subst (λ (l : List Command). NamesDeclared l l) (sym same)
     (accepted_declares lines configuration accepted)
 
-module _ (s : State) (declared : RowsDeclared s.commands s.commands) (call units : ℕ)
+module _ (s : State) (declared : NamesDeclared s.commands s.commands) (call units : ℕ)
     (id digits : List ℕ) (replied_call : ℕ) where
   granted_by : (granted : ℕ) (destination : Destination) (caller : EndpointParts)
       → endpoint_of s.endpoints id ≡ Some caller → (route : Route)
@@ -394,15 +337,15 @@ module _ (s : State) (declared : RowsDeclared s.commands s.commands) (call units
       let impossible : ⊥ = cc in absurd impossible
   granted_by granted destination caller there (To reached) e h =
       let same : reached ≡ destination = cc in
-      let goes = sym (route_is s.commands s.endpoints caller.zone digits) ∙ e ∙ ap To same in (
+      let goes = sym (route_is s caller.zone digits) ∙ e ∙ ap To same in (
         cc,
         cc,
         record {
           caller = caller;
           registered = there;
-          routed =
-              routed s caller.zone digits declared destination (longest_row_of s.commands digits) refl
-              goes;
+          led =
+              led s caller.zone digits destination (plan_of s.commands digits)
+              (plan_means s.commands (pick_is_order s.commands) declared digits) goes;
         },
       )
 
@@ -416,32 +359,33 @@ module _ (s : State) (declared : RowsDeclared s.commands s.commands) (call units
       (route_of s.commands s.endpoints caller.zone digits) refl
       (by_route s call units digits caller (Admitted replied_call destination granted) (λ e. cc) h)
 
-  refused_by : (caller : EndpointParts) → endpoint_of s.endpoints id ≡ Some caller → (route : Route)
+  refused_by : (refusal : RouteRefusal) (caller : EndpointParts)
+      → endpoint_of s.endpoints id ≡ Some caller → (route : Route)
       → route_of s.commands s.endpoints caller.zone digits ≡ route
-      → verdict_of_route call units route ≡ AdmitRefused replied_call (NoRoute NoDefault)
-      → (replied_call ≡ call) × FoundNone s id digits
-  refused_by caller there (Refused reason) e h =
-      let same : reason ≡ NoDefault = cc in
-      let goes = sym (route_is s.commands s.endpoints caller.zone digits) ∙ e ∙ ap Refused same in (
+      → verdict_of_route call units route ≡ AdmitRefused replied_call (NoRoute refusal)
+      → (replied_call ≡ call) × IsUnrouted s id digits refusal
+  refused_by refusal caller there (Refused reason) e h =
+      let same : reason ≡ refusal = cc in
+      let goes = sym (route_is s caller.zone digits) ∙ e ∙ ap Refused same in (
         cc,
         record {
           caller = caller;
           registered = there;
-          nowhere =
-              nowhere s caller.zone digits declared (longest_row_of s.commands digits) refl goes;
+          lost =
+              lost s caller.zone digits refusal (plan_of s.commands digits)
+              (plan_means s.commands (pick_is_order s.commands) declared digits) goes;
         },
       )
-  refused_by caller there (To reached) e h = let impossible : ⊥ = cc in absurd impossible
+  refused_by refusal caller there (To reached) e h = let impossible : ⊥ = cc in absurd impossible
 
-  refused_to : (caller : Option EndpointParts) → endpoint_of s.endpoints id ≡ caller
-      → admission_verdict_of s call digits units caller
-      ≡ AdmitRefused replied_call (NoRoute NoDefault)
-      → (replied_call ≡ call) × FoundNone s id digits
-  refused_to None there h = let impossible : ⊥ = cc in absurd impossible
-  refused_to (Some caller) there h =
-      refused_by caller there (route_of s.commands s.endpoints caller.zone digits) refl
-      (by_route s call units digits caller (AdmitRefused replied_call (NoRoute NoDefault)) (λ e. cc)
-      h)
+  refused_to : (refusal : RouteRefusal) (caller : Option EndpointParts)
+      → endpoint_of s.endpoints id ≡ caller
+      → admission_verdict_of s call digits units caller ≡ AdmitRefused replied_call (NoRoute refusal)
+      → (replied_call ≡ call) × IsUnrouted s id digits refusal
+  refused_to refusal None there h = let impossible : ⊥ = cc in absurd impossible
+  refused_to refusal (Some caller) there h =
+      refused_by refusal caller there (route_of s.commands s.endpoints caller.zone digits) refl
+      (by_route s call units digits caller (AdmitRefused replied_call (NoRoute refusal)) (λ e. cc) h)
 
 pub admissions_are_routed : AdmissionsAreRouted
 admissions_are_routed lines configuration s accepted same call units id digits replied_call granted
@@ -450,10 +394,10 @@ admissions_are_routed lines configuration s accepted same call units id digits r
     replied_call granted destination (endpoint_of s.endpoints id) refl
     (sym (verdict_is s call units id digits) ∙ h)
 
-pub refusals_found_none : RefusalsFoundNone
-refusals_found_none lines configuration s accepted same call units id digits replied_call h =
+pub refusals_are_unrouted : RefusalsAreUnrouted
+refusals_are_unrouted lines configuration s accepted same call units id digits replied_call refusal h =
     refused_to s (accepted_state lines configuration s accepted same) call units id digits
-    replied_call (endpoint_of s.endpoints id) refl
+    replied_call refusal (endpoint_of s.endpoints id) refl
     (sym (verdict_is s call units id digits) ∙ h)
 
 not_a_stranger : (call units : ℕ) (route : Route)

@@ -6,14 +6,14 @@ use Rattle.command_reader.specs.Configuration.{Configuration}
 use Rattle.admission.specs.declared.limits.Limits.{Limits}
 use Rattle.admission.specs.declared.events.Event.TheVariants.{Admit}
 use Rattle.admission.specs.declared.routes.Destination.{Destination}
-use Rattle.admission.specs.declared.routes.RouteRefusal.TheVariants.{NoDefault}
+use Rattle.admission.specs.declared.routes.RouteRefusal.{RouteRefusal}
 use Rattle.admission.specs.declared.replies.AdmitRefusal.TheVariants.{NoRoute}
 use Rattle.admission.specs.declared.replies.Reply.TheVariants.{Admitted, AdmitRefused}
 use Rattle.admission.specs.declared.record.Entry.{Entry}
 use Rattle.admission.specs.State.{State, opening_of}
 use Rattle.admission.specs.History.{IsLegal, replay}
 use Rattle.command_reader.specs.Reading.{reading_in}
-use Rattle.admission.specs.RouteLaws.{IsRouted, FoundNone}
+use Rattle.admission.specs.RouteLaws.{IsRouted, IsUnrouted}
 
 -- ---- routes
 -- the entry is in the record, after these
@@ -21,8 +21,8 @@ abbrev pub StandsAfter : List Entry → List Entry → Entry → Type 0
 StandsAfter entries before e = (after : List Entry) × (entries ≡ before ++ e ∷ after)
 
 -- under an accepted configuration, each granted admission of a record, for the call and the
--- bandwidth that were asked, went where the longest matching pattern leads, or without one to an
--- endpoint of the caller's own zone: by the endpoints that were registered when it was asked
+-- bandwidth that were asked, went where its digits led, by the endpoints that were registered when
+-- it was asked
 abbrev pub RecordedAdmissionsAreRouted : Type 0
 RecordedAdmissionsAreRouted =
     (lines : List (List ℕ)) (configuration : Configuration) (limits : Limits)
@@ -35,18 +35,18 @@ RecordedAdmissionsAreRouted =
     → (replied_call ≡ call) × (granted ≡ units)
     × IsRouted (replay (opening_of configuration.commands limits) before) id digits destination
 
--- and each that was refused as no-default found no endpoint there
-abbrev pub RecordedRefusalsFoundNone : Type 0
-RecordedRefusalsFoundNone =
+-- and each that was refused for its route had digits that led nowhere, for this reason
+abbrev pub RecordedRefusalsAreUnrouted : Type 0
+RecordedRefusalsAreUnrouted =
     (lines : List (List ℕ)) (configuration : Configuration) (limits : Limits)
     (entries before : List Entry) (e : Entry)
     → reading_in lines ≡ Ok configuration
     → IsLegal (opening_of configuration.commands limits) entries
     → StandsAfter entries before e
-    → (call units : ℕ) (id digits : List ℕ) (replied_call : ℕ)
-    → e.event ≡ Admit id call digits units → e.reply ≡ AdmitRefused replied_call (NoRoute NoDefault)
+    → (call units : ℕ) (id digits : List ℕ) (replied_call : ℕ) (refusal : RouteRefusal)
+    → e.event ≡ Admit id call digits units → e.reply ≡ AdmitRefused replied_call (NoRoute refusal)
     → (replied_call ≡ call)
-    × FoundNone (replay (opening_of configuration.commands limits) before) id digits
+    × IsUnrouted (replay (opening_of configuration.commands limits) before) id digits refusal
 
 -- ---- limits
 -- endpoints and calls are within their limits, and the record has room for its entries and for one

@@ -1,25 +1,33 @@
--- How calls are routed, as an operator says it: the longest matching pattern decides where a call
--- goes, and if no pattern matches, the call stays in the caller's own zone.
-use Rattle.std.specs.Prelude.{◌≡◌, ◌⊎◌, ◌↔◌, ℕ, List, ◌∷◌, ◌++◌, Some, None, Ok}
+-- How calls are routed, as an operator says it: a technology prefix, its hop-off zone, the longest
+-- matching pattern or else the caller's own zone, and then an endpoint of that zone.
+use Rattle.std.specs.Prelude.{◌≡◌, ◌≤◌, ◌⊎◌, ◌↔◌, ℕ, true, false, IsTrue, List, [], ◌∷◌, ◌++◌, length, drop, Option, Some, None, Ok}
 use Rattle.std.specs.List.{All, Contains}
 use Rattle.gk_terms.specs.Address.{AddressParts}
+use Rattle.digit_patterns.specs.PatternParts.{PatternParts}
 use Rattle.digit_patterns.specs.Pattern.{Matches}
 use Rattle.digit_patterns.specs.Table.{IsBest}
 use Rattle.command_reader.specs.declared.commands.Command.{Command}
+use Rattle.command_reader.specs.declared.zones.ZoneKind.TheVariants.{Local, Remote}
 use Rattle.command_reader.specs.Configuration.{Configuration}
-use Rattle.command_reader.specs.Zones.{zone_of, Local, Remote}
+use Rattle.command_reader.specs.Zones.{zone_of}
+use Rattle.command_reader.specs.Reading.{reading_in}
+use Rattle.compiler.specs.Pick.{IsPicked}
+use Rattle.compiler.specs.Technology.{prefixes_of, begins_with, hopoffs_of, default_technology_of}
+use Rattle.compiler.specs.Rows.{Row, rows_of, zones_for}
+use Rattle.compiler.specs.Plan.{rejects_unknown}
+use Rattle.registry.specs.Endpoint.{EndpointParts}
+use Rattle.registry.specs.Registration.{endpoint_of}
+use Rattle.registry.specs.Gateway.{IsChosen}
+use Rattle.registry.specs.GatewayLaws.{HasNoCandidate}
 use Rattle.admission.specs.declared.events.Event.TheVariants.{Admit}
 use Rattle.admission.specs.declared.routes.Destination.{Destination}
 use Rattle.admission.specs.declared.routes.Destination.TheVariants as destinations
-use Rattle.admission.specs.declared.routes.RouteRefusal.TheVariants.{NoDefault}
+use Rattle.admission.specs.declared.routes.RouteRefusal.{RouteRefusal}
+use Rattle.admission.specs.declared.routes.RouteRefusal.TheVariants as refusals
 use Rattle.admission.specs.declared.replies.AdmitRefusal.TheVariants.{CallerNotRegistered, NoRoute}
 use Rattle.admission.specs.declared.replies.Reply.TheVariants.{Admitted, AdmitRefused}
-use Rattle.registry.specs.Endpoint.{EndpointParts}
 use Rattle.admission.specs.State.{State}
-use Rattle.registry.specs.Registration.{endpoint_of}
-use Rattle.compiler.specs.Plan.{Row, rows_of}
 use Rattle.admission.specs.Routing.{destination_of}
-use Rattle.command_reader.specs.Reading.{reading_in}
 use Rattle.admission.specs.Step.{verdict_of}
 
 -- x is the first of the list that has the property
@@ -30,85 +38,141 @@ pub record IsFirst {X : Type 0} (Has : X → Type 0) (xs : List X) (x : X) : Typ
   pub has : Has x
   pub none_before : All (λ y. ¬ Has y) before
 
--- ---- endpoints
--- the endpoint is registered in the zone, and the digits are one of its aliases
-abbrev pub HasDigits : List ℕ → List ℕ → EndpointParts → Type 0
-HasDigits zone digits e = (e.zone ≡ zone) × Contains e.aliases digits
+-- ---- technology prefixes
+-- the longest declared technology prefix with which the digits begin
+pub record IsTechnology (commands : List Command) (digits prefix : List ℕ) : Type 0 where
+  pub declared : Contains (prefixes_of commands) prefix
+  pub begins : IsTrue (begins_with digits prefix)
+  pub longest : All (λ other. IsTrue (begins_with digits other) → length other ≤ length prefix)
+      (prefixes_of commands)
 
--- the destination is the first registered endpoint of the zone with the digits as an alias, as what
--- it registered
-abbrev pub ReachesEndpoint : List EndpointParts → List ℕ → List ℕ → Destination → Type 0
-ReachesEndpoint endpoints zone digits destination =
-    (e : EndpointParts) × IsFirst (HasDigits zone digits) endpoints e
-    × (destination ≡ destination_of e.kind e)
+-- the digits begin with no declared technology prefix
+abbrev pub NoTechnology : List Command → List ℕ → Type 0
+NoTechnology commands digits =
+    All (λ prefix. ¬ IsTrue (begins_with digits prefix)) (prefixes_of commands)
 
--- no endpoint of the zone has the digits as an alias
-abbrev pub ReachesNone : List EndpointParts → List ℕ → List ℕ → Type 0
-ReachesNone endpoints zone digits = All (λ e. ¬ HasDigits zone digits e) endpoints
+-- the digits by which a pattern is looked for: all of them, or those after a technology prefix that
+-- has no hop-off zone
+pub data IsLookedFor (commands : List Command) (digits : List ℕ)
+    : Option (List ℕ) → List ℕ → Type 0 where
+  All_of_them : NoTechnology commands digits → IsLookedFor commands digits None digits
+  After_prefix : (prefix : List ℕ) → IsTechnology commands digits prefix
+      → hopoffs_of commands prefix ≡ []
+      → IsLookedFor commands digits (Some prefix) (drop (length prefix) digits)
 
 -- ---- patterns
--- the row of the longest pattern that matches the digits; of several for that pattern, the
--- first
+-- the longest pattern that matches the digits, with the zone picked from those it is declared for
 pub record IsLongestRow (commands : List Command) (digits : List ℕ) (row : Row) : Type 0 where
-  pub longest : IsBest (rows_of commands) digits row
-  pub first : IsFirst (λ (other : Row). other.0 ≡ row.0) (rows_of commands) row
+  pub zone : List ℕ
+  pub longest : IsBest (rows_of commands) digits (row.0, zone)
+  pub picked : IsPicked commands (zones_for commands row.0) row.1
 
 -- no pattern matches the digits
 abbrev pub NoneMatches : List Command → List ℕ → Type 0
 NoneMatches commands digits = All (λ (row : Row). ¬ Matches row.0 digits) (rows_of commands)
 
+-- ---- the target zone
+-- the commands send the digits to this zone, with the technology prefix that was found and the row
+-- that was used
+pub data IsSentTo (commands : List Command) (digits : List ℕ)
+    : List ℕ → Option (List ℕ) → Option Row → Type 0 where
+  -- the zone picked from the hop-off zones of the technology prefix
+  ByHopoff : (prefix zone : List ℕ) → IsTechnology commands digits prefix
+      → IsPicked commands (hopoffs_of commands prefix) zone
+      → IsSentTo commands digits zone (Some prefix) None
+  -- the zone of the longest matching pattern
+  ByPattern : (technology : Option (List ℕ)) (rest : List ℕ) (row : Row)
+      → IsLookedFor commands digits technology rest → IsLongestRow commands rest row
+      → IsSentTo commands digits row.1 technology (Some row)
+
+-- the call of a caller of this zone is to reach an endpoint of a zone: the local zone to which the
+-- commands send its digits; or the caller's own, since no pattern matches
+pub data IsToReach (commands : List Command) (caller digits : List ℕ)
+    : List ℕ → Option (List ℕ) → Option Row → Type 0 where
+  Sent : (zone : List ℕ) (technology : Option (List ℕ)) (row : Option Row)
+      → IsSentTo commands digits zone technology row → zone_of commands zone ≡ Some Local
+      → IsToReach commands caller digits zone technology row
+  Kept : (technology : Option (List ℕ)) (rest : List ℕ)
+      → IsLookedFor commands digits technology rest → NoneMatches commands rest
+      → rejects_unknown commands ≡ false → IsToReach commands caller digits caller technology None
+
+-- ---- endpoints
+-- the endpoint is registered in the zone, and the digits are one of its aliases
+abbrev pub HasDigits : List ℕ → List ℕ → EndpointParts → Type 0
+HasDigits zone digits e = (e.zone ≡ zone) × Contains e.aliases digits
+
+-- no endpoint of the zone has the digits as an alias
+abbrev pub ReachesNone : List EndpointParts → List ℕ → List ℕ → Type 0
+ReachesNone endpoints zone digits = All (λ e. ¬ HasDigits zone digits e) endpoints
+
 -- ---- an admission that is granted
--- the zone is another gatekeeper's, and the destination is that zone, at that gatekeeper
-abbrev pub LeadsAway : List Command → List ℕ → Destination → Type 0
-LeadsAway commands zone destination =
-    (address : AddressParts) × (zone_of commands zone ≡ Some (Remote address))
-    × (destination ≡ destinations.Zone zone address)
+-- the ways in which the digits of a caller of this zone lead to a destination
+pub data IsLedTo (s : State) (caller digits : List ℕ) : Destination → Type 0 where
+  -- to the remote zone to which the commands send them
+  Away : (zone : List ℕ) (technology : Option (List ℕ)) (row : Option Row)
+      (address : AddressParts) (cost priority : ℕ)
+      → IsSentTo s.commands digits zone technology row
+      → zone_of s.commands zone ≡ Some (Remote address cost priority)
+      → IsLedTo s caller digits (destinations.Zone zone address)
+  -- to the chosen gateway for the technology prefix of the digits
+  ByTechnology : (zone prefix : List ℕ) (row : Option Row) (e : EndpointParts)
+      → IsToReach s.commands caller digits zone (Some prefix) row
+      → IsChosen s.commands s.endpoints zone prefix row e
+      → IsLedTo s caller digits (destinations.Gateway e.id e.address)
+  -- to the first endpoint of the zone that has the digits as an alias, as what it registered
+  ByAlias : (zone : List ℕ) (row : Option Row) (e : EndpointParts)
+      → IsToReach s.commands caller digits zone None row
+      → IsFirst (HasDigits zone digits) s.endpoints e
+      → IsLedTo s caller digits (destination_of e.kind e)
+  -- to the chosen gateway for the default technology, since no endpoint of the zone has the digits
+  ByDefault : (zone prefix : List ℕ) (row : Option Row) (e : EndpointParts)
+      → IsToReach s.commands caller digits zone None row
+      → ReachesNone s.endpoints zone digits
+      → default_technology_of s.commands ≡ Some prefix
+      → IsChosen s.commands s.endpoints zone prefix row e
+      → IsLedTo s caller digits (destinations.Gateway e.id e.address)
 
--- the zone is a local one, and the destination is the endpoint there that has the digits
-abbrev pub StaysHere : State → List ℕ → List ℕ → Destination → Type 0
-StaysHere s zone digits destination =
-    (zone_of s.commands zone ≡ Some Local) × ReachesEndpoint s.endpoints zone digits destination
-
--- the longest matching pattern leads to the destination
-abbrev pub RoutedByPattern : State → List ℕ → Destination → Type 0
-RoutedByPattern s digits destination =
-    (row : Row) × IsLongestRow s.commands digits row
-    × (LeadsAway s.commands row.1 destination ⊎ StaysHere s row.1 digits destination)
-
--- no pattern matches, and the destination is the endpoint of the caller's zone that has the digits
-abbrev pub RoutedByCallersZone : State → List ℕ → List ℕ → Destination → Type 0
-RoutedByCallersZone s zone digits destination =
-    NoneMatches s.commands digits × ReachesEndpoint s.endpoints zone digits destination
-
--- the caller is registered, and its call goes to the destination by a pattern or by its own zone
+-- the caller is registered, and its digits lead to the destination
 pub record IsRouted (s : State) (id digits : List ℕ) (destination : Destination) : Type 0 where
   pub caller : EndpointParts
   pub registered : endpoint_of s.endpoints id ≡ Some caller
-  pub routed : RoutedByPattern s digits destination
-      ⊎ RoutedByCallersZone s caller.zone digits destination
+  pub led : IsLedTo s caller.zone digits destination
 
 -- ---- an admission that is refused
--- the longest matching pattern leads to a local zone, where no endpoint has the digits
-abbrev pub PatternFoundNone : State → List ℕ → Type 0
-PatternFoundNone s digits =
-    (row : Row) × IsLongestRow s.commands digits row
-    × (zone_of s.commands row.1 ≡ Some Local) × ReachesNone s.endpoints row.1 digits
+-- the ways in which the digits of a caller of this zone lead nowhere
+pub data IsLost (s : State) (caller digits : List ℕ) : RouteRefusal → Type 0 where
+  -- no pattern matches, and such digits are rejected
+  Rejected : (technology : Option (List ℕ)) (rest : List ℕ)
+      → IsLookedFor s.commands digits technology rest → NoneMatches s.commands rest
+      → rejects_unknown s.commands ≡ true → IsLost s caller digits refusals.UnknownPrefix
+  -- the zone has no gateway for the technology prefix of the digits
+  WithoutTechnology : (zone prefix : List ℕ) (row : Option Row)
+      → IsToReach s.commands caller digits zone (Some prefix) row
+      → HasNoCandidate s.commands s.endpoints zone prefix row
+      → IsLost s caller digits refusals.NoGateway
+  -- no endpoint of the zone has the digits, and it has no gateway for the default technology
+  WithoutDefault : (zone prefix : List ℕ) (row : Option Row)
+      → IsToReach s.commands caller digits zone None row
+      → ReachesNone s.endpoints zone digits
+      → default_technology_of s.commands ≡ Some prefix
+      → HasNoCandidate s.commands s.endpoints zone prefix row
+      → IsLost s caller digits refusals.NoGateway
+  -- no endpoint of the zone has the digits, and no default technology is set
+  WithoutAlias : (zone : List ℕ) (row : Option Row)
+      → IsToReach s.commands caller digits zone None row
+      → ReachesNone s.endpoints zone digits
+      → default_technology_of s.commands ≡ None
+      → IsLost s caller digits refusals.NoDefault
 
--- no pattern matches, and no endpoint of the caller's zone has the digits
-abbrev pub CallersZoneFoundNone : State → List ℕ → List ℕ → Type 0
-CallersZoneFoundNone s zone digits =
-    NoneMatches s.commands digits × ReachesNone s.endpoints zone digits
-
--- the caller is registered, and no endpoint is where its call would go
-pub record FoundNone (s : State) (id digits : List ℕ) : Type 0 where
+-- the caller is registered, and its digits lead nowhere
+pub record IsUnrouted (s : State) (id digits : List ℕ) (refusal : RouteRefusal) : Type 0 where
   pub caller : EndpointParts
   pub registered : endpoint_of s.endpoints id ≡ Some caller
-  pub nowhere : PatternFoundNone s digits ⊎ CallersZoneFoundNone s caller.zone digits
+  pub lost : IsLost s caller.zone digits refusal
 
 -- ---- the laws
 -- under an accepted configuration, whoever is registered: an admission that is granted, for the
--- call and the bandwidth that were asked, goes where the longest matching pattern leads, or without
--- one to an endpoint of the caller's own zone
+-- call and the bandwidth that were asked, goes where its digits lead
 abbrev pub AdmissionsAreRouted : Type 0
 AdmissionsAreRouted =
     (lines : List (List ℕ)) (configuration : Configuration) (s : State)
@@ -117,18 +181,18 @@ AdmissionsAreRouted =
     → verdict_of s (Admit id call digits units) ≡ Admitted replied_call destination granted
     → (replied_call ≡ call) × (granted ≡ units) × IsRouted s id digits destination
 
+-- and one that is refused for its route has digits that lead nowhere, for this reason
+abbrev pub RefusalsAreUnrouted : Type 0
+RefusalsAreUnrouted =
+    (lines : List (List ℕ)) (configuration : Configuration) (s : State)
+    → reading_in lines ≡ Ok configuration → s.commands ≡ configuration.commands
+    → (call units : ℕ) (id digits : List ℕ) (replied_call : ℕ) (refusal : RouteRefusal)
+    → verdict_of s (Admit id call digits units) ≡ AdmitRefused replied_call (NoRoute refusal)
+    → (replied_call ≡ call) × IsUnrouted s id digits refusal
+
 -- a caller is refused as not registered exactly if it is not
 abbrev pub StrangersAreRefused : Type 0
 StrangersAreRefused =
     (s : State) (call units : ℕ) (id digits : List ℕ)
     → (verdict_of s (Admit id call digits units) ≡ AdmitRefused call CallerNotRegistered)
     ↔ (endpoint_of s.endpoints id ≡ None)
-
--- and one that is refused as no-default found no endpoint there
-abbrev pub RefusalsFoundNone : Type 0
-RefusalsFoundNone =
-    (lines : List (List ℕ)) (configuration : Configuration) (s : State)
-    → reading_in lines ≡ Ok configuration → s.commands ≡ configuration.commands
-    → (call units : ℕ) (id digits : List ℕ) (replied_call : ℕ)
-    → verdict_of s (Admit id call digits units) ≡ AdmitRefused replied_call (NoRoute NoDefault)
-    → (replied_call ≡ call) × FoundNone s id digits

@@ -5,7 +5,7 @@ use Rattle.gk_terms.specs.Address.{address_text}
 use Rattle.admission.specs.declared.routes.Destination.{Destination}
 use Rattle.admission.specs.declared.routes.Destination.TheVariants.{Gateway, Terminal, Zone}
 use Rattle.admission.specs.declared.routes.RouteRefusal.{RouteRefusal}
-use Rattle.admission.specs.declared.routes.RouteRefusal.TheVariants.{NoDefault}
+use Rattle.admission.specs.declared.routes.RouteRefusal.TheVariants.{UnknownPrefix, NoGateway, NoDefault}
 use Rattle.admission.specs.declared.routes.Route.{Route}
 use Rattle.admission.specs.declared.routes.Route.TheVariants.{To, Refused}
 
@@ -19,6 +19,8 @@ abbrev pub destination_text : Destination → List ℕ
 destination_text destination = spaced (destination_words destination)
 
 abbrev pub route_refusal_word : RouteRefusal → List ℕ
+route_refusal_word UnknownPrefix = codes "unknown-prefix"
+route_refusal_word NoGateway = codes "no-gateway"
 route_refusal_word NoDefault = codes "no-default"
 
 -- a route as its destination, or as the word of its refusal

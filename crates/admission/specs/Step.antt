@@ -3,19 +3,16 @@
 use Rattle.std.specs.Prelude.{ℕ, ◌+◌, Bool, true, false, not, ◌&&◌, nat_lt, nat_le, List, length, Option, Some, None, if◌then◌else◌}
 use Rattle.registry.specs.Endpoint.{EndpointParts}
 use Rattle.admission.specs.State.{State, free_places}
-use Rattle.compiler.specs.Zones.{is_local, zone_meant}
-use Rattle.registry.specs.Registration.{id_is_taken, alias_is_taken, with_endpoint, without_endpoint, endpoint_of, is_registered}
-use Rattle.compiler.specs.Plan.{plan_of, target_of, is_remote}
+use Rattle.compiler.specs.Zones.{zone_meant}
+use Rattle.registry.specs.Registration.{registration_refusal, in_zone_meant, with_endpoint, without_endpoint, endpoint_of, is_registered}
+use Rattle.compiler.specs.Plan.{Target, plan_of, zone_of_target, is_remote}
 use Rattle.admission.specs.Routing.{route_of}
 use Rattle.bandwidth.specs.Calls.{is_open, owns, with_call}
-use Rattle.command_reader.specs.declared.commands.Command.{Command}
 use Rattle.bandwidth.specs.declared.calls.OpenCall.{OpenCall}
-use Rattle.compiler.specs.declared.tables.Plan.{Plan}
 use Rattle.admission.specs.declared.events.Event.{Event}
 use Rattle.admission.specs.declared.events.Event.TheVariants.{Register, Unregister, Admit}
 use Rattle.admission.specs.declared.routes.Route.{Route}
 use Rattle.admission.specs.declared.routes.Route.TheVariants.{To, Refused}
-use Rattle.admission.specs.declared.replies.Duplicate.TheVariants.{Id, E164}
 use Rattle.admission.specs.declared.replies.RegisterRefusal.{RegisterRefusal}
 use Rattle.admission.specs.declared.replies.RegisterRefusal.TheVariants as register
 use Rattle.admission.specs.declared.replies.UnregisterRefusal.TheVariants as unregister
@@ -25,19 +22,16 @@ use Rattle.admission.specs.declared.replies.Reply.TheVariants.{Registered, Regis
 
 -- ---- registrations
 -- why an endpoint may not register, apart from the counts: the first of three refusals
-abbrev pub registration_refusal : State → EndpointParts → Option RegisterRefusal
-registration_refusal s e =
-    if is_local s.commands (zone_meant s.commands e.zone)
-    then (if id_is_taken s.endpoints e then Some (register.DuplicateAlias Id)
-    else (if alias_is_taken s.endpoints e then Some (register.DuplicateAlias E164) else None))
-    else Some register.UnknownZone
+abbrev pub register_refusal : State → EndpointParts → Option RegisterRefusal
+register_refusal s e =
+    registration_refusal register.UnknownZone register.DuplicateAlias s.commands s.endpoints e
 
 abbrev pub verdict_of_refusal : State → EndpointParts → Option RegisterRefusal → Reply
 verdict_of_refusal s e (Some refusal) = RegisterRefused e.id refusal
 verdict_of_refusal s e None = Registered e.id (zone_meant s.commands e.zone)
 
 abbrev pub registration_verdict_of : State → EndpointParts → Reply
-registration_verdict_of s e = verdict_of_refusal s e (registration_refusal s e)
+registration_verdict_of s e = verdict_of_refusal s e (register_refusal s e)
 
 -- ---- unregistrations
 -- an endpoint that is not registered, or that owns an open call, may not
@@ -121,30 +115,26 @@ count_refusal s (Admit id call digits units) verdict =
 
 -- ---- what a granted verdict changes
 -- the call that an admission of this caller opens
-abbrev pub opened_call_of_plan : EndpointParts → ℕ → ℕ → Plan → OpenCall
-opened_call_of_plan caller call units plan = record {
+abbrev pub opened_call_of_target : EndpointParts → ℕ → ℕ → Target → OpenCall
+opened_call_of_target caller call units target = record {
   number = call;
   owner = caller.id;
   source = caller.zone;
-  target = target_of caller.zone plan;
-  remote = is_remote plan;
+  target = zone_of_target caller.zone target;
+  remote = is_remote target;
   units = units;
 }
 
 abbrev pub with_admitted : State → ℕ → List ℕ → ℕ → Option EndpointParts → State
 with_admitted s call digits units None = s
 with_admitted s call digits units (Some caller) =
-    let opened = opened_call_of_plan caller call units (plan_of s.commands digits) in
+    let opened = opened_call_of_target caller call units (plan_of s.commands digits) in
     record s { calls = with_call s.calls opened }
-
--- the endpoint in the zone that it means
-abbrev pub with_zone_meant : List Command → EndpointParts → EndpointParts
-with_zone_meant commands e = record e { zone = zone_meant commands e.zone }
 
 -- what was granted
 abbrev pub with_grant : State → Event → State
 with_grant s (Register e) =
-    record s { endpoints = with_endpoint s.endpoints (with_zone_meant s.commands e) }
+    record s { endpoints = with_endpoint s.endpoints (in_zone_meant s.commands e) }
 with_grant s (Unregister id) = record s { endpoints = without_endpoint s.endpoints id }
 with_grant s (Admit id call digits units) =
     with_admitted s call digits units (endpoint_of s.endpoints id)

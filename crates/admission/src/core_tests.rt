@@ -5,12 +5,13 @@ use crate::events::{Event, EventKind};
 use crate::limits::{Limits, STATED_LIMITS};
 use crate::replies::{AdmitRefusal, RegisterRefusal, Reply, UnregisterRefusal};
 use crate::routes::{Destination, Route};
+use crate::routing::route;
 use crate::test_cores::{
     BAD_LIMITS, admission, away, core_within, entry, five_events, opening, receipt_of,
     reply_of_unrecorded, terminal,
 };
 use bandwidth::OpenCall;
-use compiler::{Plan, Routed};
+use compiler::{Plan, Routed, ZoneNo};
 use gk_terms::{Address, Dialled, Name, Units, Version};
 use std::alloc::Global;
 use std::process::Abort;
@@ -113,10 +114,7 @@ fn assert_answers(rt: &impl Abort, alloc: Global, core: &mut Core) -> Result<(),
     );
 
     let routed = core.route_here(&dialled);
-    let plan = Plan::Remote {
-        zone: Name::read(b"gk-x")?,
-        address: Address::new([10, 9, 0, 1], 1719),
-    };
+    let plan = Plan::Remote(ZoneNo::new(1));
     let version = Version::new(1);
     let expected = Routed {
         version,
@@ -124,10 +122,13 @@ fn assert_answers(rt: &impl Abort, alloc: Global, core: &mut Core) -> Result<(),
         plan,
     };
     assert_eq!(rt; routed, expected);
+    let away = away()?;
+    let led = route(core.tables(), core.registry(), &zone, &dialled);
+    assert_eq!(rt; led, Route::To(away));
     let (reply, receipt) = core.admit(&routed, &ta, 1001, units)?;
     let admitted = Reply::Admitted {
         call: 1001,
-        destination: away()?,
+        destination: away,
         units,
     };
     assert_eq!(rt; reply, admitted);
@@ -161,7 +162,7 @@ fn assert_planned(rt: &impl Abort, alloc: Global, core: &mut Core) -> Result<(),
     let routed = Routed {
         version: Version::new(7),
         dialled: Dialled::read(b"9123")?,
-        plan: Plan::Caller,
+        plan: Plan::Caller { technology: None },
     };
     core.register(terminal(alloc, b"ta", 1, &[b"9123"])?)?;
     if routed.version == core.version() {

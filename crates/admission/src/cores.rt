@@ -1,9 +1,9 @@
 //! The core: one event after another, each recorded with its reply.
 
-ghost use Rattle.std.specs.Prelude.{◌≡◌, ◌↔◌, [], false, IfOk, IsErrOf};
+ghost use Rattle.std.specs.Prelude.{◌≡◌, ◌↔◌, [], Some, false, IfOk, IsErrOf};
 ghost use Rattle.admission.specs.State.{opening_of};
 ghost use Rattle.admission.specs.Limits.{are_limits};
-ghost use Rattle.compiler.specs.Plan.{plan_of};
+ghost use Rattle.compiler.specs.Plan.{plan_of, target_of};
 ghost use Rattle.admission.specs.Ruling.{ruling_of};
 ghost use Rattle.admission.specs.History.{IsLegal, state_of, Steps};
 ghost use Rattle.admission.specs.HistoryLaws.{IsSound};
@@ -104,7 +104,8 @@ impl Core {
         units: Units,
     ) -> Result<(Reply, Receipt), Reply>
         requires planned { routed.now.version ≡ (state_of self.old).version
-            → routed.now.plan ≡ plan_of (state_of self.old).commands routed.now.dialled }
+            → target_of (state_of self.old).commands routed.now.plan
+            ≡ Some (plan_of (state_of self.old).commands routed.now.dialled) }
         ensures { Steps self.old (Event.Admit id.now call routed.now.dialled units)
             result self.new }
     {
@@ -148,7 +149,8 @@ impl Core {
     pub fn route_here(&self, digits: &Dialled) -> Routed
         ensures version { result.version ≡ (state_of self.now).version }
         ensures dialled { result.dialled ≡ digits.now }
-        ensures plan { result.plan ≡ plan_of (state_of self.now).commands digits.now }
+        ensures plan { target_of (state_of self.now).commands result.plan
+            ≡ Some (plan_of (state_of self.now).commands digits.now) }
     {
         let machine = self.machine();
         machine.tables().routed(machine.version(), digits)
@@ -158,8 +160,10 @@ impl Core {
     /// force, else made anew.
     fn plan_for(&self, routed: &Routed) -> Plan
         requires { routed.now.version ≡ (state_of self.now).version
-            → routed.now.plan ≡ plan_of (state_of self.now).commands routed.now.dialled }
-        ensures { result ≡ plan_of (state_of self.now).commands routed.now.dialled }
+            → target_of (state_of self.now).commands routed.now.plan
+            ≡ Some (plan_of (state_of self.now).commands routed.now.dialled) }
+        ensures { target_of (state_of self.now).commands result
+            ≡ Some (plan_of (state_of self.now).commands routed.now.dialled) }
     {
         if routed.version == self.machine().version() {
             routed.plan
@@ -201,7 +205,7 @@ impl Core {
 
     /// The registered endpoints, in order of registration.
     pub fn registry(&self) -> &Registry
-        ensures { result.now ≡ (state_of self.now).endpoints }
+        ensures { result.now.endpoints ≡ (state_of self.now).endpoints }
     {
         self.machine().registry()
     }

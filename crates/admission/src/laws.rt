@@ -1,21 +1,19 @@
 //! Theorems on how calls are routed, and on what every record keeps. Each is the contract of a
 //! function that does nothing.
 
-ghost use Rattle.admission.specs.HistoryLaws.{RecordedAdmissionsAreRouted, RecordedRefusalsFoundNone, RecordsAreSound};
-ghost use Rattle.admission.specs.RouteLaws.{AdmissionsAreRouted, RefusalsFoundNone, StrangersAreRefused};
+ghost use Rattle.admission.specs.HistoryLaws.{RecordedAdmissionsAreRouted, RecordedRefusalsAreUnrouted, RecordsAreSound};
+ghost use Rattle.admission.specs.RouteLaws.{AdmissionsAreRouted, RefusalsAreUnrouted, StrangersAreRefused};
 
 /// Under an accepted configuration, in any state: if the verdict on an admission is a remote zone
-/// or an endpoint, the longest matching pattern leads there; if no pattern matches, it is an
-/// endpoint of the caller's own zone.
+/// or an endpoint, the digits lead there, in one of the ways of the routing flow.
 pub fn admissions_are_routed()
     ensures { AdmissionsAreRouted }
 {}
 
-/// Under an accepted configuration, in any state: if the verdict on an admission is no-default, no
-/// endpoint has the digits in the local zone of the longest matching pattern; if no pattern
-/// matches, none in the caller's own zone.
-pub fn refusals_found_none()
-    ensures { RefusalsFoundNone }
+/// Under an accepted configuration, in any state: if the verdict on an admission is unknown-prefix,
+/// no-gateway or no-default, the digits lead nowhere, for this reason.
+pub fn refusals_are_unrouted()
+    ensures { RefusalsAreUnrouted }
 {}
 
 /// The verdict on an admission is callerNotRegistered exactly if its caller is not registered. A
@@ -25,16 +23,16 @@ pub fn strangers_are_refused()
 {}
 
 /// In every legal history under an accepted configuration, as the record of a core is one: each
-/// granted admission went where the longest matching pattern leads, or without one to an endpoint
-/// of the caller's own zone, by the endpoints that were registered when it was asked.
+/// granted admission went where its digits led, by the endpoints that were registered when it was
+/// asked.
 pub fn recorded_admissions_are_routed()
     ensures { RecordedAdmissionsAreRouted }
 {}
 
-/// In every legal history under an accepted configuration: each admission that was refused as
-/// no-default found no endpoint with the digits where its call would have gone.
-pub fn recorded_refusals_found_none()
-    ensures { RecordedRefusalsFoundNone }
+/// In every legal history under an accepted configuration: each admission that was refused for its
+/// route had digits that led nowhere, for this reason.
+pub fn recorded_refusals_are_unrouted()
+    ensures { RecordedRefusalsAreUnrouted }
 {}
 
 /// Every legal history keeps its commands and limits, counts its entries, and leaves no more

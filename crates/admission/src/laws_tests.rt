@@ -5,9 +5,9 @@ use crate::laws;
 #[test]
 fn laws_can_be_called(_rt: HostRuntime) {
     laws::admissions_are_routed();
-    laws::refusals_found_none();
+    laws::refusals_are_unrouted();
     laws::strangers_are_refused();
     laws::recorded_admissions_are_routed();
-    laws::recorded_refusals_found_none();
+    laws::recorded_refusals_are_unrouted();
     laws::records_are_sound();
 }

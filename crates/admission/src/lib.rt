@@ -13,8 +13,10 @@ mod machine;
 pub mod record;
 #[cfg(test)]
 mod record_tests;
+mod registering;
 pub mod replies;
 pub mod routes;
+pub mod routing;
 #[cfg(test)]
 mod test_cores;
 mod verdicts;
@@ -23,5 +25,7 @@ pub use cores::{Core, OpeningFault};
 pub use events::{Event, EventKind};
 pub use limits::{Limits, STATED_LIMITS};
 pub use record::{Entry, Receipt, Record};
-pub use replies::{AdmitRefusal, Duplicate, RegisterRefusal, Reply, UnregisterRefusal};
+pub use registry::Duplicate;
+pub use replies::{AdmitRefusal, RegisterRefusal, Reply, UnregisterRefusal};
 pub use routes::{Destination, Route, RouteRefusal};
+pub use routing::route;

@@ -1,30 +1,32 @@
 //! The machine: the state of a running core, and what it rules of an event.
 
-ghost use Rattle.std.specs.Prelude.{◌≡◌, ◌≤◌, ◌+◌, Some, None, false, IfSome, OnOk, OnErr, MatchResult};
+ghost use Rattle.std.specs.Prelude.{◌≡◌, ◌≤◌, ◌+◌, Some, None, false, IfSome, IsSome, OnOk, OnErr, MatchResult};
+ghost use Rattle.registry.specs.Registration.{is_full_for, with_endpoint, in_zone_meant};
 ghost use Rattle.bandwidth.specs.Calls.{is_open};
-ghost use Rattle.compiler.specs.Plan.{plan_of};
+ghost use Rattle.compiler.specs.Plan as Plans;
 ghost use Rattle.compiler.specs.Zones.{zone_meant};
-ghost use Rattle.registry.specs.Registration.{by_alias};
 ghost use Rattle.admission.specs.State.{opening_of, free_places};
-ghost use Rattle.admission.specs.Routing as Routing;
-ghost use Rattle.admission.specs.Step.{registration_refusal, verdict_of, record_refusal, are_endpoints_full, are_calls_full, count_refusal, with_verdict, state_after};
+ghost use Rattle.admission.specs.Step.{register_refusal, verdict_of, record_refusal, are_endpoints_full, are_calls_full, count_refusal, with_verdict, state_after};
 ghost use Rattle.admission.specs.Ruling as Rulings;
 
 use crate::events::Event;
 use crate::limits::Limits;
 use crate::record::Entry;
-use crate::replies::{AdmitRefusal, Duplicate, RegisterRefusal, Reply, UnregisterRefusal};
-use crate::routes::{Destination, Route, RouteRefusal};
+use crate::registering::{refusal_of, register_in};
+use crate::replies::{AdmitRefusal, RegisterRefusal, Reply, UnregisterRefusal};
+use crate::routes::Route;
+use crate::routing::{is_remote, route_of_plan, target_zone};
 use crate::verdicts::{is_granted, places_needed, record_full_reply_of, refused, verdict_of_route};
 use bandwidth::{OpenCall, OpenCalls};
 use compiler::{Plan, Tables};
 use gk_terms::{Dialled, Name, Units, Version};
-use registry::{Endpoint, EndpointKind, Registry};
+use registry::{Endpoint, Registry};
 use std::alloc::{AllocError, Global};
 use std::marker::Model;
 
 /// The tables in force, the registered endpoints, the open calls, the number of recorded verdicts
-/// and the limits. A contract sees them as a `State`.
+/// and the limits. A contract sees them as a `State`. The registry takes as many endpoints as the
+/// limit allows.
 #[derive(Drop)]
 pub struct Machine {
     tables: Tables,
@@ -36,6 +38,7 @@ pub struct Machine {
 }
 
 impl Model for Machine {
+    ghost use Rattle.std.specs.Prelude.{◌≡◌};
     ghost use Rattle.admission.specs.State.{State};
 
     ghost Value = { State };
@@ -43,11 +46,13 @@ impl Model for Machine {
     ghost view = { λ m. record {
       commands = m.tables.commands;
       version = m.version;
-      endpoints = m.registry;
+      endpoints = m.registry.endpoints;
       calls = m.calls;
       records = m.records;
       limits = m.limits;
     } };
+
+    ghost invariant = { λ m. m.registry.most ≡ m.limits.endpoints };
 }
 
 /// What the machine rules of an event, apart from counts and memory.
@@ -71,7 +76,7 @@ impl Machine {
         Machine {
             tables,
             version: Version::new(1),
-            registry: Registry::new(alloc),
+            registry: Registry::new(alloc, limits.endpoints),
             calls: OpenCalls::new(alloc),
             records: 0,
             limits,
@@ -96,7 +101,7 @@ impl Machine {
 
     /// The registered endpoints.
     pub fn registry(&self) -> &Registry
-        ensures { result.now ≡ self.now.endpoints }
+        ensures { result.now.endpoints ≡ self.now.endpoints }
     {
         &self.registry
     }
@@ -126,20 +131,17 @@ impl Machine {
     /// The local zone in which the endpoint may register, or the first refusal.
     fn placement(&self, endpoint: &Endpoint) -> Result<Name, RegisterRefusal>
         ensures { MatchResult result
-            (λ zone. (registration_refusal self.now endpoint.now ≡ None)
+            (λ zone. (register_refusal self.now endpoint.now ≡ None)
             × (zone ≡ zone_meant self.now.commands endpoint.now.zone))
-            (λ reason. registration_refusal self.now endpoint.now ≡ Some reason) }
+            (λ reason. register_refusal self.now endpoint.now ≡ Some reason) }
     {
-        let Some(zone) = self.tables.local_zone(&endpoint.zone()) else {
-            return Err(RegisterRefusal::UnknownZone);
-        };
-        if self.registry.id_is_taken(endpoint) {
-            return Err(RegisterRefusal::DuplicateAlias(Duplicate::Id));
+        if let Some(fault) = self.registry.fault_of(endpoint, &self.tables) {
+            return Err(refusal_of(fault));
         }
-        if self.registry.alias_is_taken(endpoint) {
-            return Err(RegisterRefusal::DuplicateAlias(Duplicate::E164));
+        match self.tables.local_zone(&endpoint.zone()) {
+            Some(zone) => Ok(zone),
+            None => unreachable!(),
         }
-        Ok(zone)
     }
 
     #[tactic(auto, unfolding(crate::specs::Step::verdict_of))]
@@ -172,7 +174,8 @@ impl Machine {
         digits: &Dialled,
         units: Units,
     ) -> Ruling
-        requires planned { plan.now ≡ plan_of self.now.commands digits.now }
+        requires planned { Plans.target_of self.now.commands plan.now
+            ≡ Some (Plans.plan_of self.now.commands digits.now) }
         ensures { result ≡ Rulings.ruling_of self.now (Event.Admit id.now call digits.now units) }
     {
         let Some(caller) = self.registry.endpoint(id) else {
@@ -192,40 +195,38 @@ impl Machine {
                 opens: None,
             };
         }
-        let route = self.route(plan, &zone, digits);
+        let route = route_of_plan(&self.tables, &self.registry, plan, &zone, digits);
         Ruling {
             verdict: verdict_of_route(&route, call, units),
             zone: Some(zone),
             route: Some(route),
-            opens: opened_call_of_route(caller, call, units, plan, &route),
+            opens: self.opened_call(caller, call, units, plan, &route),
         }
     }
 
-    #[tactic(auto, unfolding(crate::specs::Routing::route_of))]
-    /// Where the digits lead a caller of this zone.
-    fn route(&self, plan: &Plan, caller: &Name, digits: &Dialled) -> Route
-        requires { plan.now ≡ plan_of self.now.commands digits.now }
-        ensures { result
-            ≡ Routing.route_of self.now.commands self.now.endpoints caller.now digits.now }
+    /// The call that an admission to this route opens.
+    fn opened_call(
+        &self,
+        caller: &Endpoint,
+        number: u32,
+        units: Units,
+        plan: &Plan,
+        route: &Route,
+    ) -> Option<OpenCall>
+        requires { IsSome (Plans.target_of self.now.commands plan.now) }
+        ensures { IfSome (Plans.target_of self.now.commands plan.now) (λ target. result
+            ≡ Rulings.opened_call_of_route caller.now number units target route.now) }
     {
-        match plan {
-            Plan::Remote { zone, address } => Route::To(Destination::Zone {
-                name: *zone,
-                address: *address,
+        match route {
+            Route::Refused(_) => None,
+            Route::To(_) => Some(OpenCall {
+                number,
+                owner: caller.id(),
+                source: caller.zone(),
+                target: target_zone(&self.tables, plan, &caller.zone()),
+                remote: is_remote(plan),
+                units,
             }),
-            Plan::Local { zone } => self.by_alias(zone, digits),
-            Plan::Caller => self.by_alias(caller, digits),
-        }
-    }
-
-    /// To the endpoint of the zone that has the digits as an alias.
-    fn by_alias(&self, zone: &Name, digits: &Dialled) -> Route
-        ensures { result
-            ≡ Routing.route_of_endpoint (by_alias self.now.endpoints zone.now digits.now) }
-    {
-        match self.registry.by_alias(zone, digits) {
-            Some(endpoint) => Route::To(destination_of(endpoint)),
-            None => Route::Refused(RouteRefusal::NoDefault),
         }
     }
 
@@ -326,7 +327,9 @@ impl Machine {
     #[tactic(auto, using(crate::proofs::MachineLemmas::opened_changes))]
     /// Changes what a granted ruling changes.
     fn change(&mut self, event: &Event, ruling: &Ruling) -> Result<(), AllocError>
-        requires { ruling.now ≡ Rulings.ruling_of self.old event.now }
+        requires ruled { ruling.now ≡ Rulings.ruling_of self.old event.now }
+        requires recordable { count_refusal self.old event.now (verdict_of self.old event.now)
+            ≡ None }
         ensures ok { OnOk result (self.new
             ≡ with_verdict self.old event.now (verdict_of self.old event.now)) }
         ensures err { OnErr result (self.new ≡ self.old) }
@@ -341,19 +344,37 @@ impl Machine {
         }
     }
 
-    #[tactic(auto, unfolding(crate::specs::Step::verdict_of))]
+    #[tactic(auto, unfolding(crate::specs::Step::verdict_of, crate::specs::Step::count_refusal))]
     /// Puts a copy of an endpoint that is granted its registration among the endpoints, in its
     /// zone.
     fn place(&mut self, endpoint: &Endpoint, verdict: &Reply) -> Result<(), AllocError>
-        requires { verdict.now ≡ verdict_of self.old (Event.Register endpoint.now) }
+        requires ruled { verdict.now ≡ verdict_of self.old (Event.Register endpoint.now) }
+        requires recordable { count_refusal self.old (Event.Register endpoint.now) verdict.now
+            ≡ None }
         ensures ok { OnOk result (self.new
             ≡ with_verdict self.old (Event.Register endpoint.now) verdict.now) }
         ensures err { OnErr result (self.new ≡ self.old) }
     {
-        if let Reply::Registered { zone, .. } = verdict {
-            self.registry.put(endpoint.copy()?.in_zone(*zone))?;
+        if let Reply::Registered { .. } = verdict {
+            self.register(endpoint.copy()?)?;
         }
         Ok(())
+    }
+
+    #[tactic(auto, using(crate::proofs::MachineLemmas::not_refused))]
+    /// Registers an endpoint that no refusal meets and for which there is room.
+    fn register(&mut self, endpoint: Endpoint) -> Result<(), AllocError>
+        requires unrefused { register_refusal self.old endpoint ≡ None }
+        requires room { is_full_for
+            (record { endpoints = self.old.endpoints; most = self.old.limits.endpoints }) endpoint
+            ≡ false }
+        ensures ok { OnOk result (self.new ≡ record self.old {
+          endpoints
+              = with_endpoint self.old.endpoints (in_zone_meant self.old.commands endpoint);
+        }) }
+        ensures err { OnErr result (self.new ≡ self.old) }
+    {
+        register_in(&mut self.registry, &self.tables, endpoint)
     }
 
     #[tactic(auto, unfolding(crate::specs::Step::verdict_of))]
@@ -363,7 +384,7 @@ impl Machine {
         ensures { self.new ≡ with_verdict self.old (Event.Unregister id.now) verdict.now }
     {
         if let Reply::Unregistered { .. } = verdict {
-            self.registry.remove(id);
+            let _ = self.registry.unregister(id);
         }
     }
 
@@ -408,40 +429,5 @@ impl Ruling {
             route: None,
             opens: None,
         }
-    }
-}
-
-/// An endpoint as a destination, by its registered kind.
-fn destination_of(endpoint: &Endpoint) -> Destination
-    ensures { result ≡ Routing.destination_of endpoint.now.kind endpoint.now }
-{
-    let id = endpoint.id();
-    let address = endpoint.address();
-    match endpoint.kind() {
-        EndpointKind::Gateway => Destination::Gateway { id, address },
-        EndpointKind::Terminal => Destination::Terminal { id, address },
-    }
-}
-
-/// The call that an admission to this route opens.
-fn opened_call_of_route(
-    caller: &Endpoint,
-    number: u32,
-    units: Units,
-    plan: &Plan,
-    route: &Route,
-) -> Option<OpenCall>
-    ensures { result ≡ Rulings.opened_call_of_route caller.now number units plan.now route.now }
-{
-    match route {
-        Route::Refused(_) => None,
-        Route::To(_) => Some(OpenCall {
-            number,
-            owner: caller.id(),
-            source: caller.zone(),
-            target: plan.target_of(&caller.zone()),
-            remote: plan.is_remote(),
-            units,
-        }),
     }
 }

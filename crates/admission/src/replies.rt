@@ -2,15 +2,7 @@
 
 use crate::routes::{Destination, RouteRefusal};
 use gk_terms::{Name, Units};
-
-/// What another endpoint has already.
-#[derive(Clone, Copy, Debug, PartialEq, Eq)]
-pub enum Duplicate {
-    /// The ID.
-    Id,
-    /// An E.164 alias.
-    E164,
-}
+use registry::Duplicate;
 
 /// Why a registration is refused. Which case has which of H.225.0's reasons is this project's
 /// profile.

@@ -17,7 +17,12 @@ pub enum Destination {
 /// Why dialled digits lead nowhere.
 #[derive(Clone, Copy, Debug, PartialEq, Eq)]
 pub enum RouteRefusal {
-    /// No endpoint of the target zone has them, and no default technology is set.
+    /// No zone prefix matches, and the configuration rejects such digits.
+    UnknownPrefix,
+    /// The target zone has no gateway for the technology prefix of the digits, or for the default
+    /// technology.
+    NoGateway,
+    /// No endpoint of the target zone has the digits as an alias, and no default technology is set.
     NoDefault,
 }
 
@@ -53,6 +58,8 @@ impl fmt::Display for RouteRefusal {
 
     fn fmt<W: fmt::Write>(&self, f: &mut fmt::Formatter<W>) -> fmt::Result {
         match self {
+            RouteRefusal::UnknownPrefix => f.write_str("unknown-prefix"),
+            RouteRefusal::NoGateway => f.write_str("no-gateway"),
             RouteRefusal::NoDefault => f.write_str("no-default"),
         }
     }

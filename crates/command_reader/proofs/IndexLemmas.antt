@@ -9,7 +9,8 @@ use Rattle.std.proofs.lemmas.List.Folds.{list_any-append}
 use Rattle.std.proofs.lemmas.List.Sorted.{list_any-IsPermutation, length_permutation}
 use Rattle.command_reader.specs.declared.commands.Command.{Command}
 use Rattle.command_reader.specs.declared.commands.Command.TheVariants.{ZoneLocal, ZoneRemote, ZonePrefix, GwTypePrefix, RejectUnknownPrefix, BandwidthDefault, BandwidthZone, BandwidthRemote}
-use Rattle.command_reader.specs.Zones.{Zone, zones_of, declared_by, is_declared}
+use Rattle.command_reader.specs.declared.zones.ZoneKind.{ZoneKind}
+use Rattle.command_reader.specs.Zones.{zones_of, declared_by, is_declared}
 use Rattle.command_reader.specs.declared.faults.FaultKind.{FaultKind}
 use Rattle.command_reader.specs.declared.faults.FaultKind.TheVariants.{NoMemory}
 use Rattle.command_reader.specs.Progress.{Progress, commands_in}
@@ -37,7 +38,7 @@ or_swap true false = refl
 or_swap false true = refl
 or_swap false false = refl
 
-one_zone : (names new : List (List ℕ)) (lines : List Command) (command : Command) (zone : List ℕ × Zone) → zones_of (command ∷ []) ≡ zone ∷ [] → AreDeclared names lines → IsPermutation (zone.0 ∷ names) new → AreDeclared new (lines ++ command ∷ [])
+one_zone : (names new : List (List ℕ)) (lines : List Command) (command : Command) (zone : List ℕ × ZoneKind) → zones_of (command ∷ []) ≡ zone ∷ [] → AreDeclared names lines → IsPermutation (zone.0 ∷ names) new → AreDeclared new (lines ++ command ∷ [])
 one_zone names new lines command zone added h p =
     let zones : zones_of (lines ++ command ∷ []) ≡ zones_of lines ++ zone ∷ [] =
     filter_map-append declared_by lines (command ∷ []) ∙ ap (λ more. zones_of lines ++ more) added in

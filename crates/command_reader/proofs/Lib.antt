@@ -1,3 +1,4 @@
+pub mod AcceptedLemmas
 pub mod AddressBack
 pub mod BandwidthBack
 pub mod CanonicalLemmas
@@ -19,8 +20,10 @@ pub mod OptionsBack
 pub mod PatternBack
 pub mod PrefixZoneBack
 pub mod PrintingLemmas
+pub mod RangesBack
 pub mod ReadOnLemmas
 pub mod RemoteZoneBack
 pub mod TechPrefixBack
 pub mod TechnologyBack
+pub mod WellFormedLemmas
 pub mod WordsBack

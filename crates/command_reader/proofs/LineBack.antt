@@ -22,7 +22,7 @@ use Rattle.command_reader.proofs.PrefixZoneBack.{zone_prefix_back}
 use Rattle.command_reader.proofs.TechnologyBack.{gw_type_prefix_back}
 use Rattle.command_reader.proofs.BandwidthBack.{bandwidth_spelled}
 
-kept_some : (r : Result Command FaultKind) (command : Command) → kept_command_of r ≡ Ok (Some command) → r ≡ Ok command
+pub kept_some : (r : Result Command FaultKind) (command : Command) → kept_command_of r ≡ Ok (Some command) → r ≡ Ok command
 kept_some (Ok c) command h = cc
 kept_some (Err kind) command h = absurd (let no : ⊥ = cc in no)
 

@@ -27,8 +27,8 @@ use Rattle.command_reader.proofs.CommandBack.{IsSaidAgain}
 
 -- ---- numbers
 -- a number whose digits are read again in their place
-record IsPrintedNumber (least most size n : ℕ) : Type 0 where
-  taken : IsRead left_out_of_remote (number_of least most) (decimal n) n
+pub record IsPrintedNumber (least most size n : ℕ) : Type 0 where
+  pub taken : IsRead left_out_of_remote (number_of least most) (decimal n) n
   solid : is_word (decimal n) ≡ true
   short : length (decimal n) ≤ size
 
@@ -59,8 +59,8 @@ cost_50 = printed_number 1 100 3 (codes "50") 50 (omega arith) (omega arith) (om
 
 -- ---- the port
 -- a port that is read again, with the words after it
-record IsPort (port : ℕ) : Type 0 where
-  number : IsPrintedNumber 1 65535 5 port
+pub record IsPort (port : ℕ) : Type 0 where
+  pub number : IsPrintedNumber 1 65535 5 port
   again : (words : List (List ℕ)) → remote_port_at (decimal port ∷ words) ≡ Ok (port, words)
 
 port_again : (word : List ℕ) (port : ℕ) → bytes_eq word (codes "cost") ≡ false → IsRead left_out_of_remote port_of word port → IsPort port
@@ -107,9 +107,9 @@ priority_printed (word ∷ words) priority h =
     (λ _ f. absurd (let no : ⊥ = cc ((nothing_more_read left_out_of_remote DEFAULT_PRIORITY (word ∷ words) priority f).none) in no))
 
 -- cost and priority that are read again
-record AreCosts (costs : ℕ × ℕ) : Type 0 where
-  first : IsPrintedNumber 1 100 3 costs.0
-  second : IsPrintedNumber 1 100 3 costs.1
+pub record AreCosts (costs : ℕ × ℕ) : Type 0 where
+  pub first : IsPrintedNumber 1 100 3 costs.0
+  pub second : IsPrintedNumber 1 100 3 costs.1
 
 costs_printed : (words : List (List ℕ)) (costs : ℕ × ℕ) → remote_cost_at words ≡ Ok costs → AreCosts costs
 costs_printed [] costs h =
@@ -134,18 +134,18 @@ costs_again costs are =
 
 -- ---- the line
 -- what a `zone remote` line says, by its fields
-record IsRemote (command : Command) : Type 0 where
-  name : List ℕ
-  domain : List ℕ
-  ip : List ℕ
-  port : ℕ
-  costs : ℕ × ℕ
-  is : ZoneRemote name domain (record { ip = ip; port = port }) costs.0 costs.1 ≡ command
+pub record IsRemote (command : Command) : Type 0 where
+  pub name : List ℕ
+  pub domain : List ℕ
+  pub ip : List ℕ
+  pub port : ℕ
+  pub costs : ℕ × ℕ
+  pub is : ZoneRemote name domain (record { ip = ip; port = port }) costs.0 costs.1 ≡ command
   named : IsNamed name
   in_domain : IsNamed domain
   address : IsOwnIp ip
-  at_port : IsPort port
-  at_costs : AreCosts costs
+  pub at_port : IsPort port
+  pub at_costs : AreCosts costs
 
 -- the steps after each field
 abbrev after_costs : List ℕ → List ℕ → List ℕ → ℕ → ℕ × ℕ → Result Command FaultKind
@@ -163,7 +163,7 @@ after_domain name domain = field Missing ip_of BadAddress domain.1 >>= after_ip 
 abbrev after_name : List ℕ × List (List ℕ) → Result Command FaultKind
 after_name name = field Missing name_of BadName name.1 >>= after_domain name.0
 
-remote_read : (words : List (List ℕ)) (command : Command) → zone_remote_at words ≡ Ok command → IsRemote command
+pub remote_read : (words : List (List ℕ)) (command : Command) → zone_remote_at words ≡ Ok command → IsRemote command
 remote_read words command h =
     let n = bound (field Missing name_of BadName words) after_name command h in
     let f = field_read [] name_of BadName words n.value n.read in

@@ -5,6 +5,7 @@ ghost use Rattle.std.specs.Option.{option_copied};
 ghost use Rattle.command_reader.specs.Accepted.{IsAccepted};
 
 use crate::names::Names;
+use crate::zones::ZoneKind;
 use digit_patterns::Pattern;
 use gk_terms::limits::MOST_LINES;
 use gk_terms::{Address, Kbps, Name, TechPrefix};
@@ -62,15 +63,29 @@ pub enum Command {
 }
 
 impl Command {
-    ghost use Rattle.std.specs.Prelude.{◌≡◌, option_map};
+    ghost use Rattle.std.specs.Prelude.{◌≡◌};
     ghost use Rattle.command_reader.specs.Zones.{declared_by, named_by, is_local_command};
 
-    /// The name of the zone that the command declares.
-    pub fn declares(&self) -> Option<Name>
-        ensures { result ≡ option_map (λ zone. zone.0) (declared_by self.now) }
+    /// The zone that the command declares, with its name.
+    pub fn zone(&self) -> Option<(Name, ZoneKind)>
+        ensures { result ≡ declared_by self.now }
     {
         match self {
-            Command::ZoneLocal { name, .. } | Command::ZoneRemote { name, .. } => Some(*name),
+            Command::ZoneLocal { name, .. } => Some((*name, ZoneKind::Local)),
+            Command::ZoneRemote {
+                name,
+                address,
+                cost,
+                priority,
+                ..
+            } => {
+                let kind = ZoneKind::Remote {
+                    address: *address,
+                    cost: *cost,
+                    priority: *priority,
+                };
+                Some((*name, kind))
+            }
             _ => None,
         }
     }

@@ -232,9 +232,9 @@ fn index(declared: &mut HashSet<Name>, command: &Command) -> Result<(), FaultKin
         × AddsDeclared (keys declared.old) (keys declared.new) command.now)
         (λ kind. MayRefuseCommand (fault_by_names (keys declared.old) command.now) kind) }
 {
-    match command.declares() {
+    match command.zone() {
         None => Ok(()),
-        Some(name) => declare(declared, name),
+        Some((name, _)) => declare(declared, name),
     }
 }
 

@@ -14,6 +14,7 @@ mod fault_tests;
 pub mod faults;
 mod fields;
 mod first_words;
+pub mod laws;
 #[cfg(test)]
 mod limit_tests;
 pub mod names;
@@ -25,6 +26,7 @@ mod technology_lines;
 #[cfg(test)]
 mod test_texts;
 mod zone_lines;
+pub mod zones;
 
 pub use commands::{Command, Commands, GatewayPriority, LimitKind, LocalAddress};
 pub use draft::Draft;
@@ -33,3 +35,4 @@ pub use gk_lines::WriteFault;
 pub use names::Names;
 pub use printing::print;
 pub use reading::read;
+pub use zones::ZoneKind;

@@ -76,6 +76,9 @@ fn assert_line_prints(rt: &impl Abort, alloc: Global, line: &str, want: &str) ->
 
 #[test]
 fn prints_canonical_lines(rt: HostRuntime) -> Result<(), Fail> {
+    let commands = read(rt.alloc(), CONFIGURATION.as_bytes())?;
+    assert_eq!(rt; commands.len(), 12);
+    assert_eq!(rt; commands.passed(), 3);
     assert_prints(
         &rt,
         rt.alloc(),

@@ -19,7 +19,8 @@ use Rattle.digit_patterns.specs.Table.{IsBest, best_of, ranks_above, row_matches
 use Rattle.digit_patterns.specs.Duplicate.{has_pattern, duplicate_from, duplicate_of}
 use Rattle.digit_patterns.proofs.Ranks.{IsRankOrder-outranks, best_of-pass}
 use Rattle.digit_patterns.proofs.RankLaws.{best_of-none, best_of-IsBest}
-use Rattle.compiler.specs.TablesIndex.{with_row, first_rows_of, places_from, places_of}
+use Rattle.compiler.specs.Rows.{with_row, first_rows_of}
+use Rattle.compiler.specs.TablesIndex.{places_from, places_of}
 
 -- patterns that the test calls the same are one
 pub same_pattern-same : (p q : PatternParts) → same_pattern p q ≡ true → p ≡ q

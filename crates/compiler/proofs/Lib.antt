@@ -1,2 +1,9 @@
 pub mod FirstRows
+pub mod StepLemmas
+pub mod PickLemmas
+pub mod RowLemmas
+pub mod GatewayLemmas
+pub mod ZoneLemmas
+pub mod TechnologyLemmas
+pub mod PlanLemmas
 pub mod TableLemmas

@@ -1,62 +1,121 @@
--- What the commands say of dialled digits, and which zone a call goes to by that.
-use Rattle.std.specs.Prelude.{ℕ, Bool, true, false, List, Option, Some, None}
-use Rattle.std.specs.List.{filter_map}
-use Rattle.digit_patterns.specs.PatternParts.{PatternParts}
-use Rattle.digit_patterns.specs.Table.{best_of}
+-- What the commands alone say of dialled digits: a technology prefix, its hop-off zone, and else
+-- the
+-- longest matching zone prefix. This project's profile, after Cisco's flow for an admission
+-- request.
+use Rattle.std.specs.Prelude.{ℕ, Bool, true, false, List, length, drop, slice_get, Option, Some, None, option_map, option_and_then, if◌then◌else◌}
+use Rattle.std.specs.List.{list_any}
+use Rattle.gk_terms.specs.Address.{AddressParts}
 use Rattle.command_reader.specs.declared.commands.Command.{Command}
 use Rattle.command_reader.specs.declared.commands.Command.TheVariants.{ZoneLocal, ZoneRemote, ZonePrefix, GwTypePrefix, RejectUnknownPrefix, BandwidthDefault, BandwidthZone, BandwidthRemote}
-use Rattle.command_reader.specs.Zones.{Zone, zone_of}
-use Rattle.command_reader.specs.Zones as Declared
-use Rattle.compiler.specs.declared.tables.Plan.{Plan}
-use Rattle.compiler.specs.declared.tables.Plan.TheVariants.{Remote, Local, Caller}
+use Rattle.command_reader.specs.declared.zones.ZoneKind.{ZoneKind}
+use Rattle.command_reader.specs.declared.zones.ZoneKind.TheVariants as kinds
+use Rattle.command_reader.specs.Zones.{zone_of}
+use Rattle.compiler.specs.declared.plans.Plan.{Plan}
+use Rattle.compiler.specs.declared.plans.Plan.TheVariants as plans
+use Rattle.compiler.specs.Pick.{picked}
+use Rattle.compiler.specs.Technology.{technology_of, hopoffs_of}
+use Rattle.compiler.specs.Rows.{Row, row_for, picked_rows_of}
+use Rattle.compiler.specs.Zones.{zone_at}
 
--- a pattern with the zone that its command names
-abbrev pub Row : Type 0
-Row = PatternParts × List ℕ
-
--- the row of a command, if it is a `zone prefix`
-abbrev pub row_of : Command → Option Row
-row_of (ZoneLocal name domain address) = None
-row_of (ZoneRemote name domain address cost priority) = None
-row_of (ZonePrefix zone pattern gateways) = Some (pattern, zone)
-row_of (GwTypePrefix prefix hopoffs is_default) = None
-row_of RejectUnknownPrefix = None
-row_of (BandwidthDefault kind size) = None
-row_of (BandwidthZone kind zone size) = None
-row_of (BandwidthRemote size) = None
-
--- the rows of all `zone prefix` commands, in order
-abbrev pub rows_of : List Command → List Row
-rows_of commands = filter_map row_of commands
-
--- the row of the longest pattern that matches the digits; of several for one pattern, the first
-abbrev pub longest_row_of : List Command → List ℕ → Option Row
-longest_row_of commands digits = best_of (rows_of commands) digits
+-- where a call is to go, as far as the commands say
+pub data Target : Type 0 where
+  -- to a zone of another gatekeeper, at its address
+  RemoteZone : (zone : List ℕ) (address : AddressParts) → Target
+  -- to a local zone, with the technology prefix that was found and the row that was used
+  LocalZone : (zone : List ℕ) (technology : Option (List ℕ)) (row : Option Row) → Target
+  -- to the caller's zone, with the technology prefix that was found
+  CallersZone : (technology : Option (List ℕ)) → Target
+  -- nowhere: no zone prefix matches, and such digits are rejected
+  UnknownPrefix : Target
 
 -- a zone as the target. In an accepted configuration each zone that is named is declared
-abbrev pub plan_of_zone : List ℕ → Option Zone → Plan
-plan_of_zone zone None = Caller
-plan_of_zone zone (Some Declared.Local) = Local zone
-plan_of_zone zone (Some (Declared.Remote address)) = Remote zone address
+abbrev pub target_in : List ℕ → Option (List ℕ) → Option Row → Option ZoneKind → Target
+target_in zone technology row None = UnknownPrefix
+target_in zone technology row (Some kinds.Local) = LocalZone zone technology row
+target_in zone technology row (Some (kinds.Remote address cost priority)) =
+    RemoteZone zone address
 
--- the zone of a row, else the caller's zone
-abbrev pub plan_of_row : List Command → Option Row → Plan
-plan_of_row commands None = Caller
-plan_of_row commands (Some row) = plan_of_zone row.1 (zone_of commands row.1)
+-- whether a command is `arq reject-unknown-prefix`
+abbrev pub is_reject : Command → Bool
+is_reject (ZoneLocal name domain address) = false
+is_reject (ZoneRemote name domain address cost priority) = false
+is_reject (ZonePrefix zone pattern gateways) = false
+is_reject (GwTypePrefix prefix hopoffs is_default) = false
+is_reject RejectUnknownPrefix = true
+is_reject (BandwidthDefault kind size) = false
+is_reject (BandwidthZone kind zone size) = false
+is_reject (BandwidthRemote size) = false
+
+-- whether digits that no zone prefix matches are rejected
+abbrev pub rejects_unknown : List Command → Bool
+rejects_unknown commands = list_any is_reject commands
+
+-- the zone of the row that was found; else the caller's zone, unless such digits are rejected
+abbrev pub by_row : List Command → Option (List ℕ) → Option Row → Target
+by_row commands technology (Some row) =
+    target_in row.1 technology (Some row) (zone_of commands row.1)
+by_row commands technology None =
+    if rejects_unknown commands then UnknownPrefix else CallersZone technology
+
+-- the hop-off zone that is picked; without one, by the digits after the prefix
+abbrev pub by_hopoff : List Command → List ℕ → List ℕ → Option (List ℕ) → Target
+by_hopoff commands prefix rest (Some zone) =
+    target_in zone (Some prefix) None (zone_of commands zone)
+by_hopoff commands prefix rest None = by_row commands (Some prefix) (row_for commands rest)
+
+-- by the technology prefix with which the digits begin, if there is one
+abbrev pub by_technology : List Command → List ℕ → Option (List ℕ) → Target
+by_technology commands digits None = by_row commands None (row_for commands digits)
+by_technology commands digits (Some prefix) =
+    by_hopoff commands prefix (drop (length prefix) digits)
+    (picked commands (hopoffs_of commands prefix))
 
 -- what the commands alone say of the digits
-unfoldable pub plan_of : List Command → List ℕ → Plan
-plan_of commands digits = plan_of_row commands (longest_row_of commands digits)
+unfoldable pub plan_of : List Command → List ℕ → Target
+plan_of commands digits = by_technology commands digits (technology_of commands digits)
+
+-- ---- a plan of numbered zones and rows
+-- a remote zone as the target; nothing if the zone is a local one
+abbrev pub remote_target : List ℕ × ZoneKind → Option Target
+remote_target (name, kinds.Local) = None
+remote_target (name, kinds.Remote address cost priority) = Some (RemoteZone name address)
+
+-- a local zone as the target; nothing if the zone is a remote one
+abbrev pub local_target : Option (List ℕ) → Option Row → List ℕ × ZoneKind → Option Target
+local_target technology row (name, kinds.Local) = Some (LocalZone name technology row)
+local_target technology row (name, kinds.Remote address cost priority) = None
+
+-- the row of a number
+abbrev pub row_at : List Command → ℕ → Option Row
+row_at commands number = slice_get (picked_rows_of commands) number
+
+-- the row that was used, if there is one, by its number; nothing if the number is out of range
+abbrev pub row_meant : List Command → Option ℕ → Option (Option Row)
+row_meant commands None = Some None
+row_meant commands (Some number) = option_map (λ row. Some row) (row_at commands number)
+
+-- what a plan means under its commands; nothing if a number is out of range, or of the other kind
+-- of
+-- zone
+abbrev pub target_of : List Command → Plan → Option Target
+target_of commands (plans.Remote zone) = option_and_then remote_target (zone_at commands zone)
+target_of commands (plans.Local zone technology row) =
+    option_and_then (λ used. option_and_then (local_target technology used) (zone_at commands zone))
+    (row_meant commands row)
+target_of commands (plans.Caller technology) = Some (CallersZone technology)
+target_of commands plans.UnknownPrefix = Some UnknownPrefix
 
 -- ---- the target zone
--- the zone to which the plan leads a caller of this zone
-abbrev pub target_of : List ℕ → Plan → List ℕ
-target_of caller (Remote zone address) = zone
-target_of caller (Local zone) = zone
-target_of caller Caller = caller
+-- the zone to which a target leads a caller of this zone; the caller's own if it leads nowhere
+abbrev pub zone_of_target : List ℕ → Target → List ℕ
+zone_of_target caller (RemoteZone zone address) = zone
+zone_of_target caller (LocalZone zone technology row) = zone
+zone_of_target caller (CallersZone technology) = caller
+zone_of_target caller UnknownPrefix = caller
 
 -- whether it is a zone of another gatekeeper
-abbrev pub is_remote : Plan → Bool
-is_remote (Remote zone address) = true
-is_remote (Local zone) = false
-is_remote Caller = false
+abbrev pub is_remote : Target → Bool
+is_remote (RemoteZone zone address) = true
+is_remote (LocalZone zone technology row) = false
+is_remote (CallersZone technology) = false
+is_remote UnknownPrefix = false

@@ -1,91 +1,139 @@
--- The tables that stand for the commands of a configuration.
-use Rattle.std.specs.Prelude.{◌≡◌, ℕ, ◌+◌, Bool, true, false, List, [], ◌∷◌, ◌++◌, fold, map, slice_get, Option, Some, None, option_map, option_and_then, bytes_eq, if◌then◌else◌}
-use Rattle.std.specs.Option.{option_or}
-use Rattle.std.specs.Map.{lookup}
+-- What the tables keep, beside the commands that they stand for.
+use Rattle.std.specs.Prelude.{◌≡◌, ℕ, ◌+◌, ◌≤◌, ◌<◌, ◌==◌, Bool, ◌&&◌, true, false, List, [], ◌∷◌, ◌++◌, length, take, fold, map, slice_get, Option, Some, None, option_map, option_and_then, is_some, nat_eq, bytes_eq, if◌then◌else◌}
+use Rattle.std.specs.List.{All, IsDistinct, filter_map, list_any, position_or_len}
+use Rattle.std.specs.Map.{lookup, keys_of}
+use Rattle.indexmap.specs.IndexMap.{IndexMap}
+use Rattle.gk_terms.specs.Choice.{better}
+use Rattle.gk_terms.specs.TechPrefix.{is_tech_prefix}
+use Rattle.gk_terms.specs.declared.limits.TheConstants.{MOST_ZONES}
 use Rattle.digit_patterns.specs.PatternParts.{PatternParts}
-use Rattle.digit_patterns.specs.Duplicate.{has_pattern}
-use Rattle.digit_patterns.specs.declared.tables.Hit.{Hit}
+use Rattle.digit_patterns.specs.Pattern.{same_pattern}
 use Rattle.command_reader.specs.declared.commands.Command.{Command}
-use Rattle.command_reader.specs.Zones.{Zone, zone_of, first_local_of}
-use Rattle.command_reader.specs.Zones as Declared
-use Rattle.compiler.specs.declared.tables.ZoneKind.{ZoneKind}
-use Rattle.compiler.specs.declared.tables.ZoneKind.TheVariants as kinds
-use Rattle.compiler.specs.declared.tables.Plan.{Plan}
-use Rattle.compiler.specs.declared.tables.Plan.TheVariants.{Remote, Local, Caller}
-use Rattle.compiler.specs.Plan.{Row, row_of, rows_of}
+use Rattle.command_reader.specs.declared.commands.Command.TheVariants.{ZoneLocal, ZoneRemote, ZonePrefix, GwTypePrefix, RejectUnknownPrefix, BandwidthDefault, BandwidthZone, BandwidthRemote}
+use Rattle.command_reader.specs.declared.commands.GatewayPriority.{GatewayPriority}
+use Rattle.command_reader.specs.declared.zones.ZoneKind.{ZoneKind}
+use Rattle.command_reader.specs.declared.zones.ZoneKind.TheVariants as kinds
+use Rattle.command_reader.specs.Zones.{zones_of, first_local_of, is_declared, named_by}
+use Rattle.compiler.specs.declared.plans.Plan.{Plan}
+use Rattle.compiler.specs.declared.plans.Plan.TheVariants as plans
+use Rattle.compiler.specs.Last.{last_in}
+use Rattle.compiler.specs.Pick.{is_option_preferred}
+use Rattle.compiler.specs.Plan.{rejects_unknown}
+use Rattle.compiler.specs.Priority.{priority_among, entries_of}
+use Rattle.compiler.specs.Rows.{Row, row_of, rows_of, zones_for, first_rows_of}
+use Rattle.compiler.specs.Technology.{prefixes_of, hopoffs_of, default_technology_of}
 
--- ---- zones
--- the kind of a zone, as the tables keep it
-abbrev pub zone_kind_of : Zone → ZoneKind
-zone_kind_of Declared.Local = kinds.Local
-zone_kind_of (Declared.Remote address) = kinds.Remote address
-
--- what the commands say of a name
-abbrev pub declared_kind_of : List Command → List ℕ → Option ZoneKind
-declared_kind_of commands name = option_map zone_kind_of (zone_of commands name)
-
--- a map of zones, as its entries
+-- ---- zones by their numbers
+-- names with what is declared of them; the number of a zone is its place
 abbrev pub Zones : Type 0
 Zones = List (List ℕ × ZoneKind)
 
--- what a map says of a name
-abbrev pub kept_kind_of : Zones → List ℕ → Option ZoneKind
-kept_kind_of zones name = lookup (bytes_eq name) zones
+-- the number of the zone of a name; the count of all zones if there is none
+abbrev pub number_in : Zones → List ℕ → ℕ
+number_in zones name = position_or_len (λ zone. bytes_eq name zone.0) zones
 
--- the map says of each name what the commands say
-abbrev pub AreZonesOf : Zones → List Command → Type 0
-AreZonesOf zones commands =
-    (name : List ℕ) → kept_kind_of zones name ≡ declared_kind_of commands name
+-- the kind of the zone of a number
+abbrev pub kind_at : Zones → ℕ → Option ZoneKind
+kind_at zones number = option_map (λ zone. zone.1) (slice_get zones number)
 
--- new has what the command says of a name of which old says nothing
-abbrev pub AddsZone : Zones → Zones → Command → Type 0
-AddsZone old new command =
-    (name : List ℕ)
-    → kept_kind_of new name
-    ≡ option_or (kept_kind_of old name) (declared_kind_of (command ∷ []) name)
+-- whether the zone of a number is taken before that of another
+abbrev pub is_number_before : Zones → ℕ → ℕ → Bool
+is_number_before zones number other =
+    is_option_preferred (kind_at zones number) (kind_at zones other)
 
--- whether a name has a kind, and that of a local zone
-abbrev pub is_local_kind : Option ZoneKind → Bool
-is_local_kind None = false
-is_local_kind (Some kinds.Local) = true
-is_local_kind (Some (kinds.Remote address)) = false
+-- the better of the best so far and one more
+abbrev pub better_in : Zones → Option ℕ → ℕ → Option ℕ
+better_in zones best number = better (is_number_before zones) best number
 
--- the name of the local zone that the command at a place declares, if it declares one
-abbrev pub local_of_place : List Command → ℕ → Option (List ℕ)
-local_of_place commands place =
-    option_and_then (λ command. first_local_of (command ∷ [])) (slice_get commands place)
+-- the best of some names, by number, after the best so far
+abbrev pub best_after : Zones → Option ℕ → List (List ℕ) → Option ℕ
+best_after zones best names = fold (better_in zones) best (map (number_in zones) names)
+
+-- the best of some names, by number
+abbrev pub best_number : Zones → List (List ℕ) → Option ℕ
+best_number zones names = best_after zones None names
+
+-- the plan for calls to a zone of this kind
+abbrev pub plan_to : Option ZoneKind → ℕ → Option (List ℕ) → Option ℕ → Plan
+plan_to None zone technology row = plans.UnknownPrefix
+plan_to (Some kinds.Local) zone technology row = plans.Local zone technology row
+plan_to (Some (kinds.Remote address cost priority)) zone technology row = plans.Remote zone
+
+-- ---- technology prefixes
+-- the hop-off zones that a command names for the prefix that it declares
+abbrev pub hopoffs_named : Command → List (List ℕ)
+hopoffs_named (ZoneLocal name domain address) = []
+hopoffs_named (ZoneRemote name domain address cost priority) = []
+hopoffs_named (ZonePrefix zone pattern gateways) = []
+hopoffs_named (GwTypePrefix prefix hopoffs is_default) = hopoffs
+hopoffs_named RejectUnknownPrefix = []
+hopoffs_named (BandwidthDefault kind size) = []
+hopoffs_named (BandwidthZone kind zone size) = []
+hopoffs_named (BandwidthRemote size) = []
+
+-- declared prefixes, each with the number of its hop-off zone if it has one
+abbrev pub Technologies : Type 0
+Technologies = List (List ℕ × Option ℕ)
+
+-- what a map says of a prefix: its hop-off zone, if it is declared
+abbrev pub technology_at : Technologies → List ℕ → Option (Option ℕ)
+technology_at technologies prefix = lookup (bytes_eq prefix) technologies
+
+-- the hop-off zone of a prefix; none either if the prefix is not declared
+abbrev pub hopoff_at : Technologies → List ℕ → Option ℕ
+hopoff_at technologies prefix =
+    option_and_then (λ hopoff. hopoff) (technology_at technologies prefix)
+
+-- whether a prefix is among some
+abbrev pub is_among : List (List ℕ) → List ℕ → Bool
+is_among prefixes prefix = list_any (λ declared. bytes_eq declared prefix) prefixes
+
+-- the map has the declared prefixes with their picked hop-off zones, and no other texts
+pub record AreTechnologies (zones : Zones) (commands : List Command) (technologies : Technologies)
+    : Type 0 where
+  pub declared : (prefix : List ℕ) →
+      is_some (technology_at technologies prefix) ≡ is_among (prefixes_of commands) prefix
+  pub picked : (prefix : List ℕ) →
+      hopoff_at technologies prefix ≡ best_number zones (hopoffs_of commands prefix)
+  pub texts : (prefix : List ℕ) → is_some (technology_at technologies prefix) ≡ true →
+      is_tech_prefix prefix ≡ true
+
+-- what was found is kept for that beginning of the text, and nothing for a longer one
+pub record IsFound (technologies : Technologies) (text found : List ℕ) (hopoff : Option ℕ)
+    : Type 0 where
+  pub within : length found ≤ length text
+  pub begins : found ≡ take (length found) text
+  pub kept : technology_at technologies found ≡ Some hopoff
+  pub longest : (count : ℕ) → length found < count → count ≤ length text →
+      technology_at technologies (take count text) ≡ None
+
+-- the longest beginning of the text for which something is kept, or nothing if there is none
+abbrev pub IsLongest : Technologies → List ℕ → Option (List ℕ × Option ℕ) → Type 0
+IsLongest technologies text None =
+    (count : ℕ) → count ≤ length text → technology_at technologies (take count text) ≡ None
+IsLongest technologies text (Some (found, hopoff)) = IsFound technologies text found hopoff
 
 -- ---- rows
--- a pattern with its plan
-abbrev pub PlannedRow : Type 0
-PlannedRow = PatternParts × Plan
+-- each pattern with the number of the zone that is picked for it
+abbrev pub NumberedRow : Type 0
+NumberedRow = PatternParts × ℕ
 
--- a zone as the target, by its kind
-abbrev pub plan_of_kind : List ℕ → Option ZoneKind → Plan
-plan_of_kind zone None = Caller
-plan_of_kind zone (Some kinds.Local) = Local zone
-plan_of_kind zone (Some (kinds.Remote address)) = Remote zone address
+-- the zone of a pattern
+abbrev pub zone_at_pattern : List NumberedRow → PatternParts → Option ℕ
+zone_at_pattern rows pattern = lookup (same_pattern pattern) rows
 
--- a row with the plan for its zone, by the map of zones
-abbrev pub planned_row_of : Zones → Row → PlannedRow
-planned_row_of zones row = (row.0, plan_of_kind row.1 (kept_kind_of zones row.1))
+-- one more pattern, unless it is there
+abbrev pub with_pattern : List PatternParts → PatternParts → List PatternParts
+with_pattern patterns pattern =
+    if list_any (λ other. same_pattern other pattern) patterns then patterns
+    else (patterns ++ pattern ∷ [])
 
--- the row of the command at a place with its plan, if that is a `zone prefix`
-abbrev pub planned_row_of_place : Zones → List Command → ℕ → Option PlannedRow
-planned_row_of_place zones commands place =
-    option_map (planned_row_of zones) (option_and_then row_of (slice_get commands place))
-
-abbrev pub planned_rows_of : Zones → List Command → List PlannedRow
-planned_rows_of zones commands = map (planned_row_of zones) (rows_of commands)
-
--- one more row, unless an earlier one has its pattern
-abbrev pub with_row : {V : Type 0} → List (PatternParts × V) → PatternParts × V
-    → List (PatternParts × V)
-with_row rows row = if has_pattern row.0 rows then rows else (rows ++ row ∷ [])
-
--- the first row of each pattern
-abbrev pub first_rows_of : {V : Type 0} → List (PatternParts × V) → List (PatternParts × V)
-first_rows_of rows = fold with_row [] rows
+-- the map has the patterns in the order of their first lines, with their picked zones
+pub record AreRows (zones : Zones) (commands : List Command) (rows : List NumberedRow)
+    : Type 0 where
+  pub patterns : keys_of rows ≡ keys_of (first_rows_of (rows_of commands))
+  pub picked : (pattern : PatternParts) →
+      zone_at_pattern rows pattern ≡ best_number zones (zones_for commands pattern)
 
 -- each pattern with the place of its row; the first row is at this place
 abbrev pub places_from : {V : Type 0} → ℕ → List (PatternParts × V) → List (PatternParts × ℕ)
@@ -95,23 +143,73 @@ places_from place (row ∷ rows) = (row.0, place) ∷ places_from (place + 1) ro
 abbrev pub places_of : {V : Type 0} → List (PatternParts × V) → List (PatternParts × ℕ)
 places_of rows = places_from 0 rows
 
--- the plan of the row at a place
-abbrev pub plan_of_planned_row : Option PlannedRow → Plan
-plan_of_planned_row None = Caller
-plan_of_planned_row (Some planned) = planned.1
+-- ---- gateways
+-- the gateways that a command names, with their priority
+abbrev pub gateways_named : Command → Option GatewayPriority
+gateways_named (ZoneLocal name domain address) = None
+gateways_named (ZoneRemote name domain address cost priority) = None
+gateways_named (ZonePrefix zone pattern gateways) = gateways
+gateways_named (GwTypePrefix prefix hopoffs is_default) = None
+gateways_named RejectUnknownPrefix = None
+gateways_named (BandwidthDefault kind size) = None
+gateways_named (BandwidthZone kind zone size) = None
+gateways_named (BandwidthRemote size) = None
 
--- the plan of a row that was found
-abbrev pub plan_of_hit : List PlannedRow → Option Hit → Plan
-plan_of_hit plans None = Caller
-plan_of_hit plans (Some hit) = plan_of_planned_row (slice_get plans hit.value)
+-- whether what a `zone prefix` says is about a row of a pattern and a zone by number
+abbrev pub is_about : Zones → NumberedRow → Option Row → Bool
+is_about zones row None = false
+is_about zones row (Some said) = (number_in zones said.1 == row.1) && same_pattern said.0 row.0
+
+-- what a command says of a gateway for a row
+abbrev pub numbered_priority_in : Zones → NumberedRow → List ℕ → Command → Option ℕ
+numbered_priority_in zones row gateway command =
+    if is_about zones row (row_of command) then priority_among gateway (gateways_named command)
+    else None
+
+-- what the last such command says that names the gateway
+abbrev pub numbered_priority_of : Zones → List Command → NumberedRow → List ℕ → Option ℕ
+numbered_priority_of zones commands row gateway =
+    last_in (filter_map (numbered_priority_in zones row gateway) commands)
+
+-- for some rows, by number, gateways with their priorities
+abbrev pub Priorities : Type 0 → Type 0
+Priorities S = List (ℕ × IndexMap (List ℕ) ℕ S)
+
+-- the gateways of a row
+abbrev pub gateways_at : {S : Type 0} → Priorities S → ℕ → List (List ℕ × ℕ)
+gateways_at priorities place = entries_of (lookup (nat_eq place) priorities)
+
+-- what is kept of a gateway for a row
+abbrev pub kept_priority : {S : Type 0} → Priorities S → ℕ → List ℕ → Option ℕ
+kept_priority priorities place gateway = lookup (bytes_eq gateway) (gateways_at priorities place)
+
+-- whether a place was found, and it is this one
+abbrev pub is_place : Option ℕ → ℕ → Bool
+is_place None place = false
+is_place (Some found) place = found == place
+
+-- for each row, what the commands say of each gateway
+abbrev pub ArePriorities : {S : Type 0} → Zones → List Command → List NumberedRow → Priorities S
+    → Type 0
+ArePriorities zones commands rows priorities =
+    (place : ℕ) (row : NumberedRow) → slice_get rows place ≡ Some row → (gateway : List ℕ)
+    → kept_priority priorities place gateway ≡ numbered_priority_of zones commands row gateway
 
 -- ---- the whole
 -- the tables stand for the commands
-pub record IsIndex
-    (commands : List Command) (zones : Zones) (first_local : Option (List ℕ))
-    (prefixes : List (PatternParts × ℕ)) (plans : List PlannedRow)
+pub record IsIndex {S : Type 0} (commands : List Command) (zones : Zones) (first_local : List ℕ)
+    (rows : List NumberedRow) (prefixes : List (PatternParts × ℕ)) (priorities : Priorities S)
+    (technologies : Technologies) (default_technology : Option (List ℕ)) (rejects : Bool)
     : Type 0 where
-  pub zones_are : AreZonesOf zones commands
-  pub local_is : first_local ≡ first_local_of commands
-  pub plans_are : plans ≡ first_rows_of (planned_rows_of zones commands)
-  pub prefixes_are : prefixes ≡ places_of plans
+  pub zones_are : zones ≡ zones_of commands
+  pub few_zones : length zones ≤ MOST_ZONES
+  pub local_is : Some first_local ≡ first_local_of commands
+  pub rows_are : AreRows zones commands rows
+  pub distinct : IsDistinct same_pattern (keys_of rows)
+  pub prefixes_are : prefixes ≡ places_of rows
+  pub priorities_are : ArePriorities zones commands rows priorities
+  pub technologies_are : AreTechnologies zones commands technologies
+  pub default_is : default_technology ≡ default_technology_of commands
+  pub rejects_is : rejects ≡ rejects_unknown commands
+  pub declared : All (λ command. All (λ name. is_declared commands name ≡ true)
+      (named_by command)) commands

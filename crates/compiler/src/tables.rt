@@ -1,89 +1,47 @@
 //! The configuration in force, made ready for look-ups.
 
-ghost use Rattle.std.specs.Prelude.{◌≡◌, ℕ, ◌+◌, ◌≤◌, List, length, IfOk, OnOk, Some, None, option_map, bytes_eq, if◌then◌else◌};
-ghost use Rattle.std.specs.Option.{option_or, option_copied};
-ghost use Rattle.std.specs.HashSet.{contains};
-ghost use Rattle.gk_terms.specs.declared.limits.TheConstants.{MOST_LINES};
-ghost use Rattle.digit_patterns.specs.PatternParts.{PatternParts};
-ghost use Rattle.digit_patterns.specs.Pattern.{same_pattern};
-ghost use Rattle.digit_patterns.specs.Duplicate.{has_pattern};
-ghost use Rattle.command_reader.specs.Zones as Declared;
-ghost use Rattle.compiler.specs.Zones.{is_local, zone_meant};
-ghost use Rattle.compiler.specs.Plan.{plan_of, row_of, target_of, is_remote};
+ghost use Rattle.std.specs.Prelude.{◌≡◌, ℕ, ◌<◌, ◌≤◌, List, [], length, drop, IfOk, IfSome, Some, None, option_map, unwrap_or, if◌then◌else◌};
+ghost use Rattle.std.specs.Option.{option_copied};
+ghost use Rattle.std.specs.List.{IsDistinct};
+ghost use Rattle.command_reader.specs.Zones.{zones_of, first_local_of, is_local, is_local_option};
+ghost use Rattle.compiler.specs.Plan.{plan_of, target_of, row_meant, rejects_unknown, is_reject, by_row};
+ghost use Rattle.compiler.specs.Priority.{priority_of, priority_in_entries, entries_of};
+ghost use Rattle.compiler.specs.Rows.{row_for};
+ghost use Rattle.compiler.specs.Technology.{technology_of, hopoffs_of, default_technology_of};
+ghost use Rattle.compiler.specs.Zones.{zone_meant, view_at, view_of_name};
 ghost use Rattle.compiler.specs.TablesIndex as Index;
 
-use command_reader::{Command, Commands};
-use digit_patterns::{Hit, Pattern, PlainTable, PrefixTable, TableFault};
-use gk_terms::limits::MOST_LINES;
-use gk_terms::{Address, Dialled, Name, Version};
+use crate::plans::{Plan, Routed, RowNo, USUAL_GATEWAY_PRIORITY, ZoneNo};
+use crate::priorities::priorities_in;
+use crate::rows::{prefixes_in, rows_in};
+use crate::technologies::{default_technology_in, technologies_in, technology_of};
+use crate::zone_table::{first_local_in, kind_at, view_of, zones_in};
+use crate::zones::ZoneView;
+use command_reader::{Command, Commands, ZoneKind};
+use digit_patterns::{Pattern, PlainTable, PrefixTable};
+use gk_terms::{Dialled, Name, TechPrefix, Version};
+use indexmap::IndexMap;
 use std::alloc::{AllocError, Global};
-use std::collections::{HashMap, HashSet};
 use std::marker::Model;
 
-/// A zone: controlled here, or of another gatekeeper at its address.
-#[derive(Clone, Copy, Debug, PartialEq, Eq)]
-pub enum ZoneKind {
-    /// Controlled here.
-    Local,
-    /// Of the gatekeeper at this address.
-    Remote(Address),
-}
-
-/// Where a call is to go, as far as the configuration says.
-#[derive(Clone, Copy, Debug, PartialEq, Eq)]
-pub enum Plan {
-    /// To a zone of another gatekeeper.
-    Remote { zone: Name, address: Address },
-    /// To an endpoint of this local zone.
-    Local { zone: Name },
-    /// To an endpoint of the caller's zone, since no zone prefix matches.
-    Caller,
-}
-
-impl Plan {
-    /// The zone to which the plan leads a caller of this zone.
-    pub fn target_of(&self, caller: &Name) -> Name
-        ensures { result ≡ target_of caller.now self.now }
-    {
-        match self {
-            Plan::Remote { zone, .. } | Plan::Local { zone } => *zone,
-            Plan::Caller => *caller,
-        }
-    }
-
-    /// Whether the plan leads to a zone of another gatekeeper.
-    pub fn is_remote(&self) -> bool
-        ensures { result ≡ is_remote self.now }
-    {
-        match self {
-            Plan::Remote { .. } => true,
-            Plan::Local { .. } | Plan::Caller => false,
-        }
-    }
-}
-
-/// What one version of the configuration says of dialled digits.
-#[derive(Clone, Copy, Debug, PartialEq, Eq)]
-pub struct Routed {
-    /// The number of that version.
-    pub version: Version,
-    /// What was dialled.
-    pub dialled: Dialled,
-    /// Where a call to these digits is to go.
-    pub plan: Plan,
-}
-
-/// A configuration made ready for look-ups: its commands, its zones by name, and its zone prefixes
-/// by pattern. `plans` has the first row of each pattern, with its plan; `prefixes` has the same
-/// patterns, each with the place of its row in `plans`, so that the value of a hit is such a place.
-/// A contract sees the configuration that they were compiled from.
+/// A configuration made ready for look-ups. `zones` has the declared zones in line order, so that
+/// the number of a zone is its place. `rows` has the different patterns of the `zone prefix` lines
+/// in the order of their first lines, each with the number of the zone that is picked for it, so
+/// that the number of a row is its place; `prefixes` has the same patterns, each with that number.
+/// `priorities` has, by the number of a row, the gateways that are named for it; a row for which
+/// none is named is not there. `technologies` has each declared technology prefix with the number
+/// of its picked hop-off zone. A contract sees the configuration that they were compiled from.
 #[derive(Drop)]
 pub struct Tables {
     commands: Commands,
-    zones: HashMap<Name, ZoneKind>,
-    first_local: Option<Name>,
+    zones: IndexMap<Name, ZoneKind>,
+    first_local: Name,
+    rows: IndexMap<Pattern, ZoneNo>,
     prefixes: PlainTable,
-    plans: Vec<(Pattern, Plan)>,
+    priorities: IndexMap<u32, IndexMap<Name, u8>>,
+    technologies: IndexMap<TechPrefix, Option<ZoneNo>>,
+    default_technology: Option<TechPrefix>,
+    rejects_unknown: bool,
 }
 
 impl Model for Tables {
@@ -94,30 +52,39 @@ impl Model for Tables {
 
     ghost view = { λ t. t.commands };
 
-    ghost invariant = { λ t. IsIndex
-        t.commands.commands t.zones.entries t.first_local t.prefixes t.plans.items };
+    ghost invariant = { λ t. IsIndex t.commands.commands t.zones.entries t.first_local
+        t.rows.entries t.prefixes t.priorities.entries t.technologies.entries
+        t.default_technology t.rejects_unknown };
 }
 
 impl Tables {
-    /// The tables of a configuration.
+    /// The tables of a configuration. `AllocError` if memory is refused for them.
     pub fn compile(alloc: Global, commands: Commands) -> Result<Tables, AllocError>
         ensures { IfOk result (λ tables. tables ≡ commands) }
     {
-        let zones = zones_in(alloc, &commands)?;
-        let first_local = first_local_of(&commands);
-        let plans = first_rows_of(alloc, &commands, &zones)?;
-        let rows = places_of(alloc, &plans)?;
-        let prefixes = match PlainTable::build(alloc, &rows) {
-            Ok(prefixes) => prefixes,
-            Err(TableFault::NoMemory) => return Err(AllocError),
-            Err(TableFault::Duplicate(_)) => unreachable!(),
+        let lines = commands.as_slice();
+        // So it is known how many there are at most.
+        let _count = commands.len();
+        let zones = zones_in(alloc, lines)?;
+        let Some(first_local) = first_local_in(lines) else {
+            unreachable!()
         };
+        let rows = rows_in(alloc, lines, &zones)?;
+        let prefixes = prefixes_in(alloc, &rows)?;
+        let priorities = priorities_in(alloc, lines, &zones, &rows)?;
+        let technologies = technologies_in(alloc, lines, &zones)?;
+        let default_technology = default_technology_in(lines);
+        let rejects_unknown = rejects_unknown(lines);
         Ok(Tables {
             commands,
             zones,
             first_local,
+            rows,
             prefixes,
-            plans,
+            priorities,
+            technologies,
+            default_technology,
+            rejects_unknown,
         })
     }
 
@@ -128,6 +95,157 @@ impl Tables {
         &self.commands
     }
 
+    /// Where a call to these digits is to go. If they begin with a declared technology prefix, the
+    /// longest such: to its hop-off zone, and without one by the digits after it; else by all
+    /// digits. By digits a call goes to the zone of the longest zone prefix that matches them; if
+    /// none matches, nowhere under `arq reject-unknown-prefix`, and else to the caller's zone.
+    pub fn plan(&self, digits: &Dialled) -> Plan
+        ensures { target_of self.now.commands result ≡ Some (plan_of self.now.commands digits.now) }
+    {
+        match technology_of(&self.technologies, digits.as_bytes()) {
+            None => self.plan_by_row(digits, 0, None),
+            Some(found) => self.plan_by_technology(digits, found.0, found.1),
+        }
+    }
+
+    /// Where a call goes whose digits begin with this technology prefix, which has this hop-off
+    /// zone if it has one.
+    fn plan_by_technology(
+        &self,
+        digits: &Dialled,
+        prefix: TechPrefix,
+        hopoff: Option<ZoneNo>,
+    ) -> Plan
+        requires found { technology_of self.now.commands digits.now ≡ Some prefix }
+        requires within { length prefix ≤ length digits.now }
+        requires hopoff { hopoff ≡ Index.best_number (zones_of self.now.commands)
+            (hopoffs_of self.now.commands prefix) }
+        ensures { target_of self.now.commands result ≡ Some (plan_of self.now.commands digits.now) }
+    {
+        match hopoff {
+            Some(zone) => self.plan_to(zone, Some(prefix), None),
+            None => self.plan_by_row(digits, prefix.as_bytes().len(), Some(prefix)),
+        }
+    }
+
+    /// Where a call goes by the digits from the place `from` on.
+    fn plan_by_row(&self, digits: &Dialled, from: usize, technology: Option<TechPrefix>) -> Plan
+        requires { from ≤ length digits.now }
+        ensures { target_of self.now.commands result ≡ Some (by_row self.now.commands technology
+            (row_for self.now.commands (drop from digits.now))) }
+    {
+        let Some(hit) = self.prefixes.best(digits, from) else {
+            return self.plan_without_row(technology);
+        };
+        match self.rows.get_index(hit.value as usize) {
+            Some((_, zone)) => self.plan_to(*zone, technology, Some(RowNo::new(hit.value))),
+            None => self.plan_without_row(technology),
+        }
+    }
+
+    /// Where a call goes if no zone prefix matches.
+    fn plan_without_row(&self, technology: Option<TechPrefix>) -> Plan
+        ensures { target_of self.now.commands result ≡
+            Some (by_row self.now.commands technology None) }
+    {
+        if self.rejects_unknown {
+            Plan::UnknownPrefix
+        } else {
+            Plan::Caller { technology }
+        }
+    }
+
+    /// The plan for calls to the zone of a number.
+    fn plan_to(&self, zone: ZoneNo, technology: Option<TechPrefix>, row: Option<RowNo>) -> Plan
+        ensures { result ≡ Index.plan_to (Index.kind_at (zones_of self.now.commands) zone)
+            zone technology row }
+    {
+        match kind_at(&self.zones, zone) {
+            Some(ZoneKind::Local) => Plan::Local {
+                zone,
+                technology,
+                row,
+            },
+            Some(ZoneKind::Remote { .. }) => Plan::Remote(zone),
+            None => Plan::UnknownPrefix,
+        }
+    }
+
+    /// The plan for these digits, with the number of the version that these tables are.
+    pub fn routed(&self, version: Version, digits: &Dialled) -> Routed
+        ensures version { result.version ≡ version }
+        ensures dialled { result.dialled ≡ digits.now }
+        ensures plan { target_of self.now.commands result.plan ≡
+            Some (plan_of self.now.commands digits.now) }
+    {
+        Routed {
+            version,
+            dialled: *digits,
+            plan: self.plan(digits),
+        }
+    }
+
+    /// The priority of a gateway for a row, 0 to 10: what the last `gw-priority` for the row's zone
+    /// and pattern that names the gateway says, and 5 if none does or no row was used. The number
+    /// is to be one of these tables'; nothing is promised for another.
+    pub fn priority(&self, row: Option<RowNo>, gateway: &Name) -> u8
+        ensures { IfSome (row_meant self.now.commands row) (λ used.
+            result ≡ priority_of self.now.commands used gateway.now) }
+    {
+        match self.gateways(row) {
+            Some(gateways) => gateways
+                .get(gateway)
+                .copied()
+                .unwrap_or(USUAL_GATEWAY_PRIORITY),
+            None => USUAL_GATEWAY_PRIORITY,
+        }
+    }
+
+    /// The priorities of gateways for the row: a gateway that is not in the map has 5, and so has
+    /// each if there is none. It has those that the commands for the row's zone and pattern name.
+    /// The number is to be one of these tables'.
+    pub fn gateways(&self, row: Option<RowNo>) -> Option<&IndexMap<Name, u8>>
+        ensures { IfSome (row_meant self.now.commands row) (λ used. (gateway : List ℕ)
+            → priority_in_entries (entries_of (option_copied result)) gateway
+            ≡ priority_of self.now.commands used gateway) }
+    {
+        let row = row?;
+        self.priorities.get(&row.place())
+    }
+
+    /// The default technology: that of the last `gw-type-prefix` line that sets one.
+    pub fn default_technology(&self) -> Option<TechPrefix>
+        ensures { result ≡ default_technology_of self.now.commands }
+    {
+        self.default_technology
+    }
+
+    /// What is told of the zone of a name, if it is declared.
+    pub fn zone_of(&self, name: &Name) -> Option<ZoneView>
+        ensures { result ≡ view_of_name self.now.commands name.now }
+    {
+        let place = self.zones.get_index_of(name)?;
+        Some(self.zone(ZoneNo::new(place as u32)))
+    }
+
+    /// What is told of the zone of a number, which is to be one of these tables'.
+    pub fn zone(&self, number: ZoneNo) -> ZoneView
+        requires { number < length (zones_of self.now.commands) }
+        ensures { Some result ≡ view_at self.now.commands number }
+    {
+        match self.zones.get_index(number.place() as usize) {
+            Some((name, kind)) => view_of(number, name, kind),
+            None => unreachable!(),
+        }
+    }
+
+    /// The first local zone in line order.
+    pub fn first_local(&self) -> Name
+        ensures { Some result ≡ first_local_of self.now.commands }
+    {
+        self.first_local
+    }
+
     /// The zone that a registration names: `-` is the first local zone of the configuration.
     /// Nothing if it is not a local zone.
     pub fn local_zone(&self, name: &Name) -> Option<Name>
@@ -135,7 +253,7 @@ impl Tables {
             result ≡ (if is_local self.now.commands zone then Some zone else None) }
     {
         let zone = self.zone_meant(name);
-        if is_local_kind(self.zones.get(&zone)) {
+        if is_local_option(self.zones.get(&zone)) {
             Some(zone)
         } else {
             None
@@ -147,204 +265,29 @@ impl Tables {
         ensures { result ≡ zone_meant self.now.commands name.now }
     {
         match name.as_bytes() {
-            b"-" => self.first_local.unwrap_or(*name),
+            b"-" => self.first_local,
             _ => *name,
-        }
-    }
-
-    /// Where a call to these digits is to go: to the zone of the longest pattern that matches them,
-    /// else to the caller's zone. Of several commands for one pattern, the first counts.
-    pub fn plan(&self, digits: &Dialled) -> Plan
-        ensures { result ≡ plan_of self.now.commands digits.now }
-    {
-        plan_of_hit(&self.plans, self.prefixes.best(digits, 0))
-    }
-
-    /// The plan for these digits, with the number of the version that these tables are.
-    pub fn routed(&self, version: Version, digits: &Dialled) -> Routed
-        ensures version { result.version ≡ version }
-        ensures dialled { result.dialled ≡ digits.now }
-        ensures plan { result.plan ≡ plan_of self.now.commands digits.now }
-    {
-        Routed {
-            version,
-            dialled: *digits,
-            plan: self.plan(digits),
         }
     }
 }
 
-/// Whether it is the kind of a local zone.
-fn is_local_kind(kind: Option<&ZoneKind>) -> bool
-    ensures { result ≡ Index.is_local_kind (option_copied kind.entry) }
+/// Whether a zone was found, and it is a local one.
+fn is_local_option(kind: Option<&ZoneKind>) -> bool
+    ensures { result ≡ is_local_option (option_copied kind.entry) }
 {
     matches!(kind, Some(ZoneKind::Local))
 }
 
-/// The plan of a row that was found.
-fn plan_of_hit(plans: &[(Pattern, Plan)], hit: Option<Hit>) -> Plan
-    ensures { result ≡ Index.plan_of_hit plans.now hit }
+/// Whether digits that no zone prefix matches are rejected.
+fn rejects_unknown(commands: &[Command]) -> bool
+    ensures { result ≡ rejects_unknown commands.now }
 {
-    let Some(hit) = hit else {
-        return Plan::Caller;
-    };
-    match plans.get(hit.value as usize) {
-        Some((_, plan)) => *plan,
-        None => Plan::Caller,
-    }
+    commands.iter().any(|command| is_reject(command))
 }
 
-/// The zones by name; of several commands for one name, the first counts.
-fn zones_in(alloc: Global, commands: &Commands) -> Result<HashMap<Name, ZoneKind>, AllocError>
-    ensures { IfOk result (λ zones. Index.AreZonesOf zones.entries commands.now.commands) }
+/// Whether a command is `arq reject-unknown-prefix`.
+fn is_reject(command: &Command) -> bool
+    ensures { result ≡ is_reject command.now }
 {
-    let mut zones = HashMap::new(alloc);
-    for place in 0..commands.len() {
-        if let Some(command) = commands.get(place) {
-            add_zone(&mut zones, command)?;
-        }
-    }
-    Ok(zones)
-}
-
-/// Adds the zone that a command declares, if it declares one and its name is new.
-fn add_zone(zones: &mut HashMap<Name, ZoneKind>, command: &Command) -> Result<(), AllocError>
-    ensures { OnOk result (Index.AddsZone zones.old.entries zones.new.entries command.now) }
-{
-    match command {
-        Command::ZoneLocal { name, .. } => add_new(zones, name, ZoneKind::Local),
-        Command::ZoneRemote { name, address, .. } => {
-            add_new(zones, name, ZoneKind::Remote(*address))
-        }
-        _ => Ok(()),
-    }
-}
-
-/// Adds a zone, if its name is new.
-fn add_new(
-    zones: &mut HashMap<Name, ZoneKind>,
-    name: &Name,
-    kind: ZoneKind,
-) -> Result<(), AllocError>
-    ensures { OnOk result ((q : List ℕ) → Index.kept_kind_of zones.new.entries q
-        ≡ option_or (Index.kept_kind_of zones.old.entries q)
-        (if bytes_eq q name.now then Some kind else None)) }
-{
-    if !zones.contains_key(name) {
-        zones.insert(*name, kind)?;
-    }
-    Ok(())
-}
-
-/// The first local zone of the configuration.
-fn first_local_of(commands: &Commands) -> Option<Name>
-    ensures { result ≡ Declared.first_local_of commands.now.commands }
-{
-    for place in 0..commands.len() {
-        if let Some(name) = local_of_place(commands, place) {
-            return Some(name);
-        }
-    }
-    None
-}
-
-/// The name of the local zone that the command at a place declares, if it declares one.
-fn local_of_place(commands: &Commands, place: usize) -> Option<Name>
-    ensures { result ≡ Index.local_of_place commands.now.commands place }
-{
-    match commands.get(place)? {
-        Command::ZoneLocal { name, .. } => Some(*name),
-        _ => None,
-    }
-}
-
-/// The first row of each pattern: the pattern and its plan.
-fn first_rows_of(
-    alloc: Global,
-    commands: &Commands,
-    zones: &HashMap<Name, ZoneKind>,
-) -> Result<Vec<(Pattern, Plan)>, AllocError>
-    ensures first { IfOk result (λ rows. rows.items
-        ≡ Index.first_rows_of (Index.planned_rows_of zones.now.entries commands.now.commands)) }
-    ensures within { IfOk result (λ rows. length rows.items ≤ MOST_LINES) }
-{
-    let mut seen = HashSet::new(alloc);
-    let mut rows = Vec::new(alloc);
-    for place in 0..commands.len() {
-        if let Some(row) = planned_row_of_place(commands, zones, place) {
-            add_row(&mut seen, &mut rows, row)?;
-        }
-    }
-    Ok(rows)
-}
-
-/// The row of the command at a place, if that is a `zone prefix`: its pattern and its plan.
-fn planned_row_of_place(
-    commands: &Commands,
-    zones: &HashMap<Name, ZoneKind>,
-    place: usize,
-) -> Option<(Pattern, Plan)>
-    ensures { result ≡ Index.planned_row_of_place zones.now.entries commands.now.commands place }
-{
-    planned_row_of_command(commands.get(place)?, zones)
-}
-
-/// The row of a command, if it is a `zone prefix`: its pattern and its plan.
-fn planned_row_of_command(
-    command: &Command,
-    zones: &HashMap<Name, ZoneKind>,
-) -> Option<(Pattern, Plan)>
-    ensures { result ≡ option_map (Index.planned_row_of zones.now.entries) (row_of command.now) }
-{
-    match command {
-        Command::ZonePrefix { zone, pattern, .. } => {
-            Some((*pattern, plan_of_kind(zone, zones.get(zone))))
-        }
-        _ => None,
-    }
-}
-
-/// Adds a row, if its pattern is new.
-fn add_row(
-    seen: &mut HashSet<Pattern>,
-    rows: &mut Vec<(Pattern, Plan)>,
-    row: (Pattern, Plan),
-) -> Result<(), AllocError>
-    requires { (p : PatternParts)
-        → contains same_pattern seen.old p ≡ has_pattern p rows.old.items }
-    ensures added { OnOk result (rows.new.items ≡ Index.with_row rows.old.items row) }
-    ensures few { length rows.new.items ≤ length rows.old.items + 1 }
-    ensures seen { OnOk result ((p : PatternParts)
-        → contains same_pattern seen.new p ≡ has_pattern p rows.new.items) }
-{
-    if seen.insert(row.0)? {
-        rows.push(row)?;
-    }
-    Ok(())
-}
-
-/// Each pattern, with the place of its row.
-fn places_of(alloc: Global, rows: &[(Pattern, Plan)]) -> Result<Vec<(Pattern, u32)>, AllocError>
-    requires { length rows.now ≤ MOST_LINES }
-    ensures { IfOk result (λ places. places.items ≡ Index.places_of rows.now) }
-{
-    let mut places = Vec::new(alloc);
-    for (place, row) in rows.iter().enumerate() {
-        places.push((row.0, place as u32))?;
-    }
-    Ok(places)
-}
-
-/// The plan for calls to this zone.
-fn plan_of_kind(zone: &Name, kind: Option<&ZoneKind>) -> Plan
-    ensures { result ≡ Index.plan_of_kind zone.now (option_copied kind.entry) }
-{
-    match kind {
-        Some(ZoneKind::Remote(address)) => Plan::Remote {
-            zone: *zone,
-            address: *address,
-        },
-        Some(ZoneKind::Local) => Plan::Local { zone: *zone },
-        None => Plan::Caller,
-    }
+    matches!(command, Command::RejectUnknownPrefix)
 }

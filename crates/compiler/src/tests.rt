@@ -1,17 +1,242 @@
-//! What tables keep.
+//! Plans, gateways and zones of given configurations, by hand calculation.
 
-use crate::tables::Tables;
+use crate::{Plan, RowNo, Tables, ZoneNo, ZoneView};
 use command_reader::read;
+use gk_terms::{Address, Dialled, Name, TechPrefix};
+use std::alloc::Global;
+use std::process::Abort;
 use std::test::Fail;
 
-#[test]
-fn tables_keep_their_configuration(rt: HostRuntime) -> Result<(), Fail> {
-    let configuration = b"zone local a b\n! a remark\nzone prefix a 9*\n";
-    let Ok(commands) = read(rt.alloc(), configuration) else {
+/// Zones 0 to 5, rows 0 to 4, and technology prefixes.
+const LINES: &str = "zone local a d\nzone remote x d 10.9.0.1 cost 60\n\
+    zone remote y d 10.9.0.2 cost 40 priority 20\nzone remote z d 10.9.0.3 cost 40 priority 30\n\
+    zone local b d\nzone remote w d 10.9.0.4 cost 40 priority 30\n\
+    zone prefix a 408*\nzone prefix b 4085......\n\
+    zone prefix x 9*\nzone prefix y 9*\nzone prefix z 9*\nzone prefix w 9*\n\
+    zone prefix x 7*\nzone prefix b 7*\nzone prefix y 6*\nzone prefix x 6*\n\
+    gw-type-prefix 1#\ngw-type-prefix 1#2 hopoff x\ngw-type-prefix 1#2 hopoff b a\n\
+    gw-type-prefix 2# hopoff x y z w\ngw-type-prefix 12 default-technology\n\
+    gw-type-prefix 3* default-technology\n";
+
+/// Two zones with one pattern, and gateways with priorities.
+const GATEWAYS: &str = "zone local a d\nzone local b d\n\
+    zone prefix a 408* gw-priority 10 g1 g2\nzone prefix a 408* gw-priority 0 g1\n\
+    zone prefix b 408* gw-priority 7 g3\nzone prefix a 9* gw-priority 3 g1\n\
+    zone prefix b 7*\n";
+
+/// The tables of a configuration.
+fn tables_of(rt: &impl Abort, alloc: Global, configuration: &str) -> Result<Tables, Fail> {
+    let Ok(commands) = read(alloc, configuration.as_bytes()) else {
         panic!(rt; "refused");
     };
-    let tables = Tables::compile(rt.alloc(), commands)?;
-    assert_eq!(rt; tables.commands().len(), 2);
-    assert_eq!(rt; tables.commands().passed(), 1);
+    Ok(Tables::compile(alloc, commands)?)
+}
+
+/// The prefix that a text spells.
+fn prefix_of(text: Option<&str>) -> Result<Option<TechPrefix>, Fail> {
+    match text {
+        None => Ok(None),
+        Some(text) => Ok(Some(TechPrefix::read(text.as_bytes())?)),
+    }
+}
+
+/// These digits have this plan.
+fn assert_plan(rt: &impl Abort, tables: &Tables, digits: &str, want: Plan) -> Result<(), Fail> {
+    let dialled = Dialled::read(digits.as_bytes())?;
+    assert_eq!(rt; tables.plan(&dialled), want, "at {digits}");
     Ok(())
+}
+
+/// These digits lead to this remote zone.
+fn assert_remote(rt: &impl Abort, tables: &Tables, digits: &str, zone: u32) -> Result<(), Fail> {
+    assert_plan(rt, tables, digits, Plan::Remote(ZoneNo::new(zone)))
+}
+
+/// These digits lead to this local zone, by this technology prefix and this row.
+fn assert_local(
+    rt: &impl Abort,
+    tables: &Tables,
+    digits: &str,
+    zone: u32,
+    technology: Option<&str>,
+    row: Option<u32>,
+) -> Result<(), Fail> {
+    let want = Plan::Local {
+        zone: ZoneNo::new(zone),
+        technology: prefix_of(technology)?,
+        row: row.map(|row| RowNo::new(row)),
+    };
+    assert_plan(rt, tables, digits, want)
+}
+
+/// These digits lead to the caller's zone, by this technology prefix.
+fn assert_caller(
+    rt: &impl Abort,
+    tables: &Tables,
+    digits: &str,
+    technology: Option<&str>,
+) -> Result<(), Fail> {
+    let want = Plan::Caller {
+        technology: prefix_of(technology)?,
+    };
+    assert_plan(rt, tables, digits, want)
+}
+
+/// The plans by rows, of the lines.
+fn assert_rows(rt: &impl Abort, tables: &Tables) -> Result<(), Fail> {
+    for (digits, zone, row) in [
+        ("4085551234", 4, 1),
+        ("4085*#1*#1", 4, 1),
+        ("40855512345", 0, 0),
+        ("408", 0, 0),
+        ("7123", 4, 3),
+    ] {
+        assert_local(rt, tables, digits, zone, None, Some(row))?;
+    }
+    assert_remote(rt, tables, "9123", 3)?;
+    assert_remote(rt, tables, "6123", 2)?;
+    assert_caller(rt, tables, "5551000", None)?;
+    assert_caller(rt, tables, "1*408", None)
+}
+
+#[test]
+fn plans_by_rows(rt: HostRuntime) -> Result<(), Fail> {
+    let tables = tables_of(&rt, rt.alloc(), LINES)?;
+    assert_rows(&rt, &tables)
+}
+
+/// The plans by technology prefixes, of the lines.
+fn assert_technologies(rt: &impl Abort, tables: &Tables) -> Result<(), Fail> {
+    assert_local(rt, tables, "1#4085551234", 4, Some("1#"), Some(1))?;
+    assert_local(rt, tables, "1#2408", 4, Some("1#2"), None)?;
+    assert_local(rt, tables, "3408", 0, Some("3"), Some(0))?;
+    assert_remote(rt, tables, "2#4085551234", 3)?;
+    assert_remote(rt, tables, "1#9123", 3)?;
+    assert_caller(rt, tables, "1#", Some("1#"))?;
+    assert_caller(rt, tables, "1#*408", Some("1#"))?;
+    assert_caller(rt, tables, "125", Some("12"))
+}
+
+#[test]
+fn plans_by_technology(rt: HostRuntime) -> Result<(), Fail> {
+    let tables = tables_of(&rt, rt.alloc(), LINES)?;
+    assert_technologies(&rt, &tables)
+}
+
+/// The tables of the lines, with one more.
+fn rejecting(rt: &impl Abort, alloc: Global) -> Result<Tables, Fail> {
+    let configuration = format!(in alloc; "{LINES}arq reject-unknown-prefix\n")?;
+    tables_of(rt, alloc, configuration.as_str())
+}
+
+/// The plans of the lines, if unknown prefixes are rejected.
+fn assert_rejects(rt: &impl Abort, tables: &Tables) -> Result<(), Fail> {
+    assert_plan(rt, tables, "5551000", Plan::UnknownPrefix)?;
+    assert_plan(rt, tables, "1#", Plan::UnknownPrefix)?;
+    assert_local(rt, tables, "408", 0, None, Some(0))?;
+    assert_remote(rt, tables, "2#5551000", 3)
+}
+
+#[test]
+fn rejects_unknown_prefixes(rt: HostRuntime) -> Result<(), Fail> {
+    let tables = rejecting(&rt, rt.alloc())?;
+    assert_rejects(&rt, &tables)
+}
+
+/// This gateway has this priority for this row.
+fn assert_priority(
+    rt: &impl Abort,
+    tables: &Tables,
+    row: Option<u32>,
+    gateway: &str,
+    want: u8,
+) -> Result<(), Fail> {
+    let name = Name::read(gateway.as_bytes())?;
+    let row = row.map(|row| RowNo::new(row));
+    assert_eq!(rt; tables.priority(row, &name), want, "{gateway}");
+    Ok(())
+}
+
+/// The priorities of gateways, of the second configuration.
+fn assert_priorities(rt: &impl Abort, tables: &Tables) -> Result<(), Fail> {
+    for (row, gateway, want) in [
+        (Some(0), "g1", 0),
+        (Some(0), "g2", 10),
+        (Some(0), "g3", 5),
+        (Some(1), "g1", 3),
+        (Some(1), "g2", 5),
+        (Some(2), "g1", 5),
+        (None, "g1", 5),
+    ] {
+        assert_priority(rt, tables, row, gateway, want)?;
+    }
+    Ok(())
+}
+
+#[test]
+fn finds_priorities(rt: HostRuntime) -> Result<(), Fail> {
+    let tables = tables_of(&rt, rt.alloc(), GATEWAYS)?;
+    assert_priorities(&rt, &tables)
+}
+
+/// How many gateways are named for this row; nothing if none is.
+fn gateway_count(tables: &Tables, row: Option<u32>) -> Option<usize> {
+    Some(tables.gateways(row.map(|row| RowNo::new(row)))?.len())
+}
+
+/// The counts of gateways, of the second configuration.
+fn assert_gateways(rt: &impl Abort, tables: &Tables) {
+    assert_eq!(rt; gateway_count(tables, Some(0)), Some(2));
+    assert_eq!(rt; gateway_count(tables, Some(1)), Some(1));
+    assert_eq!(rt; gateway_count(tables, Some(2)), None);
+    assert_eq!(rt; gateway_count(tables, None), None);
+}
+
+#[test]
+fn finds_gateways(rt: HostRuntime) -> Result<(), Fail> {
+    let tables = tables_of(&rt, rt.alloc(), GATEWAYS)?;
+    assert_gateways(&rt, &tables);
+    Ok(())
+}
+
+/// The zone of this name has this number, and this address if it is a remote one.
+fn assert_zone(
+    rt: &impl Abort,
+    tables: &Tables,
+    name: &str,
+    number: u32,
+    address: Option<Address>,
+) -> Result<(), Fail> {
+    let name = Name::read(name.as_bytes())?;
+    let want = ZoneView {
+        no: ZoneNo::new(number),
+        name,
+        local: address.is_none(),
+        address,
+    };
+    assert_eq!(rt; tables.zone_of(&name), Some(want));
+    Ok(())
+}
+
+/// The zones of the lines.
+fn assert_zones(rt: &impl Abort, tables: &Tables) -> Result<(), Fail> {
+    assert_zone(rt, tables, "a", 0, None)?;
+    assert_zone(rt, tables, "z", 3, Some(Address::new([10, 9, 0, 3], 1719)))?;
+    assert_eq!(rt; tables.zone_of(&Name::read(b"q".as_slice())?), None);
+    let first = Name::read(b"a".as_slice())?;
+    assert_eq!(rt; tables.first_local(), first);
+    assert_eq!(rt;
+        tables.local_zone(&Name::read(b"-".as_slice())?),
+        Some(first)
+    );
+    assert_eq!(rt; tables.local_zone(&Name::read(b"x".as_slice())?), None);
+    assert_eq!(rt; tables.default_technology(), prefix_of(Some("3"))?);
+    assert_eq!(rt; tables.commands().len(), 22);
+    Ok(())
+}
+
+#[test]
+fn tells_zones(rt: HostRuntime) -> Result<(), Fail> {
+    let tables = tables_of(&rt, rt.alloc(), LINES)?;
+    assert_zones(&rt, &tables)
 }

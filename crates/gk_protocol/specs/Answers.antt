@@ -4,8 +4,8 @@ use Rattle.gk_terms.specs.Text.{line_text}
 use Rattle.gk_terms.specs.Reason.{word_of}
 use Rattle.gk_terms.specs.declared.reasons.Reason.TheVariants as reason
 use Rattle.admission.specs.Routes.{destination_words, route_refusal_word}
-use Rattle.admission.specs.declared.replies.Duplicate.{Duplicate}
-use Rattle.admission.specs.declared.replies.Duplicate.TheVariants as duplicate
+use Rattle.registry.specs.declared.faults.Duplicate.{Duplicate}
+use Rattle.registry.specs.declared.faults.Duplicate.TheVariants as duplicate
 use Rattle.admission.specs.declared.replies.RegisterRefusal.{RegisterRefusal}
 use Rattle.admission.specs.declared.replies.RegisterRefusal.TheVariants as register
 use Rattle.admission.specs.declared.replies.UnregisterRefusal.{UnregisterRefusal}

@@ -8,8 +8,10 @@ use Rattle.gk_terms.specs.Name.{name_of}
 use Rattle.gk_terms.specs.Number.{number_of}
 use Rattle.gk_terms.specs.Address.{AddressParts, address_of}
 use Rattle.gk_terms.specs.Dialled.{dialled_of}
-use Rattle.gk_terms.specs.declared.limits.TheConstants.{MOST_ALIASES, MOST_SEQUENCE}
-use Rattle.registry.specs.Endpoint.{EndpointParts, with_alias}
+use Rattle.gk_terms.specs.TechPrefix.{tech_prefix_of}
+use Rattle.gk_terms.specs.declared.limits.TheConstants.{MOST_ALIASES, MOST_TECHNOLOGIES, MOST_SEQUENCE}
+use Rattle.registry.specs.Endpoint.{EndpointParts, with_alias, with_technology}
+use Rattle.registry.specs.declared.faults.RegistryFault.{RegistryFault}
 use Rattle.registry.specs.declared.endpoints.EndpointKind.{EndpointKind}
 use Rattle.registry.specs.declared.endpoints.EndpointKind.TheVariants.{Gateway, Terminal}
 use Rattle.admission.specs.declared.replies.RegisterRefusal.TheVariants as register
@@ -21,6 +23,9 @@ use Rattle.gk_protocol.specs.declared.request_faults.RequestFault.TheVariants as
 use Rattle.gk_protocol.specs.declared.request_faults.NoRequest.{NoRequest}
 use Rattle.gk_protocol.specs.declared.request_faults.NoRequest.TheVariants.{Fault, NoMemory}
 use Rattle.gk_protocol.specs.declared.request_fields.TheConstants.{SIGNALLING_PORT}
+use Rattle.gk_protocol.specs.declared.registrations.OptionsLeft.{OptionsLeft}
+use Rattle.gk_protocol.specs.declared.registrations.RegistrationOption.{RegistrationOption}
+use Rattle.gk_protocol.specs.declared.registrations.RegistrationOption.TheVariants.{Alias, Technology}
 use Rattle.gk_protocol.specs.declared.requests.Request.{Request}
 use Rattle.gk_protocol.specs.declared.requests.Request.TheVariants.{Register, Unregister, Admit}
 
@@ -44,8 +49,8 @@ abbrev pub field_at : {A : Type 0} → (List ℕ → Option A) → RequestFault 
     → Result (A × List (List ℕ)) RequestFault
 field_at read bad words = field fault.Missing read bad words
 
--- ---- RRQ seq KIND id zone addr [e164=D] ..
--- kind, ID, zone and address, as an endpoint without aliases
+-- ---- RRQ seq KIND id zone addr [e164=D] [tech=P] ..
+-- kind, ID, zone and address, as an endpoint without aliases and technology prefixes
 abbrev pub endpoint_at : List (List ℕ) → Result (EndpointParts × List (List ℕ)) RequestFault
 endpoint_at words = do
   kind ← field_at kind_of fault.BadOption words
@@ -53,7 +58,7 @@ endpoint_at words = do
   zone ← field_at name_of fault.BadName id.1
   address ← field_at (address_of SIGNALLING_PORT) fault.BadAddress zone.1
   Ok (
-    record { kind = kind.0; id = id.0; zone = zone.0; address = address.0; aliases = [] },
+    record { kind = kind.0; id = id.0; zone = zone.0; address = address.0; aliases = []; technologies = [] },
     address.1,
   )
 
@@ -61,26 +66,67 @@ endpoint_at words = do
 abbrev pub alias_text_of : List ℕ → Option (List ℕ)
 alias_text_of word = if bytes_eq (take 5 word) (codes "e164=") then Some (drop 5 word) else None
 
-abbrev pub dialled_alias_of : Option (List ℕ) → Result (List ℕ) RequestFault
-dialled_alias_of None = Err fault.BadOption
-dialled_alias_of (Some text) = ok_or (dialled_of text) fault.BadDigits
+-- what stands after `tech=`
+abbrev pub technology_text_of : List ℕ → Option (List ℕ)
+technology_text_of word =
+    if bytes_eq (take 5 word) (codes "tech=") then Some (drop 5 word) else None
 
--- the alias of an option, if so many more may stand
-abbrev pub alias_of : ℕ → List ℕ → Result (List ℕ) RequestFault
-alias_of left word =
-    if left == 0 then Err fault.BadOption else dialled_alias_of (alias_text_of word)
+abbrev pub alias_option : Option (List ℕ) → Result RegistrationOption RequestFault
+alias_option None = Err fault.BadDigits
+alias_option (Some digits) = Ok (Alias digits)
 
--- the endpoint with the aliases of its options, of which so many may stand, counted as written
-abbrev pub options_at : ℕ → EndpointParts → List (List ℕ) → Result EndpointParts RequestFault
+abbrev pub technology_option : Option (List ℕ) → Result RegistrationOption RequestFault
+technology_option None = Err fault.BadDigits
+technology_option (Some prefix) = Ok (Technology prefix)
+
+-- the option of a word, by what stands after `e164=` or `tech=`, if so many more may stand
+abbrev pub option_of_texts : OptionsLeft → Option (List ℕ) → Option (List ℕ)
+    → Result RegistrationOption RequestFault
+option_of_texts left (Some text) technology =
+    if left.aliases == 0 then Err fault.BadOption else alias_option (dialled_of text)
+option_of_texts left None (Some text) =
+    if left.technologies == 0 then Err fault.BadOption
+    else technology_option (tech_prefix_of text)
+option_of_texts left None None = Err fault.BadOption
+
+abbrev pub option_of : OptionsLeft → List ℕ → Result RegistrationOption RequestFault
+option_of left word = option_of_texts left (alias_text_of word) (technology_text_of word)
+
+-- how many may stand when no option has been read, counted as written
+abbrev pub all_options : OptionsLeft
+all_options = record { aliases = MOST_ALIASES; technologies = MOST_TECHNOLOGIES }
+
+-- and after one more
+abbrev pub left_after : OptionsLeft → RegistrationOption → OptionsLeft
+left_after left (Alias digits) = record left { aliases = left.aliases - 1 }
+left_after left (Technology prefix) = record left { technologies = left.technologies - 1 }
+
+-- what an endpoint has too many of is a bad option. It does not come: options are counted as written
+abbrev pub or_bad_option : Result EndpointParts RegistryFault → Result EndpointParts RequestFault
+or_bad_option (Ok endpoint) = Ok endpoint
+or_bad_option (Err refusal) = Err fault.BadOption
+
+-- the endpoint with one more alias or technology prefix, unless it has it
+abbrev pub added : EndpointParts → RegistrationOption → Result EndpointParts RegistryFault
+added endpoint (Alias digits) = with_alias endpoint digits
+added endpoint (Technology prefix) = with_technology endpoint prefix
+
+abbrev pub with_option : EndpointParts → RegistrationOption → Result EndpointParts RequestFault
+with_option endpoint option = or_bad_option (added endpoint option)
+
+-- the endpoint with the aliases and technology prefixes of its options
+abbrev pub options_at : OptionsLeft → EndpointParts → List (List ℕ)
+    → Result EndpointParts RequestFault
 options_at left endpoint [] = Ok endpoint
 options_at left endpoint (word ∷ words) =
-    alias_of left word >>= (λ alias. options_at (left - 1) (with_alias endpoint alias) words)
+    option_of left word >>= (λ option. with_option endpoint option
+    >>= (λ filled. options_at (left_after left option) filled words))
 
 abbrev pub register_at : List (List ℕ) → Result Request RequestFault
 register_at words = do
   sequence ← field_at sequence_of fault.BadSequence words
   bare ← endpoint_at sequence.1
-  endpoint ← options_at MOST_ALIASES bare.0 bare.1
+  endpoint ← options_at all_options bare.0 bare.1
   Ok (Register sequence.0 endpoint)
 
 -- ---- URQ seq id
@@ -123,17 +169,17 @@ unfoldable pub asking_of : List ℕ → Result (Option Asking) RequestFault
 asking_of line = if is_too_long line then Err fault.LineTooLong else asking_at (words_of line)
 
 -- ---- out of memory
--- whether the first of these words is an option with its alias
-abbrev pub begins_with_alias : List (List ℕ) → Bool
-begins_with_alias [] = false
-begins_with_alias (word ∷ words) = is_ok (alias_of MOST_ALIASES word)
+-- whether the first of these words is an option
+abbrev pub begins_with_option : List (List ℕ) → Bool
+begins_with_option [] = false
+begins_with_option (word ∷ words) = is_ok (option_of all_options word)
 
 -- the sequence number and the ID, if the first option could be read
 abbrev pub registering_at : List (List ℕ) → Option (ℕ × List ℕ)
 registering_at words = result_ok (do
   sequence ← field_at sequence_of fault.BadSequence words
   bare ← endpoint_at sequence.1
-  if begins_with_alias bare.1 then Ok (sequence.0, bare.0.id) else Err fault.BadOption)
+  if begins_with_option bare.1 then Ok (sequence.0, bare.0.id) else Err fault.BadOption)
 
 abbrev pub registering_by_word : List (List ℕ) → Option (ℕ × List ℕ)
 registering_by_word [] = None
@@ -154,7 +200,7 @@ abbrev pub no_memory_answer_of : List ℕ → Option Answer
 no_memory_answer_of line = option_map no_memory_to (registering_of line)
 
 -- ---- why a line is no request
--- its first fault; or memory ran out for the aliases of this registration
+-- its first fault; or memory ran out for the options of this registration
 abbrev pub IsNoRequest : List ℕ → NoRequest → Type 0
 IsNoRequest line (Fault fault) = asking_of line ≡ Err fault
 IsNoRequest line (NoMemory sequence id) = registering_of line ≡ Some (sequence, id)
@@ -172,9 +218,9 @@ IsNoRegistrationAt words (NoMemory sequence id) = registering_at words ≡ Some 
 -- the same of the options of a registration by this number and ID
 abbrev pub AreNoOptionsAt : ℕ → EndpointParts → List (List ℕ) → NoRequest → Type 0
 AreNoOptionsAt sequence endpoint words (Fault fault) =
-    options_at MOST_ALIASES endpoint words ≡ Err fault
+    options_at all_options endpoint words ≡ Err fault
 AreNoOptionsAt sequence endpoint words (NoMemory number id) =
-    (number ≡ sequence) × (id ≡ endpoint.id) × IsTrue (begins_with_alias words)
+    (number ≡ sequence) × (id ≡ endpoint.id) × IsTrue (begins_with_option words)
 
 -- the answer to a line that is no request
 abbrev pub answer_of_none : NoRequest → Answer

@@ -248,6 +248,8 @@ fn route_refusal_word(refusal: RouteRefusal) -> &'static [u8]
     ensures { result.now ≡ RouteSpec.route_refusal_word refusal }
 {
     match refusal {
+        RouteRefusal::UnknownPrefix => b"unknown-prefix",
+        RouteRefusal::NoGateway => b"no-gateway",
         RouteRefusal::NoDefault => b"no-default",
     }
 }

@@ -4,6 +4,7 @@
 pub mod answer_lines;
 pub mod answerer;
 pub mod answers;
+mod registrations;
 #[cfg(test)]
 mod reply_tests;
 pub mod request_faults;

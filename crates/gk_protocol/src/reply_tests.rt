@@ -68,11 +68,15 @@ fn each_answer_is_one_line(rt: HostRuntime) -> Result<(), Fail> {
         };
         assert_replied(&rt, reply, b"ACF 5 1001 ", words);
     }
-    let no_route = AdmitRefusal::NoRoute(RouteRefusal::NoDefault);
+    let unknown = AdmitRefusal::NoRoute(RouteRefusal::UnknownPrefix);
+    let no_gateway = AdmitRefusal::NoRoute(RouteRefusal::NoGateway);
+    let no_default = AdmitRefusal::NoRoute(RouteRefusal::NoDefault);
     for (reason, words) in [
         (AdmitRefusal::CallerNotRegistered, "callerNotRegistered"),
         (AdmitRefusal::CallOpen, "undefinedReason call-open"),
-        (no_route, "calledPartyNotRegistered no-default"),
+        (unknown, "calledPartyNotRegistered unknown-prefix"),
+        (no_gateway, "calledPartyNotRegistered no-gateway"),
+        (no_default, "calledPartyNotRegistered no-default"),
         (AdmitRefusal::CallsFull, "resourceUnavailable calls-full"),
         (AdmitRefusal::RecordFull, "resourceUnavailable record-full"),
         (AdmitRefusal::NoMemory, "resourceUnavailable no-memory"),

@@ -35,7 +35,7 @@ pub enum RequestFault {
     /// A field is neither `IP` nor `IP:PORT`.
     #[error("not an address")]
     BadAddress,
-    /// A field or an alias is not dialled digits.
+    /// A field or an alias is not dialled digits, or an option is not a technology prefix.
     #[error("not dialled digits")]
     BadDigits,
     /// A field is not a number in its range.
@@ -91,9 +91,9 @@ pub enum NoRequest {
     /// Its first fault.
     #[error("{0}")]
     Fault(RequestFault),
-    /// Memory ran out for the aliases of a registration. All its fields up to and including the
+    /// Memory ran out for the options of a registration. All its fields up to and including the
     /// first option could be read; what stands after that may be wrong.
-    #[error("no memory for the aliases of {id}")]
+    #[error("no memory for the options of {id}")]
     NoMemory {
         /// The sequence number of the registration, 1 to 65535.
         sequence: u32,

@@ -16,12 +16,12 @@ fn fault_word(alloc: Global, line: &[u8]) -> Option<&'static str> {
     }
 }
 
-/// A registration with so many options `e164=7`, and a last word.
-fn registration(alloc: Global, aliases: u32, last: &str) -> Result<String, AllocError> {
+/// A registration with so many times this option, and last words.
+fn registration(alloc: Global, option: &str, count: u32, last: &str) -> Result<String, AllocError> {
     let mut line = String::new(alloc);
     line.push_str("RRQ 1 TERM a - 1.1.1.1")?;
-    for _ in 0..aliases {
-        line.push_str(" e164=7")?;
+    for _ in 0..count {
+        line.push_str(option)?;
     }
     line.push_str(last)?;
     Ok(line)
@@ -59,7 +59,10 @@ fn faults(rt: HostRuntime) -> Result<(), Fail> {
         (b"RRQ 5 PBX tb gk-a 10.0.0.3", "option"),
         (b"RRQ 5 TERM tb gk-a 10.0.0.300", "address"),
         (b"RRQ 5 TERM tb gk-a 10.0.0.3:0", "address"),
-        (b"RRQ 1 TERM a - 1.1.1.1 tech=1", "option"),
+        (b"RRQ 1 GW a - 1.1.1.1 tech=", "digits"),
+        (b"RRQ 1 GW a - 1.1.1.1 tech=1*2", "digits"),
+        (b"RRQ 1 GW a - 1.1.1.1 tech=12345678901#", "digits"),
+        (b"RRQ 1 GW a - 1.1.1.1 tech=1 TECH=2", "option"),
         (b"RRQ 1 TERM a - 1.1.1.1 e164=", "digits"),
         (b"RRQ 1 TERM a - 1.1.1.1 E164=7", "option"),
         (b"RRQ 1 TERM a - 1.1.1.1 e164=1 e164=x", "digits"),
@@ -68,7 +71,11 @@ fn faults(rt: HostRuntime) -> Result<(), Fail> {
         assert_eq!(rt; fault_word(rt.alloc(), line), Some(word), "{line:?}");
     }
     for last in [" e164=8", " e164=x"] {
-        let line = registration(rt.alloc(), 16, last)?;
+        let line = registration(rt.alloc(), " e164=7", 16, last)?;
+        assert_eq!(rt; fault_word(rt.alloc(), line.as_bytes()), Some("option"));
+    }
+    for last in [" tech=2", " tech=x"] {
+        let line = registration(rt.alloc(), " tech=1#", 8, last)?;
         assert_eq!(rt; fault_word(rt.alloc(), line.as_bytes()), Some("option"));
     }
     Ok(())
@@ -111,12 +118,18 @@ fn registrations(rt: HostRuntime) -> Result<(), Fail> {
 }
 
 #[test]
-fn sixteen_options(rt: HostRuntime) -> Result<(), Fail> {
-    let line = registration(rt.alloc(), 16, "")?;
+fn sixteen_aliases_and_eight_prefixes(rt: HostRuntime) -> Result<(), Fail> {
+    let prefixes = " tech=1 tech=2 tech=3 tech=4 tech=5 tech=6 tech=7 tech=1#*";
+    let line = registration(rt.alloc(), " e164=7", 16, prefixes)?;
     let Request::Register { endpoint, .. } = request(rt.alloc(), line.as_bytes())? else {
         return Err(Fail::new("no registration"));
     };
     assert_eq!(rt; endpoint.aliases().len(), 1);
+    assert_eq!(rt; endpoint.technologies().len(), 8);
+    let Some(last) = endpoint.technologies().last() else {
+        return Err(Fail::new("no prefix"));
+    };
+    assert_eq!(rt; last.as_str(), "1#");
     Ok(())
 }
 

@@ -4,6 +4,7 @@ pub mod Dialled
 pub mod Fields
 pub mod Name
 pub mod Number
+pub mod Outcome
 pub mod Reason
 pub mod Spelling
 pub mod TechPrefix

@@ -9,7 +9,7 @@ use Rattle.admission.specs.Step.{verdict_of, count_refusal, state_after, step}
 use Rattle.admission.specs.History.{state_of}
 use Rattle.gk_protocol.specs.Requests.{asking_of, registering_of}
 use Rattle.gkd.specs.Output.{output_of}
-use Rattle.gkd.specs.Rows.{FirstRun, OpenCall, FullRecord, Stranger, Faults}
+use Rattle.gkd.specs.Rows.{FirstRun, OpenCall, FullRecord, Stranger, Faults, ByPatternCostAndHopoff, GreatestPriority, PriorityZero, UnknownPrefix, AliasOrDefault, NoDefault, OtherAliases, LongDigits}
 
 pub first_run : FirstRun
 unfolding digits plan_of route_of line_of line_after verdict_of count_refusal state_after step state_of asking_of registering_of output_of
@@ -30,3 +30,35 @@ stranger = refl
 pub faults : Faults
 unfolding digits plan_of route_of line_of line_after verdict_of count_refusal state_after step state_of asking_of registering_of output_of
 faults = refl
+
+pub by_pattern_cost_and_hopoff : ByPatternCostAndHopoff
+unfolding digits plan_of route_of line_of line_after verdict_of count_refusal state_after step state_of asking_of registering_of output_of
+by_pattern_cost_and_hopoff = refl
+
+pub greatest_priority : GreatestPriority
+unfolding digits plan_of route_of line_of line_after verdict_of count_refusal state_after step state_of asking_of registering_of output_of
+greatest_priority = refl
+
+pub priority_zero : PriorityZero
+unfolding digits plan_of route_of line_of line_after verdict_of count_refusal state_after step state_of asking_of registering_of output_of
+priority_zero = refl
+
+pub unknown_prefix : UnknownPrefix
+unfolding digits plan_of route_of line_of line_after verdict_of count_refusal state_after step state_of asking_of registering_of output_of
+unknown_prefix = refl
+
+pub alias_or_default : AliasOrDefault
+unfolding digits plan_of route_of line_of line_after verdict_of count_refusal state_after step state_of asking_of registering_of output_of
+alias_or_default = refl
+
+pub no_default : NoDefault
+unfolding digits plan_of route_of line_of line_after verdict_of count_refusal state_after step state_of asking_of registering_of output_of
+no_default = refl
+
+pub other_aliases : OtherAliases
+unfolding digits plan_of route_of line_of line_after verdict_of count_refusal state_after step state_of asking_of registering_of output_of
+other_aliases = refl
+
+pub long_digits : LongDigits
+unfolding digits plan_of route_of line_of line_after verdict_of count_refusal state_after step state_of asking_of registering_of output_of
+long_digits = refl

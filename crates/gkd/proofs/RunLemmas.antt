@@ -1,5 +1,7 @@
 -- A run: its configuration, and the session after it.
-use Rattle.std.proofs.Common.{◌≡◌, ℕ, Bool, true, false, cond, List, [], ◌++◌, refl, sym, ap, subst, ◌∙◌, inl, inr}
+use Rattle.gk_lines.specs.LineReader.{CountsTurns}
+use Rattle.gk_lines.proofs.PendingLemmas.{turns_then}
+use Rattle.std.proofs.Common.{◌≡◌, ℕ, ◌+◌, ◌^◌, ◌<◌, ◌≤◌, Bool, true, false, cond, List, [], ◌++◌, refl, sym, ap, subst, ◌∙◌, inl, inr, arith}
 use Rattle.std.specs.Prelude.{◌⊎◌, Option, Some, None, Result, Ok, Err}
 use Rattle.std.specs.Io.KnownBytes.{Appends}
 use Rattle.gk_lines.specs.Streams.{KnownStep}
@@ -119,3 +121,17 @@ module _ {S : Type 0} (MayAnswer : S → Request → Answer → S → Type 0) wh
 -- a note of the session is one of the run
 pub noted_then : (old mid new its : Bool) → mid ≡ old → new ≡ cond its true mid → new ≡ cond its true old
 noted_then old mid new its before noted = noted ∙ ap (λ m. cond its true m) before
+
+-- ---- turns
+-- the calls of two calls together are within the turns that the first began with
+pub turns_within : (a b c s t u most : ℕ) → s ≡ most → CountsTurns a b s t → CountsTurns b c t u
+    → a + most < 2 ^ 64 → c ≤ a + most
+turns_within a b c s t u most is first second small =
+    let same : c + u ≡ a + s =
+    turns_then a b c s t u first second (subst (λ (n : ℕ). a + n < 2 ^ 64) (sym is) small) in
+    omega (arith, same, is)
+
+-- runs that end with the same fault of a session
+pub same_session : (f g : SessionFault) (r : Result ℕ RunFault) → r ≡ Err (Session f)
+    → r ≡ Err (Session g) → f ≡ g
+same_session f g r h i = cc

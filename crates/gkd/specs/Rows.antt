@@ -59,3 +59,111 @@ Faults = Writes stated
     (codes "ERR word" ∷ codes "ERR seq" ∷ codes "ERR missing" ∷ codes "ERR extra"
     ∷ codes "ERR number" ∷ codes "ERR address"
     ∷ codes "ERR option" ∷ codes "ERR line" ∷ [])
+
+-- ---- a dial plan
+-- two zones here, and two of other gatekeepers, of which gk-y is the cheaper
+abbrev pub zones : List (List ℕ)
+zones =
+    codes "gatekeeper" ∷ codes " zone local gk-a example.com 10.0.0.1"
+    ∷ codes " zone local gk-b example.com"
+    ∷ codes " zone remote gk-x example.com 10.9.0.1 1719 cost 50"
+    ∷ codes " zone remote gk-y example.com 10.9.0.2 1719 cost 20"
+    ∷ codes " zone prefix gk-a 408*" ∷ codes " zone prefix gk-b 4085......"
+    ∷ codes " zone prefix gk-x 9*" ∷ codes " zone prefix gk-y 9*" ∷ []
+
+-- a default technology, if it is set; a hop-off zone; limits; and lines that are added
+abbrev pub dial_plan : List (List ℕ) → List (List ℕ) → List (List ℕ)
+dial_plan default added =
+    zones ++ default ++ codes " gw-type-prefix 2# hopoff gk-x"
+    ∷ codes " bandwidth total zone gk-a 256" ∷ codes " bandwidth session default 128"
+    ∷ added ++ codes " no shutdown" ∷ codes "end" ∷ []
+
+abbrev pub default_technology : List (List ℕ)
+default_technology = codes " gw-type-prefix 1#* default-technology" ∷ []
+
+-- a terminal and a gateway in gk-a, two gateways in gk-b, and further requests
+abbrev pub after_endpoints : List (List ℕ) → List (List ℕ)
+after_endpoints requests =
+    codes "RRQ 1 TERM ta gk-a 10.0.1.1:1720 e164=5551000"
+    ∷ codes "RRQ 2 GW ga gk-a 10.0.1.2:1720 tech=1#"
+    ∷ codes "RRQ 3 GW gb1 gk-b 10.0.2.1:1720 tech=1#"
+    ∷ codes "RRQ 4 GW gb2 gk-b 10.0.2.2:1720 tech=1#" ∷ requests
+
+abbrev pub after_registered : List (List ℕ) → List (List ℕ)
+after_registered replies =
+    codes "RCF 1 ta gk-a" ∷ codes "RCF 2 ga gk-a" ∷ codes "RCF 3 gb1 gk-b" ∷ codes "RCF 4 gb2 gk-b"
+    ∷ replies
+
+-- the longest pattern, the cheaper zone, a hop-off zone, and a technology prefix alone
+abbrev pub ByPatternCostAndHopoff : Type 0
+ByPatternCostAndHopoff = Writes stated
+    (dial_plan default_technology []
+    ++ after_endpoints (codes "ARQ 5 ta 1001 4085551234 640" ∷ codes "ARQ 6 ta 1002 40855512345 640"
+    ∷ codes "ARQ 7 ta 1003 9123 640" ∷ codes "ARQ 8 ta 1004 2#4085551234 640"
+    ∷ codes "ARQ 9 ta 1005 1# 640" ∷ []))
+    (after_registered (codes "ACF 5 1001 GW gb1 10.0.2.1:1720 640"
+    ∷ codes "ACF 6 1002 GW ga 10.0.1.2:1720 640" ∷ codes "ACF 7 1003 ZONE gk-y 10.9.0.2:1719 640"
+    ∷ codes "ACF 8 1004 ZONE gk-x 10.9.0.1:1719 640" ∷ codes "ACF 9 1005 GW ga 10.0.1.2:1720 640"
+    ∷ []))
+
+-- the gateway of the greatest priority, and the next when that has gone
+abbrev pub GreatestPriority : Type 0
+GreatestPriority = Writes stated
+    (dial_plan default_technology (codes " zone prefix gk-b 4085...... gw-priority 10 gb2" ∷ [])
+    ++ after_endpoints (codes "ARQ 5 ta 1001 1#4085551234 640" ∷ codes "URQ 6 gb2"
+    ∷ codes "ARQ 7 ta 1002 1#4085551234 640" ∷ []))
+    (after_registered (codes "ACF 5 1001 GW gb2 10.0.2.2:1720 640" ∷ codes "UCF 6 gb2"
+    ∷ codes "ACF 7 1002 GW gb1 10.0.2.1:1720 640" ∷ []))
+
+-- no gateway of priority 0
+abbrev pub PriorityZero : Type 0
+PriorityZero = Writes stated
+    (dial_plan default_technology (codes " zone prefix gk-b 4085...... gw-priority 0 gb1 gb2" ∷ [])
+    ++ after_endpoints (codes "ARQ 5 ta 1001 1#4085551234 640" ∷ []))
+    (after_registered (codes "ARJ 5 1001 calledPartyNotRegistered no-gateway" ∷ []))
+
+-- digits that no pattern matches are rejected
+abbrev pub UnknownPrefix : Type 0
+UnknownPrefix = Writes stated
+    (dial_plan default_technology (codes " arq reject-unknown-prefix" ∷ [])
+    ++ after_endpoints (codes "ARQ 5 ta 1001 1# 640" ∷ []))
+    (after_registered (codes "ARJ 5 1001 calledPartyNotRegistered unknown-prefix" ∷ []))
+
+-- an alias, and else the default technology
+abbrev pub AliasOrDefault : Type 0
+AliasOrDefault = Writes stated
+    (dial_plan default_technology []
+    ++ after_endpoints (codes "ARQ 5 ga 1001 5551000 640" ∷ codes "ARQ 6 ga 1002 5552000 640"
+    ∷ codes "ARQ 7 ga 1003 5552000 1280" ∷ []))
+    (after_registered (codes "ACF 5 1001 TERM ta 10.0.1.1:1720 640"
+    ∷ codes "ACF 6 1002 GW ga 10.0.1.2:1720 640" ∷ codes "ACF 7 1003 GW ga 10.0.1.2:1720 1280"
+    ∷ []))
+
+-- no default technology is set
+abbrev pub NoDefault : Type 0
+NoDefault = Writes stated
+    (dial_plan [] [] ++ after_endpoints (codes "ARQ 5 ta 1001 5552000 640" ∷ []))
+    (after_registered (codes "ARJ 5 1001 calledPartyNotRegistered no-default" ∷ []))
+
+-- an endpoint that registers again, with other aliases
+abbrev pub OtherAliases : Type 0
+OtherAliases = Writes stated
+    (dial_plan default_technology []
+    ++ after_endpoints (codes "RRQ 5 TERM tb gk-x 10.0.1.9:1720"
+    ∷ codes "RRQ 6 TERM tb - 10.0.1.9 e164=5551000" ∷ codes "RRQ 7 TERM ta gk-a 10.0.1.8"
+    ∷ codes "RRQ 8 TERM ta gk-a 10.0.1.1 e164=5551001" ∷ codes "ARQ 9 ga 1001 5551000 640"
+    ∷ codes "ARQ 10 ga 1002 5551001 640" ∷ codes "RRQ 11 TERM tc - 10.0.1.7 e164=7 e164=7" ∷ []))
+    (after_registered (codes "RRJ 5 tb undefinedReason unknown-zone"
+    ∷ codes "RRJ 6 tb duplicateAlias e164" ∷ codes "RRJ 7 ta duplicateAlias id"
+    ∷ codes "RCF 8 ta gk-a" ∷ codes "ACF 9 1001 GW ga 10.0.1.2:1720 640"
+    ∷ codes "ACF 10 1002 TERM ta 10.0.1.1:1720 640" ∷ codes "RCF 11 tc gk-a" ∷ []))
+
+-- digits of 32 characters, of 33, and with a comma
+abbrev pub LongDigits : Type 0
+LongDigits = Writes stated
+    (dial_plan default_technology []
+    ++ after_endpoints (codes "ARQ 5 ta 1001 90000000000000000000000000000000 640"
+    ∷ codes "ARQ 6 ta 1002 900000000000000000000000000000000 640" ∷ codes "ARQ 7 ta 1003 9,1 640"
+    ∷ []))
+    (after_registered (codes "ACF 5 1001 ZONE gk-y 10.9.0.2:1719 640" ∷ codes "ERR digits"
+    ∷ codes "ERR digits" ∷ []))

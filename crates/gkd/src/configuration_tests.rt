@@ -63,9 +63,7 @@ fn lines_without_effect_change_no_reply(rt: HostRuntime) -> Result<(), Fail> {
         zone remote gk-x example.com 10.9.0.1 1719 cost 7 priority 3\n \
         zone prefix gk-a 408* gw-priority 0 ta\n \
         zone prefix gk-x 9* seq\n \
-        gw-type-prefix 1#* default-technology\n \
-        gw-type-prefix 408 hopoff gk-x\n \
-        arq reject-unknown-prefix\n \
+        gw-type-prefix 1#* hopoff gk-x\n \
         bandwidth total default 1\n \
         bandwidth session zone gk-a 1\n \
         bandwidth remote 1\n \

@@ -21,4 +21,12 @@ pub fn worked_rows()
     ensures full_record { Rows.FullRecord }
     ensures stranger { Rows.Stranger }
     ensures faults { Rows.Faults }
+    ensures by_pattern { Rows.ByPatternCostAndHopoff }
+    ensures greatest { Rows.GreatestPriority }
+    ensures priority_zero { Rows.PriorityZero }
+    ensures unknown_prefix { Rows.UnknownPrefix }
+    ensures alias_or_default { Rows.AliasOrDefault }
+    ensures no_default { Rows.NoDefault }
+    ensures other_aliases { Rows.OtherAliases }
+    ensures long_digits { Rows.LongDigits }
 {}

@@ -16,6 +16,8 @@ pub mod configuration;
 mod configuration_tests;
 #[cfg(test)]
 mod count_tests;
+#[cfg(test)]
+mod dial_plan_tests;
 pub mod laws;
 #[cfg(test)]
 mod registration_tests;
@@ -38,6 +40,9 @@ use gk_protocol::SessionFault;
 use run::RunFault;
 use std::process::ExitCode;
 use std::{env, fs, io};
+
+/// What is said if standard output takes no more.
+const UNWRITTEN: &str = "cannot write standard output";
 
 fn main(rt: HostRuntime) -> io::Result<ExitCode> {
     let words = match words(&rt) {
@@ -72,7 +77,9 @@ fn refuse(rt: &HostRuntime, error: &clap::Error) -> io::Result<ExitCode> {
     if error.kind() == ErrorKind::OutOfMemory {
         return fail(rt, "no memory");
     }
-    error.print(rt)?;
+    if error.print(rt).is_err() {
+        return fail(rt, UNWRITTEN);
+    }
     Ok(ExitCode::from(error.exit_code() as u8))
 }
 
@@ -137,13 +144,15 @@ fn check_file(rt: &HostRuntime, file: &str, prints: bool) -> io::Result<ExitCode
         Ok(()) => Ok(ExitCode::SUCCESS),
         Err(CheckFault::Config(fault)) => refuse_configuration(rt, fault),
         Err(CheckFault::ReadFault(_)) => cannot_read(rt, file),
-        Err(CheckFault::WriteFault) => fail(rt, "cannot write standard output"),
+        Err(CheckFault::WriteFault) => fail(rt, UNWRITTEN),
     }
 }
 
 /// Names the first fault of a configuration on standard output.
 fn refuse_configuration(rt: &HostRuntime, fault: LineFault) -> io::Result<ExitCode> {
-    println!(rt; "{fault}")?;
+    if println!(rt; "{fault}").is_err() {
+        return fail(rt, UNWRITTEN);
+    }
     Ok(ExitCode::from(1))
 }
 

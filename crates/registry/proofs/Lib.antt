@@ -1,1 +1,13 @@
+pub mod EndpointLemmas
 pub mod RegistryLemmas
+pub mod SoundLemmas
+pub mod RegisteringLemmas
+pub mod ServedLemmas
+pub mod RollLemmas
+pub mod RollChanges
+pub mod ListingLemmas
+pub mod ShelfLemmas
+pub mod CopyLemmas
+pub mod ChosenLemmas
+pub mod GatewayLemmas
+pub mod GatewayLaws

@@ -29,11 +29,11 @@ is_some-find p (x ∷ xs) = by (p x) (is_some-find p xs)
     by true rest = refl
     by false rest = rest
 
-found-some : {X : Type 0} (p : X → Bool) (xs : List X) (x : X) → find p xs ≡ Some x
+pub found-some : {X : Type 0} (p : X → Bool) (xs : List X) (x : X) → find p xs ≡ Some x
     → list_any p xs ≡ true
 found-some p xs x h = sym (is_some-find p xs) ∙ ap is_some h
 
-found-none : {X : Type 0} (p : X → Bool) (xs : List X) → find p xs ≡ None → list_any p xs ≡ false
+pub found-none : {X : Type 0} (p : X → Bool) (xs : List X) → find p xs ≡ None → list_any p xs ≡ false
 found-none p xs h = sym (is_some-find p xs) ∙ ap is_some h
 
 -- what one test finds passes no other test that finds nothing
@@ -50,7 +50,7 @@ missed p q (y ∷ xs) x h k = by (p y) (q y) refl h k (missed p q xs x)
     by false false f h k rest = rest h k
 
 -- what one test finds passes another test, so that one passes
-also_passes : {X : Type 0} (p q : X → Bool) (xs : List X) (x : X) → find p xs ≡ Some x → q x ≡ true
+pub also_passes : {X : Type 0} (p q : X → Bool) (xs : List X) (x : X) → find p xs ≡ Some x → q x ≡ true
     → list_any q xs ≡ true
 also_passes p q xs x h k = by (find q xs) refl
   where
@@ -62,7 +62,7 @@ also_passes p q xs x h k = by (find q xs) refl
 abbrev pub Keyed : Entries → Type 0
 Keyed entries = AllByRecursion (λ e. e.0 ≡ e.1.id) entries
 
-same_id : (id : List ℕ) (e : List ℕ × EndpointParts) → e.0 ≡ e.1.id
+pub same_id : (id : List ℕ) (e : List ℕ × EndpointParts) → e.0 ≡ e.1.id
     → bytes_eq id e.0 ≡ has_id id e.1
 same_id id e h = ap (bytes_eq id) h ∙ nat_list_eq_equiv.symm id e.1.id
 
@@ -118,7 +118,7 @@ entry_missed p (e ∷ es) id f h k = by (bytes_eq id e.0) (p e.1) refl h k (entr
     by false false q h k rest = rest h k
 
 -- an entry has the ID by which it was found
-entry_id : (entries : Entries) (id : List ℕ) (f : EndpointParts) → Keyed entries
+pub entry_id : (entries : Entries) (id : List ℕ) (f : EndpointParts) → Keyed entries
     → kept_endpoint_of entries id ≡ Some f → bytes_eq f.id id ≡ true
 entry_id entries id f h found =
     find_passes (has_id id) (values_of entries) f (sym (entry_found id entries h) ∙ found)
@@ -160,10 +160,10 @@ Keyed-remove id (e ∷ es) h = by (bytes_eq id e.0) (Keyed-remove id es h.1)
     by false rest = (h.0, rest)
 
 -- ---- registration
-abbrev put_at : EndpointParts → List EndpointParts → ℕ → List EndpointParts
+abbrev pub put_at : EndpointParts → List EndpointParts → ℕ → List EndpointParts
 put_at e endpoints place = take place endpoints ++ e ∷ drop (place + 1) endpoints
 
-put_later : (e f : EndpointParts) (endpoints : List EndpointParts) (place : ℕ)
+pub put_later : (e f : EndpointParts) (endpoints : List EndpointParts) (place : ℕ)
     → put_at e (f ∷ endpoints) (1 + place) ≡ f ∷ put_at e endpoints place
 put_later e f endpoints place =
     let one : 1 + place ≡ suc place = omega arith in
@@ -214,7 +214,7 @@ entry_at entries (Some owner) = kept_endpoint_of entries owner
 
 module _ (entries : Entries) (owners : Owners) (h : IsIndexed entries owners) where
   -- an alias of an endpoint leads to its ID
-  leads : (alias id : List ℕ) (f : EndpointParts) → kept_endpoint_of entries id ≡ Some f
+  pub leads : (alias id : List ℕ) (f : EndpointParts) → kept_endpoint_of entries id ≡ Some f
       → has_alias f alias ≡ true → owner_of owners alias ≡ Some id
   leads alias id f there has =
       by (owner_of owners alias) (h.owned alias id ∙ ap (found_with alias) there ∙ has)

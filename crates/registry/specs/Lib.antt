@@ -1,3 +1,10 @@
 pub mod Endpoint
+pub mod Gateway
 pub mod Registration
 pub mod RegistryIndex
+pub mod Registering
+pub mod Served
+pub mod Roll
+pub mod Listing
+pub mod Chosen
+pub mod GatewayLaws

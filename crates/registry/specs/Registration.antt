@@ -1,7 +1,14 @@
 -- A list of endpoints: who is found, who may register, and what a registration changes.
-use Rattle.std.specs.Prelude.{ℕ, ◌+◌, ◌==◌, Bool, not, ◌&&◌, List, ◌∷◌, ◌++◌, take, drop, find, filter, Option, bytes_eq}
+use Rattle.std.specs.Prelude.{◌≡◌, ◌≤◌, ℕ, ◌+◌, ◌==◌, Bool, true, not, ◌&&◌, nat_le, List, ◌∷◌, ◌++◌, length, take, drop, slice_get, find, filter, Option, Some, None, Result, Ok, Err, bytes_eq, if◌then◌else◌}
 use Rattle.std.specs.List.{list_any, position_or_len}
 use Rattle.gk_terms.specs.Address.{AddressParts}
+use Rattle.command_reader.specs.declared.commands.Command.{Command}
+use Rattle.command_reader.specs.Zones.{is_local}
+use Rattle.compiler.specs.Zones.{zone_meant}
+use Rattle.registry.specs.declared.faults.Duplicate.{Duplicate}
+use Rattle.registry.specs.declared.faults.Duplicate.TheVariants.{Id, E164}
+use Rattle.registry.specs.declared.faults.RegistryFault.{RegistryFault}
+use Rattle.registry.specs.declared.faults.RegistryFault.TheVariants.{UnknownZone, DuplicateAlias, TooMany, NotRegistered}
 use Rattle.registry.specs.Endpoint.{EndpointParts, has_alias, share_alias}
 
 -- the endpoint with this ID
@@ -22,6 +29,7 @@ by_alias endpoints zone number = find (λ e. bytes_eq e.zone zone && has_alias e
 abbrev pub same_address : AddressParts → AddressParts → Bool
 same_address a b = bytes_eq a.ip b.ip && (a.port == b.port)
 
+-- ---- who may register
 -- this ID is registered from another address
 abbrev pub id_is_taken : List EndpointParts → EndpointParts → Bool
 id_is_taken endpoints e =
@@ -31,6 +39,23 @@ id_is_taken endpoints e =
 abbrev pub alias_is_taken : List EndpointParts → EndpointParts → Bool
 alias_is_taken endpoints e = list_any (λ f. not (has_id e.id f) && share_alias f e) endpoints
 
+-- why an endpoint may not register, room aside: the first of three refusals, in the words of whoever
+-- asks
+abbrev pub registration_refusal : {A : Type 0} → A → (Duplicate → A) → List Command
+    → List EndpointParts → EndpointParts → Option A
+registration_refusal unknown_zone duplicate commands endpoints e =
+    if is_local commands (zone_meant commands e.zone)
+    then (if id_is_taken endpoints e then Some (duplicate Id)
+    else (if alias_is_taken endpoints e then Some (duplicate E164) else None))
+    else Some unknown_zone
+
+-- the same in the words of a registry
+abbrev pub registration_fault : List Command → List EndpointParts → EndpointParts
+    → Option RegistryFault
+registration_fault commands endpoints e =
+    registration_refusal UnknownZone DuplicateAlias commands endpoints e
+
+-- ---- what changes
 -- the endpoint in the place of the one with its ID, or else at the end
 abbrev pub with_endpoint : List EndpointParts → EndpointParts → List EndpointParts
 with_endpoint endpoints e =
@@ -40,3 +65,56 @@ with_endpoint endpoints e =
 -- without the endpoint of this ID
 abbrev pub without_endpoint : List EndpointParts → List ℕ → List EndpointParts
 without_endpoint endpoints id = filter (λ e. not (has_id id e)) endpoints
+
+-- the endpoint in the zone that it means
+abbrev pub in_zone_meant : List Command → EndpointParts → EndpointParts
+in_zone_meant commands e = record e { zone = zone_meant commands e.zone }
+
+-- ---- a registry
+-- the endpoints in order of registration, and how many there may be
+pub record RegistryParts : Type 0 where
+  pub endpoints : List EndpointParts
+  pub most : ℕ
+
+-- a new endpoint, and as many as there may be
+abbrev pub is_full_for : RegistryParts → EndpointParts → Bool
+is_full_for r e = not (is_registered r.endpoints e.id) && nat_le r.most (length r.endpoints)
+
+-- the registry after a registration that no refusal meets
+abbrev pub registered_unless : List Command → RegistryParts → EndpointParts
+    → Option RegistryFault → Result RegistryParts RegistryFault
+registered_unless commands r e (Some fault) = Err fault
+registered_unless commands r e None =
+    if is_full_for r e then Err TooMany
+    else Ok (record r { endpoints = with_endpoint r.endpoints (in_zone_meant commands e) })
+
+-- the registry after a registration: one of the three refusals, then room
+abbrev pub registered_in : List Command → RegistryParts → EndpointParts
+    → Result RegistryParts RegistryFault
+registered_in commands r e =
+    registered_unless commands r e (registration_fault commands r.endpoints e)
+
+-- the registry after an unregistration
+abbrev pub unregistered_in : RegistryParts → List ℕ → Result RegistryParts RegistryFault
+unregistered_in r id =
+    if is_registered r.endpoints id then Ok (record r { endpoints = without_endpoint r.endpoints id })
+    else Err NotRegistered
+
+-- ---- what every registry keeps
+-- endpoints with different IDs
+abbrev pub HaveDifferentIds : List EndpointParts → Type 0
+HaveDifferentIds endpoints =
+    (e f : EndpointParts) (i j : ℕ)
+    → slice_get endpoints i ≡ Some e → slice_get endpoints j ≡ Some f → e.id ≡ f.id → i ≡ j
+
+-- no alias belongs to two of them
+abbrev pub ShareNoAlias : List EndpointParts → Type 0
+ShareNoAlias endpoints =
+    (alias : List ℕ) (e f : EndpointParts) (i j : ℕ)
+    → slice_get endpoints i ≡ Some e → slice_get endpoints j ≡ Some f
+    → has_alias e alias ≡ true → has_alias f alias ≡ true → i ≡ j
+
+pub record IsRegistry (r : RegistryParts) : Type 0 where
+  pub different : HaveDifferentIds r.endpoints
+  pub unshared : ShareNoAlias r.endpoints
+  pub within : length r.endpoints ≤ r.most

@@ -1,37 +1,72 @@
-//! An endpoint and its copy.
+//! An endpoint's limits and its copy.
 
 use crate::endpoints::{Endpoint, EndpointKind};
-use gk_terms::{Address, Dialled, Name};
+use crate::faults::RegistryFault;
+use gk_terms::{Address, Dialled, Name, TechPrefix};
 use std::alloc::Global;
 use std::test::Fail;
 
-/// A terminal of `gk-a` at 10.0.1.HOST, with these aliases.
-pub fn terminal(alloc: Global, id: &[u8], host: u8, aliases: &[&[u8]]) -> Result<Endpoint, Fail> {
-    let mut endpoint = Endpoint::new(
+const NUMBERS: [&str; 17] = [
+    "1", "2", "3", "4", "5", "6", "7", "8", "9", "10", "11", "12", "13", "14", "15", "16", "17",
+];
+
+/// An endpoint of the zone at 10.0.1.HOST.
+pub fn endpoint_of(
+    alloc: Global,
+    kind: EndpointKind,
+    id: &str,
+    zone: &str,
+    host: u8,
+) -> Result<Endpoint, Fail> {
+    Ok(Endpoint::new(
         alloc,
-        EndpointKind::Terminal,
-        Name::read(id)?,
-        Name::read(b"gk-a")?,
+        kind,
+        Name::read(id.as_bytes())?,
+        Name::read(zone.as_bytes())?,
         Address::new([10, 0, 1, host], 1720),
-    );
-    for alias in aliases {
-        endpoint.add_alias(Dialled::read(alias)?)?;
+    ))
+}
+
+#[test]
+fn takes_sixteen_aliases(rt: HostRuntime) -> Result<(), Fail> {
+    let mut endpoint = endpoint_of(rt.alloc(), EndpointKind::Terminal, "ta", "a", 1)?;
+    for number in &NUMBERS[..16] {
+        endpoint.add_alias(Dialled::read(number.as_bytes())?)?;
     }
-    Ok(endpoint)
+    assert_eq!(rt; endpoint.aliases().len(), 16);
+    // A repeat is none too many, and a seventeenth is.
+    endpoint.add_alias(Dialled::read(b"7")?)?;
+    assert_eq!(rt; endpoint.aliases().len(), 16);
+    let refused = endpoint.add_alias(Dialled::read(NUMBERS[16].as_bytes())?);
+    assert_eq!(rt; refused, Err(RegistryFault::TooMany));
+    assert!(rt; endpoint.has_alias(&Dialled::read(b"16")?));
+    assert!(rt; !endpoint.has_alias(&Dialled::read(b"17")?));
+    Ok(())
+}
+
+#[test]
+fn takes_eight_prefixes(rt: HostRuntime) -> Result<(), Fail> {
+    let mut endpoint = endpoint_of(rt.alloc(), EndpointKind::Gateway, "ga", "a", 1)?;
+    for prefix in &NUMBERS[..8] {
+        endpoint.add_technology(TechPrefix::read(prefix.as_bytes())?)?;
+    }
+    endpoint.add_technology(TechPrefix::read(b"8")?)?;
+    assert_eq!(rt; endpoint.technologies().len(), 8);
+    let refused = endpoint.add_technology(TechPrefix::read(b"9")?);
+    assert_eq!(rt; refused, Err(RegistryFault::TooMany));
+    assert!(rt; endpoint.has_technology(&TechPrefix::read(b"8")?));
+    Ok(())
 }
 
 #[test]
 fn copies(rt: HostRuntime) -> Result<(), Fail> {
-    let endpoint = terminal(rt.alloc(), b"ta", 1, &[b"1", b"2"])?;
-    let copy = endpoint.copy()?;
+    let mut endpoint = endpoint_of(rt.alloc(), EndpointKind::Terminal, "ta", "a", 1)?;
+    endpoint.add_alias(Dialled::read(b"1")?)?;
+    let copy = endpoint.copy()?.in_zone(Name::read(b"b")?);
     assert_eq!(rt; copy.kind(), EndpointKind::Terminal);
-    assert_eq!(rt; copy.id(), Name::read(b"ta")?);
-    assert_eq!(rt; copy.zone(), Name::read(b"gk-a")?);
+    assert_eq!(rt; copy.id().as_str(), "ta");
+    assert_eq!(rt; copy.zone().as_str(), "b");
     assert_eq!(rt; copy.address(), Address::new([10, 0, 1, 1], 1720));
-    let [first, second] = copy.aliases() else {
-        return Err(Fail::new("not two aliases"));
-    };
-    assert_eq!(rt; first.as_str(), "1");
-    assert_eq!(rt; second.as_str(), "2");
+    assert!(rt; copy.has_alias(&Dialled::read(b"1")?));
     Ok(())
 }

@@ -1,10 +1,14 @@
 //! Endpoints as they register.
 
-ghost use Rattle.std.specs.Prelude.{◌≡◌, [], IfOk, OnOk, OnErr};
-ghost use Rattle.registry.specs.Endpoint.{has_alias, with_alias};
+ghost use Rattle.std.specs.Prelude.{◌≡◌, ◌≤◌, [], length, IfOk};
+ghost use Rattle.gk_terms.specs.Outcome.{ChangesUnlessMemory};
+ghost use Rattle.registry.specs.declared.faults.RegistryFault.TheVariants.{NoMemory};
+ghost use Rattle.registry.specs.Endpoint.{has_alias, has_technology, with_alias, with_technology};
 
-use gk_terms::{Address, Dialled, Name};
-use std::alloc::{AllocError, AllocFailed, Global};
+use crate::faults::RegistryFault;
+use gk_terms::limits::{MOST_ALIASES, MOST_TECHNOLOGIES};
+use gk_terms::{Address, Dialled, Name, TechPrefix};
+use std::alloc::{AllocError, Global};
 use std::marker::Model;
 
 /// What an endpoint is, by its registration.
@@ -16,8 +20,8 @@ pub enum EndpointKind {
     Terminal,
 }
 
-/// A registered endpoint: its kind, ID, zone, address and E.164 aliases.
-/// A contract sees it as `EndpointParts`.
+/// A registered endpoint: its kind, ID, zone, address, at most 16 different E.164 aliases and at
+/// most 8 different technology prefixes. A contract sees it as `EndpointParts`.
 #[derive(Drop)]
 pub struct Endpoint {
     kind: EndpointKind,
@@ -25,10 +29,11 @@ pub struct Endpoint {
     zone: Name,
     address: Address,
     aliases: Vec<Dialled>,
+    technologies: Vec<TechPrefix>,
 }
 
 impl Model for Endpoint {
-    ghost use Rattle.registry.specs.Endpoint.{EndpointParts};
+    ghost use Rattle.registry.specs.Endpoint.{EndpointParts, IsWithinLimits};
 
     ghost Value = { EndpointParts };
 
@@ -38,11 +43,21 @@ impl Model for Endpoint {
       zone = e.zone;
       address = e.address;
       aliases = e.aliases.items;
+      technologies = e.technologies.items;
     } };
+
+    ghost invariant = { λ e. IsWithinLimits (record {
+      kind = e.kind;
+      id = e.id;
+      zone = e.zone;
+      address = e.address;
+      aliases = e.aliases.items;
+      technologies = e.technologies.items;
+    }) };
 }
 
 impl Endpoint {
-    /// An endpoint without aliases.
+    /// An endpoint without aliases and technology prefixes. Takes no memory.
     pub fn new(
         alloc: Global,
         kind: EndpointKind,
@@ -50,8 +65,14 @@ impl Endpoint {
         zone: Name,
         address: Address,
     ) -> Endpoint
-        ensures { result
-            ≡ record { kind = kind; id = id; zone = zone; address = address; aliases = [] } }
+        ensures { result ≡ record {
+          kind = kind;
+          id = id;
+          zone = zone;
+          address = address;
+          aliases = [];
+          technologies = [];
+        } }
     {
         Endpoint {
             kind,
@@ -59,10 +80,11 @@ impl Endpoint {
             zone,
             address,
             aliases: Vec::new(alloc),
+            technologies: Vec::new(alloc),
         }
     }
 
-    /// An equal endpoint. Memory may run out.
+    /// An equal endpoint. `AllocError` comes only if memory runs out.
     pub fn copy(&self) -> Result<Endpoint, AllocError>
         ensures { IfOk result (λ copy. copy ≡ self.now) }
     {
@@ -72,19 +94,45 @@ impl Endpoint {
             zone: self.zone,
             address: self.address,
             aliases: self.aliases.clone()?,
+            technologies: self.technologies.clone()?,
         })
     }
 
-    /// Adds an alias. If the endpoint has it already, nothing changes. If memory runs out, nothing
-    /// changes.
-    pub fn add_alias(&mut self, alias: Dialled) -> Result<(), AllocError>
-        ensures ok { OnOk result (self.new ≡ with_alias self.old alias) }
-        ensures err { OnErr result (self.new ≡ self.old) }
+    /// Adds an alias after the others. Nothing changes if the endpoint has it already. A
+    /// seventeenth is `TooMany`. If memory runs out it is `NoMemory`. After an error nothing has
+    /// changed.
+    pub fn add_alias(&mut self, alias: Dialled) -> Result<(), RegistryFault>
+        ensures { ChangesUnlessMemory NoMemory self.old self.new (with_alias self.old alias)
+            result }
     {
         if self.has_alias(&alias) {
             return Ok(());
         }
-        self.aliases.push(alias).map_err(AllocError::from)
+        if self.aliases.len() >= MOST_ALIASES {
+            return Err(RegistryFault::TooMany);
+        }
+        match self.aliases.push(alias) {
+            Ok(()) => Ok(()),
+            Err(_) => Err(RegistryFault::NoMemory),
+        }
+    }
+
+    /// Adds a technology prefix after the others. Nothing changes if the endpoint has it already. A
+    /// ninth is `TooMany`. If memory runs out it is `NoMemory`. After an error nothing has changed.
+    pub fn add_technology(&mut self, prefix: TechPrefix) -> Result<(), RegistryFault>
+        ensures { ChangesUnlessMemory NoMemory self.old self.new (with_technology self.old prefix)
+            result }
+    {
+        if self.has_technology(&prefix) {
+            return Ok(());
+        }
+        if self.technologies.len() >= MOST_TECHNOLOGIES {
+            return Err(RegistryFault::TooMany);
+        }
+        match self.technologies.push(prefix) {
+            Ok(()) => Ok(()),
+            Err(_) => Err(RegistryFault::NoMemory),
+        }
     }
 
     /// Whether the alias is one of the endpoint's.
@@ -92,6 +140,13 @@ impl Endpoint {
         ensures { result ≡ has_alias self.now alias.now }
     {
         self.aliases.contains(alias)
+    }
+
+    /// Whether the technology prefix is one of the endpoint's.
+    pub fn has_technology(&self, prefix: &TechPrefix) -> bool
+        ensures { result ≡ has_technology self.now prefix.now }
+    {
+        self.technologies.contains(prefix)
     }
 
     /// What the endpoint is.
@@ -122,11 +177,20 @@ impl Endpoint {
         self.address
     }
 
-    /// Its E.164 aliases, in the order in which they were given.
+    /// Its E.164 aliases, at most 16, in the order in which they were given.
     pub fn aliases(&self) -> &[Dialled]
-        ensures { result.now ≡ self.now.aliases }
+        ensures value { result.now ≡ self.now.aliases }
+        ensures within { length result.now ≤ MOST_ALIASES }
     {
         &self.aliases
+    }
+
+    /// Its technology prefixes, at most 8, in the order in which they were given.
+    pub fn technologies(&self) -> &[TechPrefix]
+        ensures value { result.now ≡ self.now.technologies }
+        ensures within { length result.now ≤ MOST_TECHNOLOGIES }
+    {
+        &self.technologies
     }
 
     /// The same endpoint in another zone.

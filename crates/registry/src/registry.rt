@@ -1,185 +1,214 @@
-//! The registered endpoints, in order of registration, found by ID and by alias without a scan.
+//! The registered endpoints: who may register, and who is found.
 
-ghost use Rattle.std.specs.Prelude.{◌≡◌, ◌≤◌, [], false, length, slice_get, OnOk, OnErr};
+ghost use Rattle.std.specs.Prelude.{◌≡◌, [], Some, false, length, slice_get, IfOk, IfSome};
 ghost use Rattle.std.specs.Option.{option_copied};
-ghost use Rattle.std.specs.List.{list_any};
-ghost use Rattle.std.specs.HashMap.{spare};
-ghost use Rattle.registry.specs.Registration.{endpoint_of, by_alias, is_registered, id_is_taken, alias_is_taken, with_endpoint, without_endpoint};
-ghost use Rattle.registry.specs.RegistryIndex.{Forgets, LeadTo, aliases_of, is_another, owner_of};
+ghost use Rattle.gk_terms.specs.Outcome.{Changes, ChangesUnlessMemory};
+ghost use Rattle.registry.specs.declared.faults.RegistryFault.TheVariants.{NoMemory};
+ghost use Rattle.registry.specs.Registration.{IsRegistry, endpoint_of, is_registered, by_alias, is_full_for, alias_is_taken, registration_fault, registered_in, unregistered_in};
+ghost use Rattle.compiler.specs.Plan.{row_meant};
+ghost use Rattle.registry.specs.Gateway.{gateway_of};
+ghost use Rattle.registry.specs.Registering.{fault_among, placed_in, registered_among};
 
 use crate::endpoints::Endpoint;
-use gk_terms::{Dialled, Name};
+use crate::faults::{Duplicate, RegistryFault};
+use crate::shelf::Shelf;
+use compiler::{RowNo, Tables};
+use gk_terms::{Dialled, Name, TechPrefix};
 use indexmap::IndexMap;
 use std::alloc::{AllocError, Global};
-use std::collections::HashMap;
 use std::marker::Model;
 
-/// The registered endpoints: by ID, in order of registration, and the ID to which each E.164 alias
-/// leads. A contract sees the list of the endpoints.
+/// The registered endpoints, in order of registration, and how many there may be. A contract sees it
+/// as `RegistryParts`.
 #[derive(Drop)]
 pub struct Registry {
-    endpoints: IndexMap<Name, Endpoint>,
-    owners: HashMap<Dialled, Name>,
+    shelf: Shelf,
+    most: u32,
+    alloc: Global,
 }
 
 impl Model for Registry {
-    ghost use Rattle.std.specs.Prelude.{List};
-    ghost use Rattle.std.specs.Map.{values_of};
-    ghost use Rattle.registry.specs.Endpoint.{EndpointParts};
-    ghost use Rattle.registry.specs.RegistryIndex.{IsIndexed};
+    ghost use Rattle.std.specs.Prelude.{◌≤◌, length};
+    ghost use Rattle.registry.specs.Registration.{RegistryParts};
+    ghost use Rattle.registry.specs.Roll.{endpoints_of};
 
-    ghost Value = { List EndpointParts };
+    ghost Value = { RegistryParts };
 
-    ghost view = { λ r. values_of r.endpoints.entries };
+    ghost view = { λ r. record { endpoints = endpoints_of r.shelf; most = r.most } };
 
-    ghost invariant = { λ r. IsIndexed r.endpoints.entries r.owners.entries };
+    ghost invariant = { λ r. length (endpoints_of r.shelf) ≤ r.most };
 }
 
 impl Registry {
-    /// No endpoints.
-    pub fn new(alloc: Global) -> Registry
-        ensures { result ≡ [] }
+    /// No endpoints, and how many there may be. Takes no memory.
+    pub fn new(alloc: Global, most: u32) -> Registry
+        ensures { result ≡ record { endpoints = []; most = most } }
     {
         Registry {
-            endpoints: IndexMap::new(alloc),
-            owners: HashMap::new(alloc),
+            shelf: Shelf::new(alloc),
+            most,
+            alloc,
         }
     }
 
     /// The number of endpoints.
     pub fn len(&self) -> usize
-        ensures { result ≡ length self.now }
+        ensures value { result ≡ length self.now.endpoints }
+        ensures sound { IsRegistry self.now }
     {
-        self.endpoints.len()
+        self.shelf.len()
     }
 
-    /// The endpoint at this place in the order of registration, from 0.
+    /// The endpoint at this place in the order of registration, from 0. Its time grows with the place.
     pub fn at(&self, place: usize) -> Option<&Endpoint>
-        ensures { option_copied result ≡ slice_get self.now place }
+        ensures { option_copied result ≡ slice_get self.now.endpoints place }
     {
-        let (_, endpoint) = self.endpoints.get_index(place)?;
-        Some(endpoint)
+        self.shelf.at(place)
     }
 
     /// The endpoint with this ID.
     pub fn endpoint(&self, id: &Name) -> Option<&Endpoint>
-        ensures { option_copied result ≡ endpoint_of self.now id.now }
+        ensures { option_copied result ≡ endpoint_of self.now.endpoints id.now }
     {
-        self.endpoints.get(id)
+        self.shelf.endpoint(id)
     }
 
     /// Whether an endpoint has this ID.
     pub fn is_registered(&self, id: &Name) -> bool
-        ensures { result ≡ is_registered self.now id.now }
+        ensures { result ≡ is_registered self.now.endpoints id.now }
     {
-        self.endpoints.contains_key(id)
+        self.shelf.is_registered(id)
     }
 
     /// The endpoint of that zone with that E.164 alias.
     pub fn by_alias(&self, zone: &Name, number: &Dialled) -> Option<&Endpoint>
-        ensures { option_copied result ≡ by_alias self.now zone.now number.now }
+        ensures { option_copied result ≡ by_alias self.now.endpoints zone.now number.now }
     {
-        let endpoint = self.endpoints.get(self.owners.get(number)?)?;
-        if endpoint.zone() == *zone {
-            Some(endpoint)
-        } else {
-            None
+        self.shelf.by_alias(zone, number)
+    }
+
+    /// The gateway that serves the zone with the prefix, of the greatest priority for the row that
+    /// was used, if one was: of equal priority the one that registered first, and none of priority 0.
+    /// The row is to be one of these tables'; nothing is promised for another. The time grows with
+    /// the number of the gateways that the lines of the row name, and not with that of the
+    /// endpoints.
+    pub fn gateway(
+        &self,
+        tables: &Tables,
+        zone: &Name,
+        prefix: &TechPrefix,
+        row: Option<RowNo>,
+    ) -> Option<&Endpoint>
+        ensures { IfSome (row_meant tables.now.commands row) (λ used. option_copied result
+            ≡ gateway_of tables.now.commands self.now.endpoints zone.now prefix.now used) }
+    {
+        match tables.gateways(row) {
+            Some(named) => self.shelf.chosen(zone, prefix, named),
+            None => {
+                let named = IndexMap::new(self.alloc);
+                self.shelf.chosen(zone, prefix, &named)
+            }
         }
     }
 
-    /// Whether the endpoint's ID is registered from another address.
-    pub fn id_is_taken(&self, endpoint: &Endpoint) -> bool
-        ensures { result ≡ id_is_taken self.now endpoint.now }
+    /// Why the endpoint may not register, room aside: the first of `UnknownZone`, if the zone that it
+    /// means is no local one, `DuplicateAlias(Id)`, if its ID is registered from another address,
+    /// and `DuplicateAlias(E164)`, if an alias is another endpoint's, in whatever zone.
+    pub fn fault_of(&self, endpoint: &Endpoint, tables: &Tables) -> Option<RegistryFault>
+        ensures { result
+            ≡ registration_fault tables.now.commands self.now.endpoints endpoint.now }
     {
-        match self.endpoints.get(&endpoint.id()) {
-            Some(other) => other.address() != endpoint.address(),
-            None => false,
+        self.fault_among(endpoint, tables.local_zone(&endpoint.zone()))
+    }
+
+    /// Registers the endpoint in the zone that it means: in the place of the one with its ID, or else
+    /// after the others. It is refused as `fault_of` says, and then as `TooMany`, if it is a new one
+    /// and there are as many as there may be. If memory runs out it is `NoMemory`; so it is if each
+    /// of the 4,294,967,295 numbers is in use. After an error nothing has changed.
+    pub fn register(&mut self, endpoint: Endpoint, tables: &Tables) -> Result<(), RegistryFault>
+        ensures { ChangesUnlessMemory NoMemory self.old self.new
+            (registered_in tables.now.commands self.old endpoint) result }
+    {
+        let zone = tables.local_zone(&endpoint.zone());
+        self.register_in(endpoint, zone)
+    }
+
+    /// Takes out the endpoint with this ID and gives it. Without one it is `NotRegistered`. Takes no
+    /// memory.
+    pub fn unregister(&mut self, id: &Name) -> Result<Endpoint, RegistryFault>
+        ensures changes { Changes self.old self.new (unregistered_in self.old id.now) result }
+        ensures given { IfOk result (λ e. endpoint_of self.old.endpoints id.now ≡ Some e) }
+    {
+        match self.shelf.remove(id) {
+            Some(endpoint) => Ok(endpoint),
+            None => Err(RegistryFault::NotRegistered),
         }
     }
 
-    /// Whether one of the endpoint's aliases is another endpoint's, in whatever zone.
-    pub fn alias_is_taken(&self, endpoint: &Endpoint) -> bool
-        ensures { result ≡ alias_is_taken self.now endpoint.now }
+    /// An equal registry. `AllocError` comes only if memory runs out.
+    pub fn copy(&self) -> Result<Registry, AllocError>
+        ensures { IfOk result (λ copy. copy ≡ self.now) }
     {
-        is_any_anothers(&self.owners, endpoint.aliases(), &endpoint.id())
+        let most = self.most;
+        Ok(Registry {
+            shelf: self.shelf.copy(self.alloc)?,
+            most,
+            alloc: self.alloc,
+        })
     }
 
-    /// Puts the endpoint in the place of the one with its ID, or else at the end. None of its
-    /// aliases may be another endpoint's; `alias_is_taken` tests that. If memory runs out, nothing
-    /// changes.
-    pub fn put(&mut self, endpoint: Endpoint) -> Result<(), AllocError>
-        requires free { alias_is_taken self.old endpoint ≡ false }
-        ensures ok { OnOk result (self.new ≡ with_endpoint self.old endpoint) }
-        ensures err { OnErr result (self.new ≡ self.old) }
+    /// Why the endpoint may not register in the zone that was looked up, room aside.
+    fn fault_among(&self, endpoint: &Endpoint, zone: Option<Name>) -> Option<RegistryFault>
+        ensures { result ≡ fault_among self.now.endpoints endpoint.now zone }
     {
-        self.endpoints.reserve(1)?;
-        self.owners.reserve(endpoint.aliases().len())?;
-        // There is room now, so that nothing fails half-way.
-        let id = endpoint.id();
-        forget_aliases_of(&mut self.owners, self.endpoints.get(&id));
-        lead(&mut self.owners, endpoint.aliases(), &id);
-        let inserted: Result<_, _> = self.endpoints.insert(id, endpoint);
-        let _ = inserted.unwrap();
-        Ok(())
+        if zone.is_none() {
+            return Some(RegistryFault::UnknownZone);
+        }
+        if self.shelf.id_is_taken(endpoint) {
+            return Some(RegistryFault::DuplicateAlias(Duplicate::Id));
+        }
+        if self.shelf.alias_is_taken(endpoint) {
+            return Some(RegistryFault::DuplicateAlias(Duplicate::E164));
+        }
+        None
     }
 
-    /// Removes the endpoint with this ID, if it is registered. Takes no memory. Its time is linear
-    /// in the number of the endpoints that registered after it: each moves up by one place, so that
-    /// the order of registration is kept.
-    pub fn remove(&mut self, id: &Name)
-        ensures { self.new ≡ without_endpoint self.old id.now }
+    /// Whether the endpoint is a new one and there are as many as there may be.
+    fn is_full_for(&self, endpoint: &Endpoint) -> bool
+        ensures { result ≡ is_full_for self.now endpoint.now }
     {
-        let removed = self.endpoints.shift_remove(id);
-        forget_aliases_of(&mut self.owners, removed.as_ref());
+        !self.shelf.is_registered(&endpoint.id()) && self.most as usize <= self.shelf.len()
     }
-}
 
-/// Whether the alias leads to an ID other than this one.
-fn is_anothers(owners: &HashMap<Dialled, Name>, alias: &Dialled, id: &Name) -> bool
-    ensures { result ≡ is_another id.now (owner_of owners.now.entries alias.now) }
-{
-    match owners.get(alias) {
-        Some(owner) => *owner != *id,
-        None => false,
+    /// Registers the endpoint in the local zone that was looked up for it, if there is one.
+    fn register_in(&mut self, endpoint: Endpoint, zone: Option<Name>) -> Result<(), RegistryFault>
+        ensures { ChangesUnlessMemory NoMemory self.old self.new
+            (registered_among self.old endpoint zone) result }
+    {
+        let Some(zone) = zone else {
+            return Err(RegistryFault::UnknownZone);
+        };
+        if self.shelf.id_is_taken(&endpoint) {
+            return Err(RegistryFault::DuplicateAlias(Duplicate::Id));
+        }
+        if self.shelf.alias_is_taken(&endpoint) {
+            return Err(RegistryFault::DuplicateAlias(Duplicate::E164));
+        }
+        self.place(endpoint, zone)
     }
-}
 
-/// Whether one of the aliases leads to an ID other than this one.
-fn is_any_anothers(owners: &HashMap<Dialled, Name>, aliases: &[Dialled], id: &Name) -> bool
-    ensures { result
-        ≡ list_any (λ alias. is_another id.now (owner_of owners.now.entries alias)) aliases.now }
-{
-    aliases.iter().any(|alias| is_anothers(owners, alias, id))
-}
-
-/// Takes the aliases of the endpoint, if there is one, out of the map.
-fn forget_aliases_of(owners: &mut HashMap<Dialled, Name>, endpoint: Option<&Endpoint>)
-    ensures forgets { Forgets owners.old.entries owners.new.entries
-        (aliases_of (option_copied endpoint.entry)) }
-    ensures room { spare owners.old ≤ spare owners.new }
-{
-    if let Some(endpoint) = endpoint {
-        forget(owners, endpoint.aliases());
-    }
-}
-
-/// Takes these aliases out of the map.
-fn forget(owners: &mut HashMap<Dialled, Name>, aliases: &[Dialled])
-    ensures forgets { Forgets owners.old.entries owners.new.entries aliases.now }
-    ensures room { spare owners.old ≤ spare owners.new }
-{
-    for alias in aliases {
-        let _ = owners.remove(alias);
-    }
-}
-
-/// Makes these aliases lead to this ID. The map has room for them.
-fn lead(owners: &mut HashMap<Dialled, Name>, aliases: &[Dialled], id: &Name)
-    requires room { length aliases.now ≤ spare owners.old }
-    ensures { LeadTo owners.old.entries owners.new.entries aliases.now id.now }
-{
-    for alias in aliases {
-        let inserted: Result<_, _> = owners.insert(*alias, *id);
-        let _ = inserted.unwrap();
+    /// Puts an endpoint that may register into the zone, if there is room.
+    fn place(&mut self, endpoint: Endpoint, zone: Name) -> Result<(), RegistryFault>
+        requires free { alias_is_taken self.old.endpoints endpoint ≡ false }
+        ensures { ChangesUnlessMemory NoMemory self.old self.new
+            (placed_in self.old endpoint zone) result }
+    {
+        if self.is_full_for(&endpoint) {
+            return Err(RegistryFault::TooMany);
+        }
+        match self.shelf.put(endpoint.in_zone(zone), self.alloc) {
+            Ok(()) => Ok(()),
+            Err(_) => Err(RegistryFault::NoMemory),
+        }
     }
 }

@@ -1,5 +1,4 @@
--- An admission that is granted was routed by the longest matching pattern, or by the caller's own
--- zone.
+-- Each admission that is granted goes where its digits lead.
 use Rattle.admission.proofs.RouteLaws.{admissions_are_routed}
 use Rattle.admission.proofs.laws.admissions_are_routed.Goals as goal
 

@@ -1,5 +1,4 @@
--- Each granted admission of a record was routed by the longest matching pattern, or by the caller's
--- own zone.
+-- Each admission that is granted goes where its digits lead.
 use Rattle.admission.proofs.HistoryLaws.{recorded_admissions_are_routed}
 use Rattle.admission.proofs.laws.recorded_admissions_are_routed.Goals as goal
 

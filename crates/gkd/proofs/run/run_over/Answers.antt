@@ -1,7 +1,9 @@
 use Rattle.std.proofs.lemmas.Result.{err_from_is_err_and}
 use Rattle.gk_protocol.specs.CoreAnswers.{MayAnswer}
 use Rattle.gkd.specs.Run.{OpensWithin}
-use Rattle.gkd.proofs.RunLemmas.{run_serves, run_refuses, run_lacks, noted_then}
+use Rattle.std.proofs.Common.{ap}
+use Rattle.gk_lines.specs.LineReader.{LineReaderParts}
+use Rattle.gkd.proofs.RunLemmas.{run_serves, run_refuses, run_lacks, noted_then, turns_within}
 use Rattle.gkd.proofs.run.run_over.Goals as goal
 use Rattle.std.specs.Prelude.{Ok, Err}
 
@@ -36,3 +38,7 @@ pub returns-in_err-replies-clause-writer_noted : goal.returns-in_err-replies-cla
 returns-in_err-replies-clause-writer_noted g c =
     let p = err_from_is_err_and c.from_residual-in_err-replies.result c.from_residual-in_err-replies.ensures.1 in
     rw (p.1, p.2) c.in_err-replies.ensures.writer_noted
+
+pub returns-clause-turns : goal.returns-clause-turns
+returns-clause-turns g c =
+    turns_within _ _ _ _ _ _ 4294967295 (ap (λ (l : LineReaderParts). l.turns) c.new-lines.ensures) c.in_ok-commands.ensures.turns c.in_ok-replies.ensures.turns

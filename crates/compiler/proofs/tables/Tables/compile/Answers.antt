@@ -1,30 +1,59 @@
-use Rattle.std.proofs.Common.{◌≡◌, ap, ◌∙◌}
-use Rattle.std.specs.Prelude.{Err, None}
-use Rattle.digit_patterns.specs.declared.tables.TableFault.{TableFault}
-use Rattle.digit_patterns.specs.Duplicate.{duplicate_of}
-use Rattle.compiler.specs.TablesIndex.{planned_rows_of, places_of}
-use Rattle.compiler.proofs.TableLemmas.{no_duplicate}
+use Rattle.std.proofs.Common.{sym, subst, ◌∙◌, List}
+use Rattle.command_reader.specs.declared.commands.Command.{Command}
+use Rattle.command_reader.specs.Accepted.{IsAccepted}
+use Rattle.command_reader.proofs.AcceptedLemmas.{names_differ, named_declared}
+use Rattle.compiler.specs.Rows.{rows_of}
+use Rattle.compiler.specs.TablesIndex.{IsIndex}
+use Rattle.compiler.proofs.PlanLemmas.{no_duplicate}
+use Rattle.compiler.proofs.TableLemmas.{few_zones}
 use Rattle.compiler.proofs.tables.Tables.compile.Goals as goal
 
--- the rows are of different patterns
-pub unreachable-requires : goal.unreachable-requires
-unreachable-requires c =
-    let plans = c.in_ok-plans.plans.items in
-    let all = planned_rows_of c.in_ok-zones.zones.entries c.args.commands.commands in
-    let none : duplicate_of c.deref-2.result.now ≡ None =
-    ap duplicate_of c.deref-2.ensures.value
-    ∙ no_duplicate c.in_ok-rows.rows.items plans all
-    (c.in_ok-rows.ensures ∙ ap places_of c.deref.ensures.value) c.in_ok-plans.ensures.first in
-    let some = c.build.ensures.duplicate c.in-Err-Duplicate.field-0-0
-    (c.in-Err-Duplicate.is
-    ∙ ap (λ (fault : TableFault). Err fault) c.in-Err-Duplicate.field-0-is) in
-    cc
+pub zones_in-requires : goal.zones_in-requires
+zones_in-requires c =
+    names_differ c.as_slice-lines.result.now
+    (subst IsAccepted (sym c.as_slice-lines.ensures.commands) c.as_slice-lines.ensures.accepted)
+
+pub rows_in-requires : goal.rows_in-requires
+rows_in-requires c =
+    few_zones c.as_slice-lines.result.now c.in_ok-zones.zones.entries c.in_ok-zones.ensures
+    (subst IsAccepted (sym c.as_slice-lines.ensures.commands) c.as_slice-lines.ensures.accepted)
+
+pub prefixes_in-requires-clause-distinct : goal.prefixes_in-requires-clause-distinct
+prefixes_in-requires-clause-distinct c =
+    no_duplicate c.in_ok-rows.rows.entries (rows_of c.as_slice-lines.result.now)
+    c.in_ok-rows.ensures.rows.patterns
+
+pub priorities_in-requires-clause-few_zones : goal.priorities_in-requires-clause-few_zones
+priorities_in-requires-clause-few_zones c =
+    few_zones c.as_slice-lines.result.now c.in_ok-zones.zones.entries c.in_ok-zones.ensures
+    (subst IsAccepted (sym c.as_slice-lines.ensures.commands) c.as_slice-lines.ensures.accepted)
+
+pub technologies_in-requires : goal.technologies_in-requires
+technologies_in-requires c =
+    few_zones c.as_slice-lines.result.now c.in_ok-zones.zones.entries c.in_ok-zones.ensures
+    (subst IsAccepted (sym c.as_slice-lines.ensures.commands) c.as_slice-lines.ensures.accepted)
 
 pub invariant_of-result : goal.invariant_of-result
-invariant_of-result c = record {
-  zones_are = c.in_ok-zones.ensures;
-  local_is = c.first_local_of-first_local.ensures;
-  plans_are = c.in_ok-plans.ensures.first;
-  prefixes_are = c.in-Ok.ensures.built ∙ c.deref-2.ensures.value ∙ c.in_ok-rows.ensures
-      ∙ ap places_of c.deref.ensures.value;
-}
+invariant_of-result c =
+    let lines = c.as_slice-lines.result.now in
+    let accepted : IsAccepted lines =
+    subst IsAccepted (sym c.as_slice-lines.ensures.commands) c.as_slice-lines.ensures.accepted in
+    subst (λ (commands : List Command). IsIndex commands c.in_ok-zones.zones.entries
+    c.in-Some.first_local
+    c.in_ok-rows.rows.entries c.in_ok-prefixes.prefixes c.in_ok-priorities.priorities.entries
+    c.in_ok-technologies.technologies.entries c.default_technology_in-default_technology.result
+    c.rejects_unknown-rejects_unknown.result)
+    c.as_slice-lines.ensures.commands
+    (record {
+      zones_are = c.in_ok-zones.ensures;
+      few_zones = few_zones lines c.in_ok-zones.zones.entries c.in_ok-zones.ensures accepted;
+      local_is = sym c.in-Some.is ∙ c.first_local_in.ensures;
+      rows_are = c.in_ok-rows.ensures.rows;
+      distinct = c.in_ok-rows.ensures.distinct;
+      prefixes_are = c.in_ok-prefixes.ensures;
+      priorities_are = c.in_ok-priorities.ensures;
+      technologies_are = c.in_ok-technologies.ensures;
+      default_is = c.default_technology_in-default_technology.ensures;
+      rejects_is = c.rejects_unknown-rejects_unknown.ensures;
+      declared = named_declared lines accepted;
+    })

@@ -1,16 +1,38 @@
-use Rattle.std.proofs.Common.{ap, ◌∙◌}
-use Rattle.digit_patterns.specs.Table.{best_hit}
+use Rattle.std.proofs.Common.{◌≡◌, ap, sym, subst, ◌∙◌, None, Some}
 use Rattle.command_reader.specs.Configuration.{Configuration}
-use Rattle.compiler.specs.Plan.{plan_of}
-use Rattle.compiler.specs.TablesIndex.{plan_of_hit}
-use Rattle.compiler.proofs.TableLemmas.{plan_by_tables}
+use Rattle.command_reader.specs.Zones.{zones_of}
+use Rattle.compiler.specs.Technology.{technology_of, hopoffs_of}
+use Rattle.compiler.specs.TablesIndex.{best_number}
+use Rattle.compiler.proofs.PlanLemmas.{plan_without_technology}
+use Rattle.compiler.proofs.TableLemmas.{index_longest_none, index_longest, index_hopoff}
 use Rattle.compiler.proofs.tables.Tables.plan.Goals as goal
 
-pub returns : goal.returns
-returns c =
-    let text = c.args.digits.now in
-    c.plan_of_hit.ensures
-    ∙ ap (plan_of_hit c.deref.result.now) c.best.ensures
-    ∙ ap (λ plans. plan_of_hit plans (best_hit c.self.inside.prefixes text)) c.deref.ensures.value
-    ∙ plan_by_tables _ _ _ _ _ c.self.invariant text
-    ∙ ap (λ (configuration : Configuration). plan_of configuration.commands text) c.self.view_is
+pub plan_by_technology-requires-clause-found : goal.plan_by_technology-requires-clause-found
+plan_by_technology-requires-clause-found c =
+    subst (λ (configuration : Configuration). technology_of configuration.commands c.args.digits.now
+    ≡ Some c.in-Some.found.0)
+    c.self.view_is
+    (index_longest _ _ _ _ _ _ _ _ _ c.self.invariant c.args.digits.now c.in-Some.found.0
+    c.in-Some.found.1
+    (rw c.as_bytes.ensures.spells at c.in-Some.ensures))
+
+pub plan_by_technology-requires-clause-hopoff : goal.plan_by_technology-requires-clause-hopoff
+plan_by_technology-requires-clause-hopoff c =
+    subst (λ (configuration : Configuration). c.in-Some.found.1
+    ≡ best_number (zones_of configuration.commands)
+    (hopoffs_of configuration.commands c.in-Some.found.0))
+    c.self.view_is
+    (index_hopoff _ _ _ _ _ _ _ _ _ c.self.invariant c.args.digits.now c.in-Some.found.0
+    c.in-Some.found.1
+    (rw c.as_bytes.ensures.spells at c.in-Some.ensures))
+
+pub returns-in-None : goal.returns-in-None
+returns-in-None c =
+    c.plan_by_row.ensures
+    ∙ ap (λ target. Some target)
+    (sym (plan_without_technology c.args.self.now.commands c.args.digits.now
+    (subst (λ (configuration : Configuration). technology_of configuration.commands
+    c.args.digits.now ≡ None)
+    c.self.view_is
+    (index_longest_none _ _ _ _ _ _ _ _ _ c.self.invariant c.args.digits.now
+    (rw c.as_bytes.ensures.spells at c.in-None.ensures)))))

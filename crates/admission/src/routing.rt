@@ -1,0 +1,162 @@
+//! Where dialled digits lead: the plan of the tables, and then an endpoint of the target zone.
+
+ghost use Rattle.std.specs.Prelude.{◌≡◌, ◌<◌, List, length, Some, None, IfSome, IsSome, option_map, option_and_then};
+ghost use Rattle.std.specs.Option.{option_copied};
+ghost use Rattle.command_reader.specs.declared.commands.Command.{Command};
+ghost use Rattle.command_reader.specs.Zones.{zones_of};
+ghost use Rattle.compiler.specs.Plan as Plans;
+ghost use Rattle.compiler.specs.Zones.{zone_at};
+ghost use Rattle.compiler.specs.Technology.{default_technology_of};
+ghost use Rattle.registry.specs.Registration.{by_alias};
+ghost use Rattle.admission.specs.Routing as Spec;
+
+use crate::routes::{Destination, Route, RouteRefusal};
+use compiler::{Plan, RowNo, Tables, ZoneNo};
+use gk_terms::{Address, Dialled, Name, TechPrefix};
+use registry::{Endpoint, EndpointKind, Registry};
+
+/// Where the digits lead a caller of this zone, by the configuration and the registered endpoints.
+///
+/// A technology prefix with a hop-off zone leads to that zone, and one without is taken off the
+/// digits. The zone of the longest pattern that matches is the target, else the caller's zone,
+/// unless the configuration rejects such digits. A remote zone is the destination itself. In a
+/// local zone it is a gateway for the technology prefix, if there was one; else the endpoint that
+/// has all of the digits as an alias; else a gateway for the default technology, if one is set.
+/// This project's profile, after Cisco's flow for an admission request.
+pub fn route(tables: &Tables, registry: &Registry, caller: &Name, digits: &Dialled) -> Route
+    ensures { result ≡ Spec.route_of
+        tables.now.commands registry.now.endpoints caller.now digits.now }
+{
+    route_of_plan(tables, registry, &tables.plan(digits), caller, digits)
+}
+
+#[tactic(auto, unfolding(crate::specs::Routing::route_of))]
+/// The same by a plan that was made of the digits.
+pub(crate) fn route_of_plan(
+    tables: &Tables,
+    registry: &Registry,
+    plan: &Plan,
+    caller: &Name,
+    digits: &Dialled,
+) -> Route
+    requires planned { Plans.target_of tables.now.commands plan.now
+        ≡ Some (Plans.plan_of tables.now.commands digits.now) }
+    ensures { result ≡ Spec.route_of
+        tables.now.commands registry.now.endpoints caller.now digits.now }
+{
+    match plan {
+        Plan::Remote(zone) => to_remote(tables, *zone),
+        Plan::Local {
+            zone,
+            technology,
+            row,
+        } => {
+            let name = zone_name(tables, *zone);
+            in_local_zone(tables, registry, &name, *row, digits, technology)
+        }
+        Plan::Caller { technology } => {
+            in_local_zone(tables, registry, caller, None, digits, technology)
+        }
+        Plan::UnknownPrefix => Route::Refused(RouteRefusal::UnknownPrefix),
+    }
+}
+
+/// The zone to which a plan leads a caller of this zone.
+pub(crate) fn target_zone(tables: &Tables, plan: &Plan, caller: &Name) -> Name
+    requires { IsSome (Plans.target_of tables.now.commands plan.now) }
+    ensures { IfSome (Plans.target_of tables.now.commands plan.now)
+        (λ target. result ≡ Plans.zone_of_target caller.now target) }
+{
+    match plan {
+        Plan::Remote(zone) | Plan::Local { zone, .. } => zone_name(tables, *zone),
+        Plan::Caller { .. } | Plan::UnknownPrefix => *caller,
+    }
+}
+
+/// Whether a plan leads to a zone of another gatekeeper.
+pub(crate) fn is_remote(plan: &Plan) -> bool
+    ensures { (commands : List Command) → IfSome (Plans.target_of commands plan.now)
+        (λ target. result ≡ Plans.is_remote target) }
+{
+    matches!(plan, Plan::Remote(_))
+}
+
+/// The name of a zone.
+fn zone_name(tables: &Tables, zone: ZoneNo) -> Name
+    requires { zone < length (zones_of tables.now.commands) }
+    ensures { option_map (λ found. found.0) (zone_at tables.now.commands zone) ≡ Some result }
+{
+    tables.zone(zone).name
+}
+
+/// To the gatekeeper of a remote zone.
+fn to_remote(tables: &Tables, zone: ZoneNo) -> Route
+    requires { IsSome (option_and_then Plans.remote_target (zone_at tables.now.commands zone)) }
+    ensures { IfSome (option_and_then Plans.remote_target (zone_at tables.now.commands zone))
+        (λ target. Spec.remote_route target ≡ Some result) }
+{
+    let view = tables.zone(zone);
+    match view.address {
+        Some(address) => Route::To(Destination::Zone {
+            name: view.name,
+            address,
+        }),
+        None => unreachable!(),
+    }
+}
+
+/// Where the digits lead in a local zone, by the technology prefix with which they begin.
+fn in_local_zone(
+    tables: &Tables,
+    registry: &Registry,
+    zone: &Name,
+    row: Option<RowNo>,
+    digits: &Dialled,
+    technology: &Option<TechPrefix>,
+) -> Route
+    ensures { IfSome (Plans.row_meant tables.now.commands row) (λ used. result
+        ≡ Spec.in_local_zone tables.now.commands registry.now.endpoints zone.now used digits.now
+        technology.now) }
+{
+    match technology {
+        Some(prefix) => to_gateway(registry.gateway(tables, zone, prefix, row)),
+        None => match registry.by_alias(zone, digits) {
+            Some(endpoint) => Route::To(destination_of(endpoint)),
+            None => by_default(tables, registry, zone, row),
+        },
+    }
+}
+
+/// To a gateway of the zone for the default technology, if one is set.
+fn by_default(tables: &Tables, registry: &Registry, zone: &Name, row: Option<RowNo>) -> Route
+    ensures { IfSome (Plans.row_meant tables.now.commands row) (λ used. result
+        ≡ Spec.by_default tables.now.commands registry.now.endpoints zone.now used
+        (default_technology_of tables.now.commands)) }
+{
+    match tables.default_technology() {
+        Some(prefix) => to_gateway(registry.gateway(tables, zone, &prefix, row)),
+        None => Route::Refused(RouteRefusal::NoDefault),
+    }
+}
+
+/// To the gateway that was chosen, if there is one.
+fn to_gateway(chosen: Option<&Endpoint>) -> Route
+    ensures { result ≡ Spec.to_gateway (option_copied chosen.entry) }
+{
+    match chosen {
+        Some(gateway) => Route::To(destination_of(gateway)),
+        None => Route::Refused(RouteRefusal::NoGateway),
+    }
+}
+
+/// An endpoint as a destination, by its registered kind.
+fn destination_of(endpoint: &Endpoint) -> Destination
+    ensures { result ≡ Spec.destination_of endpoint.now.kind endpoint.now }
+{
+    let id = endpoint.id();
+    let address = endpoint.address();
+    match endpoint.kind() {
+        EndpointKind::Gateway => Destination::Gateway { id, address },
+        EndpointKind::Terminal => Destination::Terminal { id, address },
+    }
+}

@@ -1,0 +1,109 @@
+//! The patterns of the `zone prefix` commands, each with the zone that is picked for it.
+
+ghost use Rattle.std.specs.Prelude.{◌≡◌, ◌≤◌, ◌+◌, ℕ, List, length, IfOk, OnOk, Some, None, if◌then◌else◌};
+ghost use Rattle.std.specs.List.{IsDistinct};
+ghost use Rattle.std.specs.Map.{keys_of};
+ghost use Rattle.gk_terms.specs.declared.limits.TheConstants.{MOST_LINES, MOST_ZONES};
+ghost use Rattle.digit_patterns.specs.PatternParts.{PatternParts};
+ghost use Rattle.digit_patterns.specs.Pattern.{same_pattern};
+ghost use Rattle.digit_patterns.specs.Duplicate.{duplicate_of};
+ghost use Rattle.compiler.specs.Rows.{row_of};
+ghost use Rattle.compiler.specs.TablesIndex.{AreRows, number_in, zone_at_pattern, better_in, with_pattern, places_of};
+
+use crate::picking::better;
+use crate::plans::ZoneNo;
+use crate::zone_table::number_of;
+use command_reader::{Command, ZoneKind};
+use digit_patterns::{Pattern, PlainTable, TableFault};
+use gk_terms::Name;
+use gk_terms::limits::MOST_LINES;
+use indexmap::IndexMap;
+use std::alloc::{AllocError, Global};
+
+/// The different patterns, in the order of their first lines, each with the number of the zone that
+/// is picked for it from those of all its lines.
+pub(crate) fn rows_in(
+    alloc: Global,
+    commands: &[Command],
+    zones: &IndexMap<Name, ZoneKind>,
+) -> Result<IndexMap<Pattern, ZoneNo>, AllocError>
+    requires { length zones.now.entries ≤ MOST_ZONES }
+    ensures rows { IfOk result (λ rows. AreRows zones.now.entries commands.now rows.entries) }
+    ensures few { IfOk result (λ rows. length rows.entries ≤ length commands.now) }
+    ensures distinct { IfOk result (λ rows. IsDistinct same_pattern (keys_of rows.entries)) }
+{
+    let mut rows = IndexMap::new(alloc);
+    for command in commands {
+        if let Some(row) = row_of(command) {
+            add_row(&mut rows, zones, row)?;
+        }
+    }
+    Ok(rows)
+}
+
+/// The pattern of a command, and the zone that it is declared for, if it is a `zone prefix`.
+pub(crate) fn row_of(command: &Command) -> Option<(Pattern, Name)>
+    ensures { result ≡ row_of command.now }
+{
+    match command {
+        Command::ZonePrefix { zone, pattern, .. } => Some((*pattern, *zone)),
+        _ => None,
+    }
+}
+
+/// Adds a pattern, if it is new, and one more zone that it is declared for.
+fn add_row(
+    rows: &mut IndexMap<Pattern, ZoneNo>,
+    zones: &IndexMap<Name, ZoneKind>,
+    row: (Pattern, Name),
+) -> Result<(), AllocError>
+    requires { length zones.now.entries ≤ MOST_ZONES }
+    ensures picked { OnOk result ((pattern : PatternParts)
+        → zone_at_pattern rows.new.entries pattern ≡ (if same_pattern row.0 pattern
+        then better_in zones.now.entries (zone_at_pattern rows.old.entries row.0)
+        (number_in zones.now.entries row.1)
+        else zone_at_pattern rows.old.entries pattern)) }
+    ensures patterns { OnOk result
+        (keys_of rows.new.entries ≡ with_pattern (keys_of rows.old.entries) row.0) }
+    ensures few { OnOk result (length rows.new.entries ≤ length rows.old.entries + 1) }
+    ensures distinct { OnOk result (IsDistinct same_pattern (keys_of rows.new.entries)) }
+{
+    let (pattern, zone) = row;
+    let best = better(zones, rows.get(&pattern).copied(), number_of(zones, &zone));
+    rows.insert(pattern, best)?;
+    Ok(())
+}
+
+/// The table of the patterns, each with the place of its row.
+pub(crate) fn prefixes_in(
+    alloc: Global,
+    rows: &IndexMap<Pattern, ZoneNo>,
+) -> Result<PlainTable, AllocError>
+    requires few { length rows.now.entries ≤ MOST_LINES }
+    requires distinct { duplicate_of rows.now.entries ≡ None }
+    ensures { IfOk result (λ prefixes. prefixes ≡ places_of rows.now.entries) }
+{
+    let places = places_of(alloc, rows)?;
+    match PlainTable::build(alloc, &places) {
+        Ok(prefixes) => Ok(prefixes),
+        Err(TableFault::NoMemory) => Err(AllocError),
+        Err(TableFault::Duplicate(_)) => unreachable!(),
+    }
+}
+
+/// Each pattern, with the place of its row.
+fn places_of(
+    alloc: Global,
+    rows: &IndexMap<Pattern, ZoneNo>,
+) -> Result<Vec<(Pattern, u32)>, AllocError>
+    requires { length rows.now.entries ≤ MOST_LINES }
+    ensures { IfOk result (λ places. places.items ≡ places_of rows.now.entries) }
+{
+    let mut places = Vec::new(alloc);
+    for place in 0..rows.len() {
+        if let Some((pattern, _)) = rows.get_index(place) {
+            places.push((*pattern, place as u32))?;
+        }
+    }
+    Ok(places)
+}

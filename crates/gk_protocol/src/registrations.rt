@@ -1,0 +1,172 @@
+//! Registration requests, `RRQ`.
+
+ghost use Rattle.std.specs.Prelude.{◌≡◌, ◌⊎◌, ◌==◌, Ok, Err, MatchResult, if◌then◌else◌};
+ghost use Rattle.gk_terms.specs.Dialled.{dialled_of};
+ghost use Rattle.gk_terms.specs.TechPrefix.{tech_prefix_of};
+ghost use Rattle.gk_terms.specs.Fields.{Gives};
+ghost use Rattle.gk_terms.specs.Outcome.{ChangesUnlessMemory};
+ghost use Rattle.gk_terms.specs.Text.{words_of};
+ghost use Rattle.gk_protocol.specs.Requests as Spec;
+
+use crate::request_faults::{NoRequest, RequestFault};
+use crate::request_fields::{SIGNALLING_PORT, kind_field, sequence_field};
+use crate::requests::Request;
+use gk_terms::fields::{address_field, name_field};
+use gk_terms::limits::{MOST_ALIASES, MOST_TECHNOLOGIES};
+use gk_terms::words::Words;
+use gk_terms::{Dialled, Name, TechPrefix};
+use registry::{Endpoint, RegistryFault};
+use std::alloc::Global;
+
+/// An option of a registration.
+#[derive(Clone, Copy)]
+pub(crate) enum RegistrationOption {
+    /// `e164=D`: an E.164 alias.
+    Alias(Dialled),
+    /// `tech=P`: a technology prefix.
+    Technology(TechPrefix),
+}
+
+/// How many options of each kind may still stand, counted as written.
+#[derive(Clone, Copy)]
+pub(crate) struct OptionsLeft {
+    /// 0 to 16.
+    pub aliases: usize,
+    /// 0 to 8.
+    pub technologies: usize,
+}
+
+/// `RRQ seq KIND id zone addr [e164=D] [tech=P] ..`, after its first word.
+pub(crate) fn register(alloc: Global, words: &mut Words<'_>) -> Result<Request, NoRequest>
+    ensures { MatchResult result
+        (λ request. Spec.register_at (words_of words.old) ≡ Ok request)
+        (Spec.IsNoRegistrationAt (words_of words.old)) }
+{
+    let sequence = sequence_field(words)?;
+    let bare = bare_endpoint(alloc, words)?;
+    let endpoint = with_options(sequence, bare, words)?;
+    Ok(Request::Register { sequence, endpoint })
+}
+
+/// Kind, ID, zone and address of a registration, as an endpoint without aliases and technology
+/// prefixes.
+fn bare_endpoint(alloc: Global, words: &mut Words<'_>) -> Result<Endpoint, RequestFault>
+    ensures { Gives (Spec.endpoint_at (words_of words.old)) result (words_of words.new) }
+{
+    let kind = kind_field(words)?;
+    let id = name_field(words, RequestFault::BadName)?;
+    let zone = name_field(words, RequestFault::BadName)?;
+    let address = address_field(words, SIGNALLING_PORT, RequestFault::BadAddress)?;
+    Ok(Endpoint::new(alloc, kind, id, zone, address))
+}
+
+/// The endpoint with the aliases and technology prefixes of its options.
+fn with_options(
+    sequence: u32,
+    mut endpoint: Endpoint,
+    words: &mut Words<'_>,
+) -> Result<Endpoint, NoRequest>
+    ensures { MatchResult result
+        (λ filled. Spec.options_at Spec.all_options endpoint (words_of words.old) ≡ Ok filled)
+        (Spec.AreNoOptionsAt sequence endpoint (words_of words.old)) }
+{
+    let id = endpoint.id();
+    let mut left = OptionsLeft {
+        aliases: MOST_ALIASES,
+        technologies: MOST_TECHNOLOGIES,
+    };
+    for word in words {
+        let option = option_of(&left, word)?;
+        add_option(&mut endpoint, &option, sequence, &id)?;
+        left = left_after(&left, &option);
+    }
+    Ok(endpoint)
+}
+
+/// The option of a word, if so many more may stand.
+fn option_of(left: &OptionsLeft, word: &[u8]) -> Result<RegistrationOption, RequestFault>
+    ensures { result ≡ Spec.option_of left.now word.now }
+{
+    if let Some(text) = word.strip_prefix(b"e164=") {
+        return alias_option(left.aliases, text);
+    }
+    match word.strip_prefix(b"tech=") {
+        Some(text) => technology_option(left.technologies, text),
+        None => Err(RequestFault::BadOption),
+    }
+}
+
+/// The alias after `e164=`, if so many more may stand.
+fn alias_option(left: usize, text: &[u8]) -> Result<RegistrationOption, RequestFault>
+    ensures { result ≡ (if left == 0 then Err RequestFault.BadOption
+        else Spec.alias_option (dialled_of text.now)) }
+{
+    if left == 0 {
+        return Err(RequestFault::BadOption);
+    }
+    match Dialled::read(text) {
+        Ok(digits) => Ok(RegistrationOption::Alias(digits)),
+        Err(_) => Err(RequestFault::BadDigits),
+    }
+}
+
+/// The technology prefix after `tech=`, if so many more may stand. One star at its end is dropped.
+fn technology_option(left: usize, text: &[u8]) -> Result<RegistrationOption, RequestFault>
+    ensures { result ≡ (if left == 0 then Err RequestFault.BadOption
+        else Spec.technology_option (tech_prefix_of text.now)) }
+{
+    if left == 0 {
+        return Err(RequestFault::BadOption);
+    }
+    match TechPrefix::read(text) {
+        Ok(prefix) => Ok(RegistrationOption::Technology(prefix)),
+        Err(_) => Err(RequestFault::BadDigits),
+    }
+}
+
+/// How many may stand after one more.
+fn left_after(left: &OptionsLeft, option: &RegistrationOption) -> OptionsLeft
+    ensures { result ≡ Spec.left_after left.now option.now }
+{
+    match option {
+        RegistrationOption::Alias(_) => OptionsLeft {
+            aliases: left.aliases.saturating_sub(1),
+            technologies: left.technologies,
+        },
+        RegistrationOption::Technology(_) => OptionsLeft {
+            aliases: left.aliases,
+            technologies: left.technologies.saturating_sub(1),
+        },
+    }
+}
+
+/// Adds an option of a registration by this number and ID, or says why not.
+fn add_option(
+    endpoint: &mut Endpoint,
+    option: &RegistrationOption,
+    sequence: u32,
+    id: &Name,
+) -> Result<(), NoRequest>
+    ensures { MatchResult result
+        (λ _. Spec.with_option endpoint.old option.now ≡ Ok endpoint.new)
+        (λ none. (none ≡ NoRequest.NoMemory sequence id.now)
+        ⊎ ((none ≡ NoRequest.Fault RequestFault.BadOption)
+        × (Spec.with_option endpoint.old option.now ≡ Err RequestFault.BadOption))) }
+{
+    match add(endpoint, option) {
+        Ok(()) => Ok(()),
+        Err(RegistryFault::NoMemory) => Err(NoRequest::NoMemory { sequence, id: *id }),
+        Err(_) => Err(NoRequest::Fault(RequestFault::BadOption)),
+    }
+}
+
+/// Adds an alias or a technology prefix, unless the endpoint has it.
+fn add(endpoint: &mut Endpoint, option: &RegistrationOption) -> Result<(), RegistryFault>
+    ensures { ChangesUnlessMemory RegistryFault.NoMemory endpoint.old endpoint.new
+        (Spec.added endpoint.old option.now) result }
+{
+    match option {
+        RegistrationOption::Alias(digits) => endpoint.add_alias(*digits),
+        RegistrationOption::Technology(prefix) => endpoint.add_technology(*prefix),
+    }
+}

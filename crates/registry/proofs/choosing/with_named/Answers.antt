@@ -1,0 +1,39 @@
+use Rattle.std.proofs.Common.{◌&&◌, nat_lt, sym, ap, subst, ◌∙◌}
+use Rattle.registry.specs.Chosen.{IsBestAt, is_other_than, first_of, named_priority}
+use Rattle.registry.specs.Served.{found_serving}
+use Rattle.registry.proofs.ChosenLemmas.{drop_unknown, drop_failing, looked_at}
+use Rattle.registry.proofs.choosing.with_named.Goals as goal
+
+pub returns-in_default : goal.returns-in_default
+returns-in_default c rest distinct h =
+    drop_unknown c.args.listing.now.entries c.args.named.now.entries c.args.zone.now
+    c.args.prefix.now c.args.id.now c.in_default.ensures rest c.args.best h
+
+pub returns-else-serves-priority : goal.returns-else-serves-priority
+returns-else-serves-priority c rest distinct h =
+    let zone = c.args.zone.now in
+    let prefix = c.args.prefix.now in
+    drop_failing c.args.listing.now.entries c.args.named.now.entries zone prefix
+    c.args.listing.now.next c.args.id.now c.in-Some.number c.in-Some.ensures.0 rest
+    c.args.best h
+    (ap (λ b. b && nat_lt 0 (named_priority c.args.named.now.entries c.args.id.now))
+    (ap (λ found. found_serving found zone prefix) (sym c.at_number.ensures) ∙ sym c.serves.ensures)
+    ∙ ap (λ p. c.serves.result && nat_lt 0 p) (sym c.priority_of-priority.ensures)
+    ∙ c.if-serves-priority.false)
+
+pub returns-then-serves-priority : goal.returns-then-serves-priority
+returns-then-serves-priority c rest distinct h =
+    let zone = c.args.zone.now in
+    let prefix = c.args.prefix.now in
+    let entries = c.args.listing.now.entries in
+    let named = c.args.named.now.entries in
+    let best = looked_at entries named zone prefix
+    c.args.listing.now.next c.args.id.now c.in-Some.number c.in-Some.ensures.0 rest
+    c.args.best h distinct c.in-Some.ensures.1
+    (ap (λ b. b && nat_lt 0 (named_priority c.args.named.now.entries c.args.id.now))
+    (ap (λ found. found_serving found zone prefix) (sym c.at_number.ensures) ∙ sym c.serves.ensures)
+    ∙ ap (λ p. c.serves.result && nat_lt 0 p) (sym c.priority_of-priority.ensures)
+    ∙ c.if-serves-priority.true) in
+    subst (λ b. IsBestAt entries named (is_other_than named zone prefix rest) b.0 b.1)
+    (ap (λ p. first_of c.args.best (p, c.in-Some.number)) (sym c.priority_of-priority.ensures)
+    ∙ sym c.first_of.ensures) best

@@ -1,0 +1,39 @@
+use Rattle.std.proofs.Common.{Some, sym, ap, subst, ◌∙◌}
+use Rattle.registry.specs.Listing.{AreServed}
+use Rattle.registry.specs.Served.{Leaves}
+use Rattle.registry.specs.Roll.{at_number}
+use Rattle.registry.proofs.ListingLemmas.{settled, set_here, taken_back, may_enter, unless_err}
+use Rattle.registry.proofs.listing.Listing.insert.Goals as goal
+
+pub invariant_of-self-in-Ok : goal.invariant_of-self-in-Ok
+invariant_of-self-in-Ok c =
+    let number = c.number_for-number.result in
+    let e = c.args.endpoint in
+    let old = c.self.inside.roll.entries in
+    let new = c.insert.new.self.entries in
+    let entered = unless_err c.enter.result c.enter.ensures.ok
+    (sym c.is_err.ensures.value ∙ c.if-is_err.false) in
+    settled c.self.inside.served c.enter.new.self c.leave-in-Ok.new.self old new number e
+    c.self.invariant entered c.in-Ok.ensures.placed
+    (subst (λ gone. Leaves c.enter.new.self c.leave-in-Ok.new.self number gone (Some e))
+    (c.as_ref.ensures.value ∙ c.in-Ok.ensures.replaced)
+    (subst (Leaves c.enter.new.self c.leave-in-Ok.new.self number _)
+    (c.at_number-in-Ok.ensures ∙ set_here old new number (Some e) c.in-Ok.ensures.placed)
+    c.leave-in-Ok.ensures))
+
+pub invariant_of-self-in-Err : goal.invariant_of-self-in-Err
+invariant_of-self-in-Err c =
+    let number = c.number_for-number.result in
+    let e = c.args.endpoint in
+    let old = c.self.inside.roll.entries in
+    let entered = unless_err c.enter.result c.enter.ensures.ok
+    (sym c.is_err.ensures.value ∙ c.if-is_err.false) in
+    let same = ap (λ r. r.entries) c.in-Err.ensures.err in
+    subst (AreServed c.leave-in-Err.new.self) (sym same)
+    (taken_back c.self.inside.served c.enter.new.self c.leave-in-Err.new.self old number e
+    c.self.invariant (may_enter c.self.inside.served c.enter.new.self number e entered)
+    (subst (λ gone. Leaves c.enter.new.self c.leave-in-Err.new.self number (Some gone)
+    (at_number old number)) c.in-Err.ensures.back
+    (subst (Leaves c.enter.new.self c.leave-in-Err.new.self number (Some c.in-Err.endpoint))
+    (c.at_number-in-Err.ensures ∙ ap (λ es. at_number es number) same)
+    c.leave-in-Err.ensures)))

@@ -1,0 +1,60 @@
+use Rattle.std.proofs.Common.{◌≡◌, ◌+◌, sym, ap, subst, arith}
+use Rattle.std.proofs.lemmas.Result.{MatchResult-at_ok}
+use Rattle.registry.specs.Roll.{IsNumberFor, IsPut, by_id}
+use Rattle.registry.proofs.RollChanges.{roll_reordered, roll_put, put_among, less_than_next}
+use Rattle.registry.proofs.roll.Roll.insert.Goals as goal
+use Rattle.registry.proofs.roll.Roll.insert.Goals.{then-number-self, else-number-self}
+
+pub invariant_of-self-then-number-self : goal.invariant_of-self-then-number-self
+invariant_of-self-then-number-self c =
+    let number = c.args.number in
+    let last = c.if-number-self.true in
+    let fits = subst (λ r. IsNumberFor r c.args.endpoint.id number) (sym c.self.view_is)
+    c.requires.number in
+    let numbered = MatchResult-at_ok _ _ _ c.unwrap.ensures c.insert-numbered.ensures.updates in
+    roll_put c.self.inside.endpoints.entries c.insert.new.self.entries
+    c.self.inside.numbers.entries c.reserve.new.self.entries c.self.inside.next c.self.invariant
+    c.reserve.ensures.entries.2 c.insert-numbered.new.self.entries c.args.endpoint c.id-id.result
+    number c.id-id.ensures fits c.in-Ok.ensures.updates.0 numbered.0 c.insert.ensures.ordered
+    (number + 1) (omega (arith, last)) (omega arith)
+
+pub invariant_of-self-else-number-self : goal.invariant_of-self-else-number-self
+invariant_of-self-else-number-self c =
+    let number = c.args.number in
+    let fits = subst (λ r. IsNumberFor r c.args.endpoint.id number) (sym c.self.view_is)
+    c.requires.number in
+    let numbered = MatchResult-at_ok _ _ _ c.unwrap.ensures c.insert-numbered.ensures.updates in
+    roll_put c.self.inside.endpoints.entries c.insert.new.self.entries
+    c.self.inside.numbers.entries c.reserve.new.self.entries c.self.inside.next c.self.invariant
+    c.reserve.ensures.entries.2 c.insert-numbered.new.self.entries c.args.endpoint c.id-id.result
+    number c.id-id.ensures fits c.in-Ok.ensures.updates.0 numbered.0 c.insert.ensures.ordered
+    c.self.inside.next (omega arith)
+    (less_than_next c.self.inside.endpoints.entries c.self.inside.numbers.entries
+    c.self.inside.next c.self.invariant c.args.endpoint.id number fits c.if-number-self.false)
+
+pub invariant_of-self-in-Err : goal.invariant_of-self-in-Err
+invariant_of-self-in-Err c =
+    roll_reordered c.self.inside.endpoints.entries c.insert.new.self.entries
+    c.self.inside.numbers.entries c.reserve.new.self.entries c.self.inside.next c.self.invariant
+    c.reserve.ensures.entries.2 c.in-Err.ensures.err
+
+pub returns-after-number-self-clause-ok : goal.returns-after-number-self-clause-ok
+returns-after-number-self-clause-ok c =
+    let number = c.args.number in
+    let e = c.args.endpoint in
+    let fits = subst (λ r. IsNumberFor r c.args.endpoint.id number) (sym c.self.view_is)
+    c.requires.number in
+    let numbered = MatchResult-at_ok _ _ _ c.unwrap.ensures c.insert-numbered.ensures.updates in
+    let put = put_among c.self.inside.endpoints.entries c.insert.new.self.entries
+    c.self.inside.numbers.entries c.reserve.new.self.entries c.self.inside.next c.self.invariant
+    c.reserve.ensures.entries.2 c.insert-numbered.new.self.entries e c.id-id.result
+    number c.id-id.ensures fits c.in-Ok.ensures.updates.0 numbered.0 c.insert.ensures.ordered
+    c.in-Ok.ensures.entries in
+    let old = ap (λ r. r.entries) c.self.view_is in
+    let new : c.if-number-self.self.entries ≡ c.insert.new.self.entries =
+    elim c.if-number-self.branch [
+      | then-number-self w ↦ ap (λ r. r.entries) w.self-is
+      | else-number-self w ↦ ap (λ r. r.entries) w.self-is
+    ] in
+    subst (λ es. IsPut (by_id es) (by_id c.if-number-self.self.entries) e) old
+    (subst (λ es. IsPut (by_id c.self.inside.endpoints.entries) (by_id es) e) (sym new) put)

@@ -1,0 +1,45 @@
+use Rattle.std.proofs.Common.{◌∷◌, sym, ap, subst, ◌∙◌}
+use Rattle.registry.specs.Registration.{HaveDifferentIds, ShareNoAlias}
+use Rattle.registry.specs.Roll.{by_id, endpoints_of}
+use Rattle.registry.proofs.SoundLemmas.{different_ids, no_shared_alias}
+use Rattle.registry.proofs.ShelfLemmas.{seen}
+use Rattle.registry.proofs.CopyLemmas.{copy_free, copy_room, copy_more}
+use Rattle.registry.proofs.shelf.Shelf.copy.Goals as goal
+
+pub put_numbered-requires-clause-free : goal.put_numbered-requires-clause-free
+put_numbered-requires-clause-free c =
+    let of_all = seen c.self.inside.listing c.args.self.now c.self.view_is in
+    let entries = by_id c.self.inside.listing.entries in
+    let owners = c.self.inside.owners.entries in
+    copy_free (endpoints_of c.args.self.now) (endpoints_of c.loop-endpoint.copy)
+    c.loop-endpoint.endpoint-iterator c.next.new.self c.in_ok-copy.field-0
+    c.loop-endpoint.copy.next c.loop-endpoint.invariant
+    (c.in-Some.ensures.steps ∙ ap (λ e. e ∷ c.next.new.self) (sym c.in_ok-copy.ensures))
+    (subst HaveDifferentIds of_all (different_ids entries owners c.self.invariant))
+    (subst ShareNoAlias of_all (no_shared_alias entries owners c.self.invariant))
+
+pub put_numbered-requires-clause-room : goal.put_numbered-requires-clause-room
+put_numbered-requires-clause-room c =
+    let of_all = seen c.self.inside.listing c.args.self.now c.self.view_is in
+    let entries = by_id c.self.inside.listing.entries in
+    let owners = c.self.inside.owners.entries in
+    copy_room (endpoints_of c.args.self.now) (endpoints_of c.loop-endpoint.copy)
+    c.loop-endpoint.endpoint-iterator c.next.new.self c.in_ok-copy.field-0
+    c.loop-endpoint.copy.next c.loop-endpoint.invariant
+    (c.in-Some.ensures.steps ∙ ap (λ e. e ∷ c.next.new.self) (sym c.in_ok-copy.ensures))
+    (subst HaveDifferentIds of_all (different_ids entries owners c.self.invariant))
+    (subst ShareNoAlias of_all (no_shared_alias entries owners c.self.invariant))
+    c.requires.few
+
+pub loop-endpoint-preserved : goal.loop-endpoint-preserved
+loop-endpoint-preserved c =
+    let of_all = seen c.self.inside.listing c.args.self.now c.self.view_is in
+    let entries = by_id c.self.inside.listing.entries in
+    let owners = c.self.inside.owners.entries in
+    copy_more (endpoints_of c.args.self.now) (endpoints_of c.loop-endpoint.copy)
+    c.loop-endpoint.endpoint-iterator c.next.new.self c.in_ok-copy.field-0
+    c.loop-endpoint.copy.next c.loop-endpoint.invariant
+    (c.in-Some.ensures.steps ∙ ap (λ e. e ∷ c.next.new.self) (sym c.in_ok-copy.ensures))
+    (subst HaveDifferentIds of_all (different_ids entries owners c.self.invariant))
+    (subst ShareNoAlias of_all (no_shared_alias entries owners c.self.invariant))
+    (endpoints_of c.put_numbered.new.self) c.put_numbered.new.self.next c.in_ok-put_numbered.ensures.ok c.put_numbered.ensures.next

@@ -1,0 +1,10 @@
+use Rattle.std.proofs.Common.{◌≤◌, take}
+use Rattle.std.specs.HashMap.{spare}
+use Rattle.registry.specs.RegistryIndex.{Forgets}
+use Rattle.registry.proofs.shelf.forget.Given as goal
+
+abbrev pub invariant-loop-alias : goal.invariant-loop-alias
+invariant-loop-alias l = record {
+  forgets : Forgets l.fn.owners.entries l.owners.entries (take l.alias-index l.aliases);
+  room : spare l.fn.owners ≤ spare l.owners;
+}

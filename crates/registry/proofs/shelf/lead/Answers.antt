@@ -1,0 +1,20 @@
+use Rattle.std.proofs.Common.{Some, cond, ap, ◌∙◌, arith}
+use Rattle.std.specs.Prelude.{bytes_eq}
+use Rattle.std.proofs.lemmas.Result.{MatchResult-at_ok}
+use Rattle.registry.specs.RegistryIndex.{owner_of}
+use Rattle.registry.proofs.RegistryLemmas.{listed_more}
+use Rattle.registry.proofs.shelf.lead.Goals as goal
+
+pub loop-alias-preserved : goal.loop-alias-preserved
+loop-alias-preserved c =
+    let next = c.alias-item.result in
+    let updates = MatchResult-at_ok _ _ _ c.unwrap.ensures c.insert-inserted.ensures.updates in
+    record {
+      leads_to = λ alias.
+          updates.0 alias
+          ∙ ap (cond (bytes_eq next alias) (Some c.args.id.now))
+          (c.loop-alias.invariant.leads_to alias)
+          ∙ listed_more c.args.aliases.now c.loop-alias.alias-index next alias (Some c.args.id.now)
+          (owner_of c.args.owners.now.entries alias) c.loop-alias-test.true c.alias-item.is;
+      room = omega (arith, c.loop-alias.invariant.room, c.insert-inserted.ensures.spare);
+    }

@@ -1,0 +1,133 @@
+//! Which gateway is chosen for a zone and a technology prefix.
+
+ghost use Rattle.std.specs.Prelude.{◌≡◌, ℕ, [], ◌∷◌, List, Some, unwrap_or, is_some, option_map, bytes_eq};
+ghost use Rattle.std.specs.Option.{option_copied};
+ghost use Rattle.std.specs.Ordering.{nat_cmp};
+ghost use Rattle.std.specs.List.{IsDistinct};
+ghost use Rattle.std.specs.List.Sorted.{IsStrictlySortedBy};
+ghost use Rattle.std.specs.Map.{keys_of, lookup};
+ghost use Rattle.registry.specs.Roll.{endpoints_of};
+ghost use Rattle.registry.specs.Gateway.{gateway_by, is_candidate};
+ghost use Rattle.registry.specs.Chosen.{IsBest, comes_first, first_of, is_other_than, named_priority};
+
+use crate::endpoints::Endpoint;
+use crate::listing::Listing;
+use crate::served::serves;
+use compiler::plans::USUAL_GATEWAY_PRIORITY;
+use gk_terms::{Name, TechPrefix};
+use indexmap::IndexMap;
+
+/// The gateway that serves the zone with the prefix and has the greatest priority above 0, and of
+/// these the one that registered first. Looks at each gateway that is named with a priority, and at
+/// the first one that is not.
+pub fn chosen<'a>(
+    listing: &'a Listing,
+    zone: &Name,
+    prefix: &TechPrefix,
+    named: &IndexMap<Name, u8>,
+) -> Option<&'a Endpoint>
+    ensures { option_copied result
+        ≡ gateway_by (named_priority named.now.entries) (endpoints_of listing.now) zone.now prefix.now }
+{
+    let usual = first_unnamed(listing, zone, prefix, named);
+    let (_, number) = best_named(listing, zone, prefix, named, usual)?;
+    listing.at_number(number)
+}
+
+/// The first gateway that is not named, with the usual priority.
+fn first_unnamed(
+    listing: &Listing,
+    zone: &Name,
+    prefix: &TechPrefix,
+    named: &IndexMap<Name, u8>,
+) -> Option<(u8, u32)>
+    ensures best { IsBest listing.now.entries named.now.entries
+        (is_other_than named.now.entries zone.now prefix.now (keys_of named.now.entries)) result }
+    ensures sorted { IsStrictlySortedBy nat_cmp (keys_of listing.now.entries) }
+{
+    let end = listing.next();
+    let mut from = 0;
+    while let Some(number) = listing.next_serving(zone, prefix, from) {
+        let endpoint = listing.at_number(number)?;
+        if !named.contains_key(&endpoint.id()) {
+            return Some((USUAL_GATEWAY_PRIORITY, number));
+        }
+        prove!(number < end);
+        from = number + 1;
+    }
+    None
+}
+
+/// The best of those that are named and of the one that is given.
+fn best_named(
+    listing: &Listing,
+    zone: &Name,
+    prefix: &TechPrefix,
+    named: &IndexMap<Name, u8>,
+    usual: Option<(u8, u32)>,
+) -> Option<(u8, u32)>
+    requires usual { IsBest listing.now.entries named.now.entries
+        (is_other_than named.now.entries zone.now prefix.now (keys_of named.now.entries)) usual }
+    ensures { IsBest listing.now.entries named.now.entries
+        (is_candidate (named_priority named.now.entries) zone.now prefix.now) result }
+{
+    let mut best = usual;
+    for id in named.keys() {
+        best = with_named(listing, zone, prefix, named, id, best);
+    }
+    best
+}
+
+/// The better of the one that is given and of the gateway with this ID.
+fn with_named(
+    listing: &Listing,
+    zone: &Name,
+    prefix: &TechPrefix,
+    named: &IndexMap<Name, u8>,
+    id: &Name,
+    best: Option<(u8, u32)>,
+) -> Option<(u8, u32)>
+    ensures { (rest : List (List ℕ)) → IsDistinct bytes_eq (id.now ∷ rest)
+        → IsBest listing.now.entries named.now.entries
+        (is_other_than named.now.entries zone.now prefix.now (id.now ∷ rest)) best
+        → IsBest listing.now.entries named.now.entries
+        (is_other_than named.now.entries zone.now prefix.now rest) result }
+{
+    let Some(number) = listing.number(id) else {
+        return best;
+    };
+    let priority = priority_of(named, id);
+    if serves(listing.at_number(number), zone, prefix) & (priority > 0) {
+        Some(first_of(best, (priority, number)))
+    } else {
+        best
+    }
+}
+
+/// The priority that is named for this gateway, or else the usual one.
+fn priority_of(named: &IndexMap<Name, u8>, gateway: &Name) -> u8
+    ensures { result ≡ named_priority named.now.entries gateway.now }
+{
+    match named.get(gateway) {
+        Some(priority) => *priority,
+        None => USUAL_GATEWAY_PRIORITY,
+    }
+}
+
+/// The first of two by priority, and then by number.
+fn first_of(best: Option<(u8, u32)>, other: (u8, u32)) -> (u8, u32)
+    ensures { result ≡ first_of best other }
+{
+    match best {
+        Some(best) if comes_first(best, other) => best,
+        _ => other,
+    }
+}
+
+/// Whether a priority and a number come before another: a greater priority, or the same and no
+/// greater number.
+fn comes_first(one: (u8, u32), other: (u8, u32)) -> bool
+    ensures { result ≡ comes_first one other }
+{
+    other.0 < one.0 || (one.0 == other.0 && one.1 <= other.1)
+}

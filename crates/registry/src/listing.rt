@@ -1,0 +1,151 @@
+//! Endpoints in order of registration, and which gateways serve a zone with a technology prefix.
+
+ghost use Rattle.std.specs.Prelude.{◌≡◌, ◌<◌, ◌≤◌, ◌+◌, ◌^◌, [], Some, None, length, OnOk, OnErr, IfOk, MatchOption, bytes_eq};
+ghost use Rattle.std.specs.Option.{option_copied};
+ghost use Rattle.std.specs.Ordering.{nat_cmp};
+ghost use Rattle.std.specs.List.{IsDistinct};
+ghost use Rattle.std.specs.List.Sorted.{IsStrictlySortedBy};
+ghost use Rattle.std.specs.Map.{keys_of, values_of};
+ghost use Rattle.registry.specs.RegistryIndex.{kept_endpoint_of};
+ghost use Rattle.registry.specs.Listing.{IsNextServing, NoneServes};
+ghost use Rattle.registry.specs.Roll.{IsNumberFor, IsPut, IsTakenOut, at_number, by_id};
+
+use crate::endpoints::Endpoint;
+use crate::roll::Roll;
+use crate::served::Served;
+use gk_terms::{Name, TechPrefix};
+use std::alloc::{AllocError, Global};
+use std::collections::btree_map::Values;
+use std::marker::Model;
+
+/// Endpoints in order of registration, each under a number, and the places that the gateways among
+/// them serve. A contract sees the endpoints by number, and the next number.
+#[derive(Drop)]
+pub struct Listing {
+    roll: Roll,
+    served: Served,
+}
+
+impl Model for Listing {
+    ghost use Rattle.registry.specs.Roll.{RollParts};
+    ghost use Rattle.registry.specs.Listing.{AreServed};
+
+    ghost Value = { RollParts };
+
+    ghost view = { λ l. l.roll };
+
+    ghost invariant = { λ l. AreServed l.served l.roll.entries };
+}
+
+impl Listing {
+    /// No endpoints.
+    pub fn new(alloc: Global) -> Listing
+        ensures { result ≡ record { entries = []; next = 0 } }
+    {
+        Listing {
+            roll: Roll::new(alloc),
+            served: Served::new(alloc),
+        }
+    }
+
+    /// The number of endpoints.
+    pub fn len(&self) -> usize
+        ensures value { result ≡ length self.now.entries }
+        ensures distinct { IsDistinct bytes_eq (keys_of (by_id self.now.entries)) }
+    {
+        self.roll.len()
+    }
+
+    /// The next number: each number in use is less.
+    pub fn next(&self) -> u32
+        ensures value { result ≡ self.now.next }
+        ensures below { (number : _) (e : _) → at_number self.now.entries number ≡ Some e
+            → number < self.now.next }
+        ensures sorted { IsStrictlySortedBy nat_cmp (keys_of self.now.entries) }
+    {
+        self.roll.next()
+    }
+
+    /// The endpoint with this ID.
+    pub fn get(&self, id: &Name) -> Option<&Endpoint>
+        ensures { option_copied result ≡ kept_endpoint_of (by_id self.now.entries) id.now }
+    {
+        self.roll.get(id)
+    }
+
+    /// The endpoint of this number.
+    pub fn at_number(&self, number: u32) -> Option<&Endpoint>
+        ensures { option_copied result ≡ at_number self.now.entries number }
+    {
+        self.roll.at_number(number)
+    }
+
+    /// The number of this ID.
+    pub fn number(&self, id: &Name) -> Option<u32>
+        ensures { MatchOption result (kept_endpoint_of (by_id self.now.entries) id.now ≡ None)
+            (λ number. (IsNumberFor self.now id.now number)
+            × (kept_endpoint_of (by_id self.now.entries) id.now
+            ≡ at_number self.now.entries number)) }
+    {
+        self.roll.number(id)
+    }
+
+    /// The least number, from this one on, of a gateway that serves the zone with the prefix.
+    pub fn next_serving(&self, zone: &Name, prefix: &TechPrefix, from: u32) -> Option<u32>
+        ensures { MatchOption result
+            (NoneServes self.now.entries zone.now prefix.now from)
+            (IsNextServing self.now.entries zone.now prefix.now from) }
+    {
+        self.served.next_from(zone, prefix, from)
+    }
+
+    /// The endpoints, in order.
+    pub fn endpoints(&self) -> Values<'_, u32, Endpoint>
+        ensures value { result ≡ values_of self.now.entries }
+        ensures fits { length self.now.entries < 2 ^ 63 }
+    {
+        self.roll.endpoints()
+    }
+
+    /// Puts the endpoint in the place of the one with its ID, which it gives, or else at the end. If
+    /// memory runs out nothing has changed.
+    pub fn insert(&mut self, endpoint: Endpoint) -> Result<Option<Endpoint>, AllocError>
+        requires room { self.old.next + 1 < 2 ^ 32 }
+        ensures ok { OnOk result (IsPut (by_id self.old.entries) (by_id self.new.entries) endpoint) }
+        ensures replaced { IfOk result (λ replaced.
+            replaced ≡ kept_endpoint_of (by_id self.old.entries) endpoint.id) }
+        ensures next { self.new.next ≤ self.old.next + 1 }
+        ensures err { OnErr result (self.new ≡ self.old) }
+    {
+        let number = self.roll.number_for(&endpoint.id());
+        if self.served.enter(number, &endpoint).is_err() {
+            self.served
+                .leave(number, Some(&endpoint), self.roll.at_number(number));
+            return Err(AllocError);
+        }
+        match self.roll.insert(number, endpoint) {
+            Ok(replaced) => {
+                self.served
+                    .leave(number, replaced.as_ref(), self.roll.at_number(number));
+                Ok(replaced)
+            }
+            Err(endpoint) => {
+                self.served
+                    .leave(number, Some(&endpoint), self.roll.at_number(number));
+                Err(AllocError)
+            }
+        }
+    }
+
+    /// Takes out the endpoint with this ID, if there is one. Takes no memory.
+    pub fn remove(&mut self, id: &Name) -> Option<Endpoint>
+        ensures removed { result ≡ kept_endpoint_of (by_id self.old.entries) id.now }
+        ensures entries { IsTakenOut (by_id self.old.entries) (by_id self.new.entries) id.now }
+        ensures next { self.new.next ≡ self.old.next }
+    {
+        let number = self.roll.number_for(id);
+        let removed = self.roll.remove(id);
+        self.served.leave(number, removed.as_ref(), None);
+        removed
+    }
+}

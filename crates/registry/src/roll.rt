@@ -1,0 +1,154 @@
+//! Endpoints in order of registration, found by ID and by number.
+
+ghost use Rattle.std.specs.Prelude.{◌≡◌, ◌<◌, ◌≤◌, ◌+◌, ◌^◌, [], None, Some, length, OnOk, OnErr, IfOk, IfErr, IfSome, MatchOption, bytes_eq};
+ghost use Rattle.std.specs.Option.{option_copied};
+ghost use Rattle.std.specs.Ordering.{nat_cmp};
+ghost use Rattle.std.specs.List.{IsDistinct};
+ghost use Rattle.std.specs.List.Sorted.{IsStrictlySortedBy};
+ghost use Rattle.std.specs.Map.{keys_of, values_of};
+ghost use Rattle.registry.specs.RegistryIndex.{kept_endpoint_of};
+ghost use Rattle.registry.specs.Roll.{IsNumberFor, IsPut, IsTakenOut, IsSetAt, at_number, by_id};
+
+use crate::endpoints::Endpoint;
+use gk_terms::Name;
+use std::alloc::Global;
+use std::collections::btree_map::Values;
+use std::collections::{BTreeMap, HashMap};
+use std::marker::Model;
+
+/// Endpoints in order of registration, each under a number. An endpoint keeps its number for as long
+/// as its ID is there. A contract sees the endpoints by number, and the next number.
+#[derive(Drop)]
+pub struct Roll {
+    endpoints: BTreeMap<u32, Endpoint>,
+    numbers: HashMap<Name, u32>,
+    next: u32,
+}
+
+impl Model for Roll {
+    ghost use Rattle.registry.specs.Roll.{RollParts, IsRoll};
+
+    ghost Value = { RollParts };
+
+    ghost view = { λ r. record { entries = r.endpoints.entries; next = r.next } };
+
+    ghost invariant = { λ r. IsRoll r.endpoints.entries r.numbers.entries r.next };
+}
+
+impl Roll {
+    /// No endpoints.
+    pub fn new(alloc: Global) -> Roll
+        ensures { result ≡ record { entries = []; next = 0 } }
+    {
+        Roll {
+            endpoints: BTreeMap::new(alloc),
+            numbers: HashMap::new(alloc),
+            next: 0,
+        }
+    }
+
+    /// The number of endpoints.
+    pub fn len(&self) -> usize
+        ensures value { result ≡ length self.now.entries }
+        ensures distinct { IsDistinct bytes_eq (keys_of (by_id self.now.entries)) }
+    {
+        self.endpoints.len()
+    }
+
+    /// The next number: each number in use is less.
+    pub fn next(&self) -> u32
+        ensures value { result ≡ self.now.next }
+        ensures below { (number : _) (e : _) → at_number self.now.entries number ≡ Some e
+            → number < self.now.next }
+        ensures sorted { IsStrictlySortedBy nat_cmp (keys_of self.now.entries) }
+    {
+        self.next
+    }
+
+    /// The number of this ID, or the next one if no endpoint has the ID.
+    pub fn number_for(&self, id: &Name) -> u32
+        ensures number { IsNumberFor self.now id.now result }
+        ensures within { result ≤ self.now.next }
+        ensures kept { kept_endpoint_of (by_id self.now.entries) id.now
+            ≡ at_number self.now.entries result }
+    {
+        match self.numbers.get(id) {
+            Some(number) => *number,
+            None => self.next,
+        }
+    }
+
+    /// The number of this ID.
+    pub fn number(&self, id: &Name) -> Option<u32>
+        ensures { MatchOption result (kept_endpoint_of (by_id self.now.entries) id.now ≡ None)
+            (λ number. (IsNumberFor self.now id.now number)
+            × (kept_endpoint_of (by_id self.now.entries) id.now
+            ≡ at_number self.now.entries number)) }
+    {
+        self.numbers.get(id).copied()
+    }
+
+    /// The endpoint with this ID.
+    pub fn get(&self, id: &Name) -> Option<&Endpoint>
+        ensures { option_copied result ≡ kept_endpoint_of (by_id self.now.entries) id.now }
+    {
+        self.endpoints.get(self.numbers.get(id)?)
+    }
+
+    /// The endpoint of this number.
+    pub fn at_number(&self, number: u32) -> Option<&Endpoint>
+        ensures { option_copied result ≡ at_number self.now.entries number }
+    {
+        self.endpoints.get(&number)
+    }
+
+    /// The endpoints, in order.
+    pub fn endpoints(&self) -> Values<'_, u32, Endpoint>
+        ensures value { result ≡ values_of self.now.entries }
+        ensures fits { length self.now.entries < 2 ^ 63 }
+    {
+        self.endpoints.values()
+    }
+
+    /// Puts the endpoint under the number for its ID, in the place of the one that has that ID, which
+    /// it gives. If memory runs out it gives the endpoint itself, and nothing has changed.
+    pub fn insert(&mut self, number: u32, endpoint: Endpoint) -> Result<Option<Endpoint>, Endpoint>
+        requires number { IsNumberFor self.old endpoint.id number }
+        requires room { number + 1 < 2 ^ 32 }
+        ensures ok { OnOk result (IsPut (by_id self.old.entries) (by_id self.new.entries) endpoint) }
+        ensures placed { OnOk result
+            (IsSetAt self.old.entries self.new.entries number (Some endpoint)) }
+        ensures replaced { IfOk result (λ replaced. replaced ≡ at_number self.old.entries number) }
+        ensures next { self.new.next ≤ self.old.next + 1 }
+        ensures err { OnErr result (self.new ≡ self.old) }
+        ensures back { IfErr result (λ back. back ≡ endpoint) }
+    {
+        let id = endpoint.id();
+        if self.numbers.reserve(1).is_err() {
+            return Err(endpoint);
+        }
+        match self.endpoints.insert(number, endpoint) {
+            Ok(replaced) => {
+                let numbered: Result<_, _> = self.numbers.insert(id, number);
+                let _ = numbered.unwrap();
+                if number == self.next {
+                    self.next = number + 1;
+                }
+                Ok(replaced)
+            }
+            Err(failed) => Err(failed.value.1),
+        }
+    }
+
+    /// Takes out the endpoint with this ID, if there is one. Takes no memory.
+    pub fn remove(&mut self, id: &Name) -> Option<Endpoint>
+        ensures removed { result ≡ kept_endpoint_of (by_id self.old.entries) id.now }
+        ensures entries { IsTakenOut (by_id self.old.entries) (by_id self.new.entries) id.now }
+        ensures numbered { (number : _) → IsNumberFor self.old id.now number
+            → IsSetAt self.old.entries self.new.entries number None }
+        ensures next { self.new.next ≡ self.old.next }
+    {
+        let number = self.numbers.remove(id)?;
+        self.endpoints.remove(&number)
+    }
+}

@@ -1,0 +1,265 @@
+//! Endpoints in order of registration, found by ID and by alias.
+
+ghost use Rattle.std.specs.Prelude.{◌≡◌, ◌<◌, ◌≤◌, ◌+◌, ◌^◌, [], None, false, length, slice_get, OnOk, OnErr, IfOk};
+ghost use Rattle.std.specs.Option.{option_copied};
+ghost use Rattle.std.specs.List.{list_any};
+ghost use Rattle.std.specs.HashMap.{spare};
+ghost use Rattle.registry.specs.Registration.{HaveDifferentIds, ShareNoAlias, endpoint_of, by_alias, is_registered, id_is_taken, alias_is_taken, with_endpoint, without_endpoint};
+ghost use Rattle.registry.specs.RegistryIndex.{Forgets, LeadTo, aliases_of, is_another, owner_of};
+ghost use Rattle.registry.specs.Gateway.{gateway_by};
+ghost use Rattle.registry.specs.Chosen.{named_priority};
+ghost use Rattle.registry.specs.Roll.{endpoints_of};
+
+use crate::choosing;
+use crate::endpoints::Endpoint;
+use crate::listing::Listing;
+use gk_terms::{Dialled, Name, TechPrefix};
+use indexmap::IndexMap;
+use std::alloc::{AllocError, Global};
+use std::collections::HashMap;
+use std::marker::Model;
+
+/// Endpoints in order of registration, and the ID to which each E.164 alias leads. A contract sees
+/// the endpoints by number, and the next number.
+#[derive(Drop)]
+pub struct Shelf {
+    listing: Listing,
+    owners: HashMap<Dialled, Name>,
+}
+
+impl Model for Shelf {
+    ghost use Rattle.registry.specs.RegistryIndex.{IsIndexed};
+    ghost use Rattle.registry.specs.Roll.{RollParts, by_id};
+
+    ghost Value = { RollParts };
+
+    ghost view = { λ s. s.listing };
+
+    ghost invariant = { λ s. IsIndexed (by_id s.listing.entries) s.owners.entries };
+}
+
+impl Shelf {
+    /// No endpoints.
+    pub fn new(alloc: Global) -> Shelf
+        ensures { result ≡ record { entries = []; next = 0 } }
+    {
+        Shelf {
+            listing: Listing::new(alloc),
+            owners: HashMap::new(alloc),
+        }
+    }
+
+    /// The number of endpoints.
+    pub fn len(&self) -> usize
+        ensures value { result ≡ length (endpoints_of self.now) }
+        ensures different { HaveDifferentIds (endpoints_of self.now) }
+        ensures unshared { ShareNoAlias (endpoints_of self.now) }
+    {
+        self.listing.len()
+    }
+
+    /// Whether no number is left for one more endpoint.
+    fn is_used_up(&self) -> bool
+        ensures { (result ≡ false) → self.now.next + 1 < 2 ^ 32 }
+    {
+        self.listing.next() == u32::MAX
+    }
+
+    /// The endpoint at this place in the order of registration, from 0. Goes over those before it.
+    pub fn at(&self, place: usize) -> Option<&Endpoint>
+        ensures { option_copied result ≡ slice_get (endpoints_of self.now) place }
+    {
+        self.listing.endpoints().nth(place)
+    }
+
+    /// The endpoint with this ID.
+    pub fn endpoint(&self, id: &Name) -> Option<&Endpoint>
+        ensures { option_copied result ≡ endpoint_of (endpoints_of self.now) id.now }
+    {
+        self.listing.get(id)
+    }
+
+    /// Whether an endpoint has this ID.
+    pub fn is_registered(&self, id: &Name) -> bool
+        ensures { result ≡ is_registered (endpoints_of self.now) id.now }
+    {
+        self.listing.get(id).is_some()
+    }
+
+    /// The endpoint of that zone with that E.164 alias.
+    pub fn by_alias(&self, zone: &Name, number: &Dialled) -> Option<&Endpoint>
+        ensures { option_copied result ≡ by_alias (endpoints_of self.now) zone.now number.now }
+    {
+        let endpoint = self.listing.get(self.owners.get(number)?)?;
+        if endpoint.zone() == *zone {
+            Some(endpoint)
+        } else {
+            None
+        }
+    }
+
+    /// The gateway that is chosen for the zone and the prefix by these priorities: the greatest one
+    /// above 0, and of equal ones the gateway that registered first. Who is not named has the usual
+    /// priority. The time grows with the number of those that are named, and not of the endpoints.
+    pub fn chosen(
+        &self,
+        zone: &Name,
+        prefix: &TechPrefix,
+        named: &IndexMap<Name, u8>,
+    ) -> Option<&Endpoint>
+        ensures { option_copied result ≡ gateway_by (named_priority named.now.entries)
+            (endpoints_of self.now) zone.now prefix.now }
+    {
+        choosing::chosen(&self.listing, zone, prefix, named)
+    }
+
+    /// Whether the endpoint's ID is registered from another address.
+    pub fn id_is_taken(&self, endpoint: &Endpoint) -> bool
+        ensures { result ≡ id_is_taken (endpoints_of self.now) endpoint.now }
+    {
+        match self.listing.get(&endpoint.id()) {
+            Some(other) => other.address() != endpoint.address(),
+            None => false,
+        }
+    }
+
+    /// Whether one of the endpoint's aliases is another endpoint's, in whatever zone.
+    pub fn alias_is_taken(&self, endpoint: &Endpoint) -> bool
+        ensures { result ≡ alias_is_taken (endpoints_of self.now) endpoint.now }
+    {
+        is_any_anothers(&self.owners, endpoint.aliases(), &endpoint.id())
+    }
+
+    /// Puts the endpoint in the place of the one with its ID, or else at the end. None of its
+    /// aliases may be another endpoint's; `alias_is_taken` tests that. If memory runs out, the
+    /// endpoints stay as they are. The time does not grow with their number, but that once in about
+    /// 4,000,000,000 calls each gets a new number.
+    pub fn put(&mut self, endpoint: Endpoint, alloc: Global) -> Result<(), AllocError>
+        requires free { alias_is_taken (endpoints_of self.old) endpoint ≡ false }
+        requires few { length (endpoints_of self.old) < 2 ^ 32 }
+        ensures ok { OnOk result
+            (endpoints_of self.new ≡ with_endpoint (endpoints_of self.old) endpoint) }
+        ensures err { OnErr result (endpoints_of self.new ≡ endpoints_of self.old) }
+    {
+        self.leave_a_number(alloc)?;
+        self.put_numbered(endpoint)
+    }
+
+    /// Leaves a number for one more endpoint: if none is left, each endpoint gets a new number.
+    fn leave_a_number(&mut self, alloc: Global) -> Result<(), AllocError>
+        requires few { length (endpoints_of self.old) < 2 ^ 32 }
+        ensures same { endpoints_of self.new ≡ endpoints_of self.old }
+        ensures ok { OnOk result (self.new.next + 1 < 2 ^ 32) }
+    {
+        if !self.is_used_up() {
+            return Ok(());
+        }
+        *self = self.copy(alloc)?;
+        if self.is_used_up() {
+            return Err(AllocError);
+        }
+        Ok(())
+    }
+
+    /// The same while a number is left; `is_used_up` tests that. If memory runs out, the endpoints
+    /// stay as they are.
+    fn put_numbered(&mut self, endpoint: Endpoint) -> Result<(), AllocError>
+        requires free { alias_is_taken (endpoints_of self.old) endpoint ≡ false }
+        requires room { self.old.next + 1 < 2 ^ 32 }
+        ensures ok { OnOk result
+            (endpoints_of self.new ≡ with_endpoint (endpoints_of self.old) endpoint) }
+        ensures err { OnErr result (endpoints_of self.new ≡ endpoints_of self.old) }
+        ensures next { self.new.next ≤ self.old.next + 1 }
+    {
+        self.owners.reserve(endpoint.aliases().len())?;
+        let id = endpoint.id();
+        let replaced = self.listing.insert(endpoint)?;
+        forget_aliases_of(&mut self.owners, replaced.as_ref());
+        lead_aliases_of(&mut self.owners, self.listing.get(&id), &id);
+        Ok(())
+    }
+
+    /// Takes out the endpoint with this ID, if there is one. Takes no memory.
+    pub fn remove(&mut self, id: &Name) -> Option<Endpoint>
+        ensures without { endpoints_of self.new
+            ≡ without_endpoint (endpoints_of self.old) id.now }
+        ensures removed { result ≡ endpoint_of (endpoints_of self.old) id.now }
+    {
+        let removed = self.listing.remove(id);
+        forget_aliases_of(&mut self.owners, removed.as_ref());
+        removed
+    }
+
+    /// The same endpoints in the same order, under new numbers from 0 on.
+    pub fn copy(&self, alloc: Global) -> Result<Shelf, AllocError>
+        requires few { length (endpoints_of self.now) < 2 ^ 32 }
+        ensures { IfOk result (λ copy. endpoints_of copy ≡ endpoints_of self.now) }
+    {
+        let mut copy = Shelf::new(alloc);
+        for endpoint in self.listing.endpoints() {
+            copy.put_numbered(endpoint.copy()?)?;
+        }
+        Ok(copy)
+    }
+}
+
+/// Whether the alias leads to an ID other than this one.
+fn is_anothers(owners: &HashMap<Dialled, Name>, alias: &Dialled, id: &Name) -> bool
+    ensures { result ≡ is_another id.now (owner_of owners.now.entries alias.now) }
+{
+    match owners.get(alias) {
+        Some(owner) => *owner != *id,
+        None => false,
+    }
+}
+
+/// Whether one of the aliases leads to an ID other than this one.
+fn is_any_anothers(owners: &HashMap<Dialled, Name>, aliases: &[Dialled], id: &Name) -> bool
+    ensures { result
+        ≡ list_any (λ alias. is_another id.now (owner_of owners.now.entries alias)) aliases.now }
+{
+    aliases.iter().any(|alias| is_anothers(owners, alias, id))
+}
+
+/// Takes the aliases of the endpoint, if there is one, out of the map.
+fn forget_aliases_of(owners: &mut HashMap<Dialled, Name>, endpoint: Option<&Endpoint>)
+    ensures forgets { Forgets owners.old.entries owners.new.entries
+        (aliases_of (option_copied endpoint.entry)) }
+    ensures room { spare owners.old ≤ spare owners.new }
+{
+    if let Some(endpoint) = endpoint {
+        forget(owners, endpoint.aliases());
+    }
+}
+
+/// Makes the aliases of the endpoint, if there is one, lead to this ID. The map has room for them.
+fn lead_aliases_of(owners: &mut HashMap<Dialled, Name>, endpoint: Option<&Endpoint>, id: &Name)
+    requires room { length (aliases_of (option_copied endpoint)) ≤ spare owners.old }
+    ensures { LeadTo owners.old.entries owners.new.entries
+        (aliases_of (option_copied endpoint.entry)) id.now }
+{
+    if let Some(endpoint) = endpoint {
+        lead(owners, endpoint.aliases(), id);
+    }
+}
+
+/// Takes these aliases out of the map.
+fn forget(owners: &mut HashMap<Dialled, Name>, aliases: &[Dialled])
+    ensures forgets { Forgets owners.old.entries owners.new.entries aliases.now }
+    ensures room { spare owners.old ≤ spare owners.new }
+{
+    for alias in aliases {
+        let _ = owners.remove(alias);
+    }
+}
+
+/// Makes these aliases lead to this ID. The map has room for them.
+fn lead(owners: &mut HashMap<Dialled, Name>, aliases: &[Dialled], id: &Name)
+    requires room { length aliases.now ≤ spare owners.old }
+    ensures { LeadTo owners.old.entries owners.new.entries aliases.now id.now }
+{
+    for alias in aliases {
+        let inserted: Result<_, _> = owners.insert(*alias, *id);
+        let _ = inserted.unwrap();
+    }
+}
