@@ -202,8 +202,7 @@ impl Tables {
     }
 
     /// The priorities of gateways for the row: a gateway that is not in the map has 5, and so has
-    /// each if there is none. It has those that the commands for the row's zone and pattern name.
-    /// The number is to be one of these tables'.
+    /// each if there is none. The number is to be one of these tables'.
     pub fn gateways(&self, row: Option<RowNo>) -> Option<&IndexMap<Name, u8>>
         ensures { IfSome (row_meant self.now.commands row) (λ used. (gateway : List ℕ)
             → priority_in_entries (entries_of (option_copied result)) gateway
