@@ -1,0 +1,14 @@
+pub mod Best
+pub mod Places
+pub mod PointerField
+pub mod Counting
+pub mod Crosses
+pub mod Ends
+pub mod Fieldless
+pub mod Growth
+pub mod Insertion
+pub mod Paths
+pub mod Same
+pub mod Search
+pub mod Steps
+pub mod Values

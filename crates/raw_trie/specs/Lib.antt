@@ -1,0 +1,6 @@
+pub mod Block
+pub mod Found
+pub mod Memory
+pub mod Nodes
+pub mod Trie
+pub mod Walk

@@ -1,0 +1,148 @@
+//! The trie: how it is built, and how it is read.
+
+ghost use Rattle.std.specs.Prelude.{◌≡◌, ℕ, ◌+◌, ◌-◌, ◌*◌, ◌/◌, ◌<◌, ◌≤◌, List, [], length, drop, slice_index_or, IfOk, IsOk, IfSome, Some, None};
+ghost use Rattle.digit_patterns.specs.PatternParts.{PatternParts};
+ghost use Rattle.digit_patterns.specs.Duplicate.{duplicate_of};
+ghost use Rattle.digit_patterns.specs.Table.{best_hit};
+ghost use Rattle.raw_trie.specs.Nodes.{node_count, patterns_of};
+
+use crate::block::Block;
+use crate::draft::{DOT, Draft, NODE_WORDS, PLAIN, STARRED};
+use crate::meaning::Meaning;
+use crate::walk::{Seen, longest};
+use digit_patterns::{Hit, Pattern, PrefixTable};
+use gk_terms::Dialled;
+use std::alloc::{AllocError, Global};
+use std::marker::Model;
+use thiserror::Error;
+
+/// Why a trie could not be built.
+#[derive(Clone, Copy, Debug, PartialEq, Eq, Error)]
+pub enum TrieFault {
+    /// This row, counted from 0, is the first whose pattern an earlier row has.
+    #[error("row {0} has the pattern of an earlier row")]
+    Duplicate(usize),
+    /// The patterns take more nodes than are allowed.
+    #[error("too many nodes")]
+    TooManyNodes,
+    /// There is no memory for the trie.
+    #[error("out of memory")]
+    NoMemory,
+}
+
+impl From<AllocError> for TrieFault {
+    ghost use Rattle.raw_trie.specs.declared.trie.TrieFault.TheVariants.{NoMemory};
+
+    ghost from_gives = { λ _ fault. fault ≡ NoMemory };
+
+    fn from(_error: AllocError) -> TrieFault {
+        TrieFault::NoMemory
+    }
+}
+
+/// A table of patterns as a trie. Its value is the list of its rows, in the order they were given in.
+///
+/// A trie is one block of memory of exactly 60 bytes for each of its nodes, and of as many nodes as its patterns have
+/// different beginnings. It is reserved and filled by `build`, freed when the trie is dropped, and never written in
+/// between, so that threads may share it in an `Arc`. A look-up takes no memory.
+///
+/// A node has the numbers of the nodes that the ten digits and a dot lead to, and beside them the values of the
+/// patterns that end at it without and with a star: a step of a look-up reads a link, the dot's link and the ends at
+/// known places of one node, which lies in one or two cache lines. A node of 16 bytes, with the set of its links and
+/// the number of the first of the nodes they lead to, which lie together, takes less memory and is about as fast to
+/// read, but has to be built from sorted beginnings, which takes some thirty times as long.
+#[derive(Drop)]
+pub struct RawTrie {
+    block: Block,
+    meaning: Meaning,
+}
+
+impl Model for RawTrie {
+    ghost use Rattle.std.specs.Prelude.{ℕ, List};
+    ghost use Rattle.digit_patterns.specs.PatternParts.{PatternParts};
+
+    ghost Value = { List (PatternParts × ℕ) };
+
+    ghost use Rattle.raw_trie.specs.Walk.{Represents};
+
+    ghost view = { λ t. t.meaning.rows };
+
+    ghost invariant = { λ t. Represents t.meaning.rows t.block };
+}
+
+impl RawTrie {
+    ghost use Rattle.raw_trie.specs.Trie.{paths_of};
+    ghost use Rattle.raw_trie.specs.Walk.{Shows, LeadsOn};
+
+    /// The trie of these rows. `alloc` is what its memory is taken from.
+    ///
+    /// `Duplicate` if a row has the pattern of an earlier one, and then it names the first such row, counted from 0.
+    /// `TooManyNodes` if no pattern is there twice and the patterns, their stars left off, have more than `most`
+    /// different beginnings, the empty one included. `NoMemory` may come in place of any other answer. When it
+    /// refuses, it has given back all memory it took.
+    pub fn build(alloc: Global, rows: &[(Pattern, u32)], most: u32) -> Result<RawTrie, TrieFault>
+        ensures built { IfOk result (λ trie. trie ≡ rows.now) }
+        ensures distinct { IsOk result → duplicate_of rows.now ≡ None }
+        ensures duplicate { (row : ℕ) → result ≡
+            Err (TrieFault.Duplicate row) → duplicate_of rows.now ≡ Some row }
+        ensures few { IsOk result → node_count (patterns_of rows.now) ≤ most }
+        ensures too_many { result ≡ Err TrieFault.TooManyNodes →
+            (duplicate_of rows.now ≡ None) × (most < node_count (patterns_of rows.now)) }
+    {
+        let mut draft = Draft::new(alloc)?;
+        let mut meaning = Meaning::new();
+        for (place, row) in rows.iter().enumerate() {
+            if !draft.add(&row.0, row.1)? {
+                return Err(TrieFault::Duplicate(place));
+            }
+            meaning = meaning.with(row);
+        }
+        if draft.nodes() > most as usize {
+            return Err(TrieFault::TooManyNodes);
+        }
+        let block = Block::of(alloc, &draft.words)?;
+        Ok(RawTrie { block, meaning })
+    }
+
+    /// The row with the longest pattern that matches the dialled characters from the place `from` on, counted from 0,
+    /// as `best` finds it, and how many nodes were looked at: for n characters from there on, at most
+    /// (n + 1) (n + 2) / 2. It takes no memory.
+    pub fn best_counted(&self, dialled: &Dialled, from: usize) -> (Option<Hit>, u32)
+        requires { from ≤ length dialled.now }
+        ensures hit { result.0 ≡ best_hit self.now (drop from dialled.now) }
+        ensures nodes { let n = length dialled.now - from in result.1 ≤ (n + 1) * (n + 2) / 2 }
+    {
+        longest(self, &dialled.as_bytes()[from..])
+    }
+
+    /// Looks at a node, and counts that. No other function reads a node.
+    pub(crate) fn look_at(&self, node: u32, digit: Option<u8>, looks: &mut u32) -> Seen
+        requires node { node < length (paths_of self.now) }
+        requires digit { IfSome digit (λ d. d < 10) }
+        requires few { looks.old < 2000 }
+        ensures shown { Shows self.now (slice_index_or (paths_of self.now) node []) result }
+        ensures next { LeadsOn self.now (slice_index_or (paths_of self.now) node []) digit result.next }
+        ensures counted { looks.new ≡ looks.old + 1 }
+    {
+        *looks += 1;
+        let first = NODE_WORDS * node as usize;
+        let next = match digit {
+            Some(digit) => self.block.word(first + digit as usize),
+            None => 0,
+        };
+        Seen {
+            next,
+            dot: self.block.word(first + DOT),
+            plain: self.block.end(first + PLAIN),
+            starred: self.block.end(first + STARRED),
+        }
+    }
+}
+
+impl PrefixTable for RawTrie {
+    ghost rows = { λ t. t };
+
+    fn best(&self, dialled: &Dialled, from: usize) -> Option<Hit> {
+        self.best_counted(dialled, from).0
+    }
+}
