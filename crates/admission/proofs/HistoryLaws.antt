@@ -6,53 +6,53 @@ use Rattle.std.proofs.lemmas.Bool.{ltb-false, leb-false}
 use Rattle.std.proofs.lemmas.List.{length-take-le}
 use Rattle.std.proofs.lemmas.List.Sums.{prefix_len-le-length, length-filter, count_by-le-length}
 use Rattle.std.proofs.lemmas.Option.{none-some}
-use Rattle.admission.specs.declared.events.Event.{Event}
-use Rattle.admission.specs.declared.events.Event.TheVariants.{Register, Unregister, Admit}
-use Rattle.admission.specs.declared.routes.Route.{Route}
-use Rattle.admission.specs.declared.routes.Route.TheVariants.{To, Refused}
-use Rattle.admission.specs.declared.routes.RouteRefusal.TheVariants.{NoDefault}
-use Rattle.admission.specs.declared.replies.AdmitRefusal.TheVariants.{CallOpen, NoRoute}
+use Rattle.command_reader.specs.declared.commands.Command.{Command}
+use Rattle.compiler.specs.Last.{last_in}
+use Rattle.admission.specs.declared.replies.AdmitRefusal.TheVariants.{NoRoute}
 use Rattle.admission.specs.declared.replies.Reply.{Reply}
-use Rattle.admission.specs.declared.replies.Reply.TheVariants.{Registered, RegisterRefused, Unregistered, UnregisterRefused, Admitted, AdmitRefused}
-use Rattle.admission.specs.declared.record.Entry.{Entry}
+use Rattle.admission.specs.declared.replies.Reply.TheVariants.{Admitted, AdmitRefused}
+use Rattle.admission.specs.declared.rulings.Effect.{Effect}
+use Rattle.admission.specs.declared.rulings.Effect.TheVariants.{Nothing, Put, Remove, Open, Resize, Close}
 use Rattle.registry.specs.Endpoint.{EndpointParts}
 use Rattle.admission.specs.State.{State, opening_of, free_places}
 use Rattle.registry.specs.Registration.{has_id, endpoint_of, is_registered, in_zone_meant, with_endpoint, without_endpoint}
-use Rattle.compiler.specs.Plan.{plan_of}
-use Rattle.admission.specs.Routing.{route_of}
-use Rattle.bandwidth.specs.Calls.{is_open}
-use Rattle.admission.specs.Step.{verdict_of, verdict_of_route, admission_verdict_of, is_granted, places_needed, record_refusal, count_refusal, opened_call_of_target, with_admitted, with_grant, with_count, state_after, step}
-use Rattle.admission.specs.History.{entry_of, IsLegal, replay}
-use Rattle.admission.specs.HistoryLaws.{StandsAfter, RecordedAdmissionsAreRouted, RecordedRefusalsAreUnrouted, IsWithinLimits, RecordsAreSound}
-use Rattle.admission.proofs.StepLemmas.{step_commands, step_version, step_limits, step_records, step_not_refused, step_state}
+use Rattle.admission.specs.Events.{PlainEvent, Registering, Unregistering, Admitting, Changing, Releasing, endpoint_asking}
+use Rattle.admission.specs.Ruling.{ruling_of, verdict_of}
+use Rattle.admission.specs.Step.{places_needed, count_refusal, is_recorded, with_registered, with_effect, with_count, state_after, step}
+use Rattle.admission.specs.History.{PlainEntry, entry_of, IsLegal, replay}
+use Rattle.admission.specs.HistoryLaws.{StandsAfter, RecordedAdmissionsAreRouted, RecordedRefusalsAreUnrouted, IsWithinLimits, put_in_force, generations_of, RecordsAreSound}
+use Rattle.admission.specs.Founded.{is_full_of_endpoints, IsPlaceable, IsFounded}
+use Rattle.admission.proofs.CallsLemmas.{length-with_call, length-with_changed, length-without_call}
+use Rattle.admission.proofs.FoundedLemmas.{founded, places_are_free, one_fits}
+use Rattle.admission.proofs.StepLemmas.{step_commands, step_version, step_limits, step_records, step_not_refused, step_verdict_recorded, step_state}
 use Rattle.admission.proofs.RouteLaws.{admissions_are_routed, refusals_are_unrouted}
 
 -- ---- entries
 -- whatever each step keeps, a history keeps
 replay_keeps : {X : Type 0} (part : State → X)
-    → ((s : State) (event : Event) → part (step s event).state ≡ part s)
-    → (s : State) (entries : List Entry) → part (replay s entries) ≡ part s
+    → ((s : State) (event : PlainEvent) → part (step s event).state ≡ part s)
+    → (s : State) (entries : List PlainEntry) → part (replay s entries) ≡ part s
 replay_keeps part kept s [] = refl
 replay_keeps part kept s (e ∷ entries) =
     replay_keeps part kept (step s e.event).state entries
     ∙ kept s e.event
 
-replay_commands : (s : State) (entries : List Entry) → (replay s entries).commands ≡ s.commands
+replay_commands : (s : State) (entries : List PlainEntry) → (replay s entries).commands ≡ s.commands
 replay_commands s entries = replay_keeps (λ t. t.commands) step_commands s entries
 
 -- an entry is what is recorded of its event in the state that those before it leave
-entry_there : (s : State) (before after : List Entry) (e : Entry) → IsLegal s (before ++ e ∷ after)
+entry_there : (s : State) (before after : List PlainEntry) (e : PlainEntry) → IsLegal s (before ++ e ∷ after)
     → e ≡ entry_of (replay s before) e.event
 entry_there s [] after e legal = legal.0
 entry_there s (b ∷ before) after e legal = entry_there (step s b.event).state before after e legal.2
 
 -- so its reply is the verdict there
-verdict_there : (s : State) (entries before : List Entry) (e : Entry) → IsLegal s entries
-    → StandsAfter entries before e → (event : Event) (reply : Reply) → e.event ≡ event
+pub verdict_there : (s : State) (entries before : List PlainEntry) (e : PlainEntry) → IsLegal s entries
+    → StandsAfter entries before e → (event : PlainEvent) (reply : Reply) → e.event ≡ event
     → e.reply ≡ reply → verdict_of (replay s before) event ≡ reply
 verdict_there s entries before e legal stands event reply asked replied =
     ap (verdict_of (replay s before)) (sym asked)
-    ∙ sym (ap (λ (entry : Entry). entry.reply)
+    ∙ sym (ap (λ (entry : PlainEntry). entry.reply)
     (entry_there s before stands.0 e (subst (IsLegal s) stands.1 legal)))
     ∙ replied
 
@@ -62,7 +62,7 @@ recorded_admissions_are_routed lines configuration limits entries before e accep
     let opening = opening_of configuration.commands limits in
     admissions_are_routed lines configuration (replay opening before) accepted
     (replay_commands opening before) call units id digits replied_call granted destination
-    (verdict_there opening entries before e legal stands (Admit id call digits units)
+    (verdict_there opening entries before e legal stands (Admitting id call digits units)
     (Admitted replied_call destination granted) asked replied)
 
 pub recorded_refusals_are_unrouted : RecordedRefusalsAreUnrouted
@@ -71,7 +71,7 @@ recorded_refusals_are_unrouted lines configuration limits entries before e accep
     let opening = opening_of configuration.commands limits in
     refusals_are_unrouted lines configuration (replay opening before) accepted
     (replay_commands opening before) call units id digits replied_call refusal
-    (verdict_there opening entries before e legal stands (Admit id call digits units)
+    (verdict_there opening entries before e legal stands (Admitting id call digits units)
     (AdmitRefused replied_call (NoRoute refusal)) asked replied)
 
 -- ---- endpoints
@@ -125,123 +125,69 @@ length_without_endpoint endpoints id =
           (λ e. not (has_id id e)) endpoints,
     )
 
--- ---- what no count refused
-not_full : (full : Bool) (refusal : Reply) (rest : Option Reply)
-    → cond full (Some refusal) rest ≡ None → (full ≡ false) × (rest ≡ None)
-not_full true refusal rest h = absurd (none-some refusal (sym h))
-not_full false refusal rest h = (refl, h)
-
-places_are_free : (s : State) (event : Event) (verdict : Reply)
-    → record_refusal s event verdict ≡ None → places_needed verdict ≤ free_places s
-places_are_free s event verdict h =
-    ltb-false (free_places s) (places_needed verdict)
-    (not_full (nat_lt (free_places s) (places_needed verdict)) _ None h).0
-
-one_is_needed : (verdict : Reply) → 1 ≤ places_needed verdict
-one_is_needed (Registered id zone) = omega arith
-one_is_needed (RegisterRefused id reason) = omega arith
-one_is_needed (Unregistered id) = omega arith
-one_is_needed (UnregisterRefused id reason) = omega arith
-one_is_needed (Admitted call destination units) = omega arith
-one_is_needed (AdmitRefused call reason) = omega arith
-
--- a granted admission needs a second one, for its release
-two_are_needed : (s : State) (call units : ℕ) (digits : List ℕ) (caller : Option EndpointParts)
-    → is_granted (admission_verdict_of s call digits units caller) ≡ true
-    → 2 ≤ places_needed (admission_verdict_of s call digits units caller)
-two_are_needed s call units digits None h = absurd (true≢false (sym h))
-two_are_needed s call units digits (Some caller) h =
-    by (is_open s.calls call) (route_of s.commands s.endpoints caller.zone digits) h
-  where
-    by : (open_already : Bool) (route : Route)
-        → is_granted
-        (cond open_already (AdmitRefused call CallOpen) (verdict_of_route call units route))
-        ≡ true
-        → 2 ≤ places_needed
-        (cond open_already (AdmitRefused call CallOpen) (verdict_of_route call units route))
-    by true route h = absurd (true≢false (sym h))
-    by false (Refused reason) h = absurd (true≢false (sym h))
-    by false (To destination) h = omega arith
-
 -- ---- the limits after a step
-module _ (s : State) (within : IsWithinLimits s) where
-  counted_within : 1 ≤ free_places s → IsWithinLimits (with_count s)
-  counted_within room =
-      record {
-        endpoints = within.endpoints;
-        calls = within.calls;
-        records =
-            omega (arith, within.records, room);
-      }
-
-  register_within : (e : EndpointParts) (t : Bool)
-      → (t && not (is_registered s.endpoints e.id)
-      && nat_le s.limits.endpoints (length s.endpoints)) ≡ false
-      → 1 ≤ free_places s → IsWithinLimits (with_count (cond t (with_grant s (Register e)) s))
-  register_within e true room free = record {
-    endpoints = length_with_endpoint s.endpoints (in_zone_meant s.commands e) s.limits.endpoints
-        within.endpoints room;
+module _ (s : State) (event : PlainEvent) (within : IsWithinLimits s) where
+  effect_within : (effect : Effect) → IsFounded s event effect
+      → places_needed effect ≤ free_places s → IsWithinLimits (with_count (with_effect s event effect))
+  effect_within Nothing founded free = record {
+    endpoints = within.endpoints;
     calls = within.calls;
-    records = (counted_within free).records;
+    records = omega (arith, within.records, free);
   }
-  register_within e false room free = counted_within free
-
-  unregister_within : (id : List ℕ) (t : Bool) → 1 ≤ free_places s
-      → IsWithinLimits (with_count (cond t (with_grant s (Unregister id)) s))
-  unregister_within id true free = record {
+  effect_within (Put zone) founded free = by (endpoint_asking event) founded
+    where
+      by : (asking : Option EndpointParts) → IsPlaceable s zone asking
+          → IsWithinLimits (with_count (with_registered s zone asking))
+      by None impossible = absurd impossible
+      by (Some e) placeable = record {
+        endpoints = length_with_endpoint s.endpoints (record e { zone = zone })
+            s.limits.endpoints within.endpoints placeable.2;
+        calls = within.calls;
+        records = omega (arith, within.records, free);
+      }
+  effect_within (Remove id) founded free = record {
     endpoints = omega (arith, within.endpoints, length_without_endpoint s.endpoints id);
     calls = within.calls;
-    records = (counted_within free).records;
+    records = omega (arith, within.records, free);
   }
-  unregister_within id false free = counted_within free
-
-  admit_within : (call units : ℕ) (digits : List ℕ) (caller : Option EndpointParts) (t : Bool)
-      (needed : ℕ)
-      → (t && nat_le s.limits.calls (length s.calls)) ≡ false
-      → (t ≡ true → 2 ≤ needed) → 1 ≤ needed → needed ≤ free_places s
-      → IsWithinLimits (with_count (cond t (with_admitted s call digits units caller) s))
-  admit_within call units digits (Some caller) true needed room two one free =
-      let longer =
-      length-append s.calls
-      (opened_call_of_target caller call units (plan_of s.commands digits) ∷ []) in
+  effect_within (Open call) founded free =
+      let longer = length-with_call s.calls call in
       record {
         endpoints = within.endpoints;
-        calls = omega (arith, longer, leb-false s.limits.calls (length s.calls) room);
-        records = omega (arith, longer, within.records, two refl, free);
+        calls = omega
+            (arith, longer, leb-false s.limits.calls (length s.calls) founded.room);
+        records = omega (arith, longer, within.records, free);
       }
-  admit_within call units digits None true needed room two one free =
-      counted_within (omega (arith, one, free))
-  admit_within call units digits caller false needed room two one free =
-      counted_within (omega (arith, one, free))
+  effect_within (Resize call id units) founded free =
+      let same = length-with_changed s.calls call units in
+      record {
+        endpoints = within.endpoints;
+        calls = omega (arith, same, within.calls);
+        records = omega (arith, same, within.records, free);
+      }
+  effect_within (Close call id) founded free =
+      let fewer = length-without_call s.calls call id founded in
+      record {
+        endpoints = within.endpoints;
+        calls = omega (arith, fewer, within.calls);
+        records = omega (arith, fewer, within.records);
+      }
 
-  after_within : (event : Event) → count_refusal s event (verdict_of s event) ≡ None
-      → IsWithinLimits (state_after s event (verdict_of s event))
-  unfolding verdict_of count_refusal state_after
-  after_within (Register e) h =
-      let verdict = verdict_of s (Register e) in
-      let parts = not_full _ _ _ h in
-      register_within e (is_granted verdict) parts.0
-      (omega (arith, one_is_needed verdict, places_are_free s (Register e) verdict parts.1))
-  after_within (Unregister id) h =
-      let verdict = verdict_of s (Unregister id) in
-      unregister_within id (is_granted verdict)
-      (omega (arith, one_is_needed verdict, places_are_free s (Unregister id) verdict h))
-  after_within (Admit id call digits units) h =
-      let caller = endpoint_of s.endpoints id in
-      let verdict = admission_verdict_of s call digits units caller in
-      let parts = not_full _ _ _ h in
-      admit_within call units digits caller (is_granted verdict) (places_needed verdict) parts.0
-      (two_are_needed s call units digits caller) (one_is_needed verdict)
-      (places_are_free s (Admit id call digits units) verdict parts.1)
+  after_within : count_refusal s event (ruling_of s event) ≡ None
+      → is_recorded (verdict_of s event) ≡ true
+      → IsWithinLimits (state_after s event (ruling_of s event))
+  unfolding state_after
+  after_within free recorded =
+      effect_within (ruling_of s event).effect (founded s event free)
+      (places_are_free s event free recorded)
 
-  step_within : (event : Event) → (step s event).recorded ≡ true
-      → IsWithinLimits (step s event).state
-  step_within event recorded =
+  step_within : (step s event).recorded ≡ true → IsWithinLimits (step s event).state
+  step_within recorded =
       subst IsWithinLimits (sym (step_state s event recorded))
-      (after_within event (step_not_refused s event recorded))
+      (after_within (step_not_refused s event recorded) (step_verdict_recorded s event recorded))
 
 -- ---- whole records
-replay_records : (s : State) (entries : List Entry) → IsLegal s entries
+replay_records : (s : State) (entries : List PlainEntry) → IsLegal s entries
     → (replay s entries).records ≡ s.records + length entries
 replay_records s [] legal = omega arith
 replay_records s (e ∷ entries) legal =
@@ -249,18 +195,36 @@ replay_records s (e ∷ entries) legal =
     let rest = replay_records (step s e.event).state entries legal.2 in
     omega (arith, one, rest)
 
-replay_within : (s : State) (entries : List Entry) → IsLegal s entries → IsWithinLimits s
+replay_within : (s : State) (entries : List PlainEntry) → IsLegal s entries → IsWithinLimits s
     → IsWithinLimits (replay s entries)
 replay_within s [] legal within = within
 replay_within s (e ∷ entries) legal within =
-    replay_within (step s e.event).state entries legal.2 (step_within s within e.event legal.1)
+    replay_within (step s e.event).state entries legal.2
+    (step_within s e.event within legal.1)
+
+-- no event puts commands in force
+none_put : (event : PlainEvent) → put_in_force event ≡ None
+none_put (Registering e) = refl
+none_put (Unregistering id) = refl
+none_put (Admitting id call digits units) = refl
+none_put (Changing id call units) = refl
+none_put (Releasing id call) = refl
+
+one_generation : (commands : List Command) (entries : List PlainEntry)
+    → generations_of commands entries ≡ commands ∷ []
+one_generation commands [] = refl
+one_generation commands (e ∷ entries) = rw (none_put e.event) (one_generation commands entries)
 
 pub records_are_sound : RecordsAreSound
 records_are_sound commands limits entries legal =
     let opening = opening_of commands limits in
+    let one = one_generation commands entries in
     record {
-      commands_are = replay_commands opening entries;
-      version_is = replay_keeps (λ t. t.version) step_version opening entries;
+      commands_are =
+          ap Some (replay_commands opening entries)
+          ∙ sym (ap last_in one);
+      version_is =
+          replay_keeps (λ t. t.version) step_version opening entries ∙ sym (ap length one);
       limits_are = replay_keeps (λ t. t.limits) step_limits opening entries;
       records_are = replay_records opening entries legal ∙ omega arith;
       within = replay_within opening entries legal

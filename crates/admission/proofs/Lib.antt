@@ -1,9 +1,14 @@
+pub mod CallingLemmas
+pub mod CallsLemmas
 pub mod CoreLemmas
+pub mod FirstLaws
+pub mod FoundedLemmas
+pub mod GrantLaws
+pub mod GrantLemmas
 pub mod HistoryLaws
-pub mod MachineLemmas
+pub mod OrderLemmas
 pub mod RecordLemmas
 pub mod RegisteringLemmas
 pub mod RouteLaws
 pub mod StepLemmas
-pub mod FirstLaws
 pub mod TargetLaws

@@ -28,20 +28,24 @@ use Rattle.registry.specs.Endpoint.{EndpointParts, has_alias, has_technology}
 use Rattle.registry.specs.Registration.{endpoint_of, by_alias}
 use Rattle.registry.specs.Gateway.{is_gateway, serves, is_candidate, gateway_of, IsChosen}
 use Rattle.bandwidth.specs.Calls.{is_open}
-use Rattle.admission.specs.declared.events.Event.TheVariants.{Admit}
 use Rattle.admission.specs.declared.routes.Destination.{Destination}
 use Rattle.admission.specs.declared.routes.Destination.TheVariants as destinations
 use Rattle.admission.specs.declared.routes.Route.{Route}
 use Rattle.admission.specs.declared.routes.Route.TheVariants.{To, Refused}
 use Rattle.admission.specs.declared.routes.RouteRefusal.{RouteRefusal}
 use Rattle.admission.specs.declared.routes.RouteRefusal.TheVariants as refusals
-use Rattle.admission.specs.declared.replies.AdmitRefusal.TheVariants.{CallerNotRegistered, CallOpen, NoRoute}
+use Rattle.admission.specs.declared.replies.AdmitRefusal.TheVariants.{CallerNotRegistered, CallOpen, NoRoute, OverLimit}
 use Rattle.admission.specs.declared.replies.Reply.{Reply}
 use Rattle.admission.specs.declared.replies.Reply.TheVariants.{Admitted, AdmitRefused}
 use Rattle.admission.specs.State.{State}
 use Rattle.admission.specs.Routing.{destination_of, to_gateway, by_default, by_alias_or_default, in_local_zone, route_of_target, route_of}
-use Rattle.admission.specs.Step.{verdict_of, verdict_of_route, admission_verdict_of}
-use Rattle.admission.specs.RouteLaws.{HasDigits, ReachesNone, IsToReach, Sent, Kept, IsLedTo, Away, ByTechnology, ByAlias, ByDefault, IsRouted, IsLost, Rejected, WithoutTechnology, WithoutDefault, WithoutAlias, IsUnrouted, AdmissionsAreRouted, RefusalsAreUnrouted, StrangersAreRefused}
+use Rattle.admission.specs.Events.{Admitting}
+use Rattle.admission.specs.Ruling.{admitted_call, admission_unless, admission_to, call_open_ruling, admission_ruling, ruling_of, verdict_of}
+use Rattle.bandwidth.specs.declared.open_call.OpenCall.{OpenCall}
+use Rattle.bandwidth.specs.declared.over.Over.{Over}
+use Rattle.bandwidth.specs.Fits.{over_of}
+use Rattle.registry.specs.Registration.{has_id, is_registered}
+use Rattle.admission.specs.RouteLaws.{HasDigits, ReachesNone, IsToReach, Sent, Kept, IsLedTo, Away, ByTechnology, ByAlias, ByDefault, IsRouted, IsLost, Rejected, WithoutTechnology, WithoutDefault, WithoutAlias, IsUnrouted, AdmissionsAreRouted, RefusalsAreUnrouted, StrangersAreRefused, OpenNumbersAreRefused}
 use Rattle.compiler.proofs.PickLemmas.{pick_is_order}
 use Rattle.registry.specs.GatewayLaws.{HasNoCandidate}
 use Rattle.registry.proofs.GatewayLaws.{chosen_from_computed, none_computed}
@@ -299,26 +303,101 @@ unfolding route_of
 route_is s caller digits = refl
 
 verdict_is : (s : State) (call units : ℕ) (id digits : List ℕ)
-    → verdict_of s (Admit id call digits units)
-    ≡ admission_verdict_of s call digits units (endpoint_of s.endpoints id)
-unfolding verdict_of
+    → verdict_of s (Admitting id call digits units)
+    ≡ (admission_ruling s call digits units (endpoint_of s.endpoints id)).verdict
+unfolding ruling_of
 verdict_is s call units id digits = refl
 
--- an admission that is not refused as call-open is the route's
-by_route : (s : State) (call units : ℕ) (digits : List ℕ) (caller : EndpointParts) (verdict : Reply)
-    → verdict ≢ AdmitRefused call CallOpen
-    → admission_verdict_of s call digits units (Some caller) ≡ verdict
-    → verdict_of_route call units (route_of s.commands s.endpoints caller.zone digits) ≡ verdict
-by_route s call units digits caller verdict other h = by (is_open s.calls call) h
-  where
-    by : (open_already : Bool)
-        → cond open_already (AdmitRefused call CallOpen)
-        (verdict_of_route call units (route_of s.commands s.endpoints caller.zone digits))
-        ≡ verdict
-        → verdict_of_route call units (route_of s.commands s.endpoints caller.zone digits) ≡ verdict
-    by true h = absurd (other (sym h))
-    by false h = h
+-- ---- admissions to a destination
+module _ (zone : List ℕ) (reached : Destination) (admitted : OpenCall) (replied_call : ℕ) where
+  -- one that is granted is what was asked
+  to_granted : (granted : ℕ) (destination : Destination) (over : Option Over)
+      → (admission_unless zone reached admitted over).verdict
+      ≡ Admitted replied_call destination granted
+      → (replied_call ≡ admitted.number) × (granted ≡ admitted.units) × (reached ≡ destination)
+  to_granted granted destination None h = (cc, cc, cc)
+  to_granted granted destination (Some over) h = let impossible : ⊥ = cc in absurd impossible
 
+  -- one that is refused has a route, a caller, and a number that is not open
+  to_has_route : (refusal : RouteRefusal) (over : Option Over)
+      → (admission_unless zone reached admitted over).verdict
+      ≡ AdmitRefused replied_call (NoRoute refusal) → ⊥
+  to_has_route refusal None h = cc
+  to_has_route refusal (Some over) h = cc
+
+  to_has_caller : (over : Option Over)
+      → (admission_unless zone reached admitted over).verdict
+      ≡ AdmitRefused replied_call CallerNotRegistered → ⊥
+  to_has_caller None h = cc
+  to_has_caller (Some over) h = cc
+
+  to_has_number : (over : Option Over)
+      → (admission_unless zone reached admitted over).verdict
+      ≡ AdmitRefused replied_call CallOpen → ⊥
+  to_has_number None h = cc
+  to_has_number (Some over) h = cc
+
+-- ---- admissions of a registered caller
+module _ (s : State) (call units : ℕ) (digits : List ℕ) (caller : EndpointParts) where
+  abbrev verdict_to : Route → Reply
+  verdict_to route =
+      (admission_to s caller call units (plan_of s.commands digits) route).verdict
+
+  abbrev asked_call : OpenCall
+  asked_call = admitted_call caller call units (plan_of s.commands digits)
+
+  abbrev over_there : Option Over
+  over_there = over_of s.commands s.calls asked_call
+
+  -- no verdict but call-open comes of an open number
+  by_route : (verdict : Reply) → verdict ≢ AdmitRefused call CallOpen
+      → (admission_ruling s call digits units (Some caller)).verdict ≡ verdict
+      → verdict_to (route_of s.commands s.endpoints caller.zone digits) ≡ verdict
+  by_route verdict other h = by (is_open s.calls call) h
+    where
+      by : (t : Bool)
+          → (cond t (call_open_ruling caller call)
+          (admission_to s caller call units (plan_of s.commands digits)
+          (route_of s.commands s.endpoints caller.zone digits))).verdict
+          ≡ verdict
+          → verdict_to (route_of s.commands s.endpoints caller.zone digits) ≡ verdict
+      by true h = absurd (other (sym h))
+      by false h = h
+
+  route_has_caller : (route : Route)
+      → verdict_to route ≡ AdmitRefused call CallerNotRegistered → ⊥
+  route_has_caller (Refused reason) h = cc
+  route_has_caller (To destination) h =
+      to_has_caller caller.zone destination asked_call call over_there h
+
+  route_has_number : (route : Route) → verdict_to route ≡ AdmitRefused call CallOpen → ⊥
+  route_has_number (Refused reason) h = cc
+  route_has_number (To destination) h =
+      to_has_number caller.zone destination asked_call call over_there h
+
+  -- call-open comes exactly of an open number
+  opens_as : (admission_ruling s call digits units (Some caller)).verdict
+      ≡ AdmitRefused call CallOpen → is_open s.calls call ≡ true
+  opens_as h = by (is_open s.calls call) refl h
+    where
+      by : (t : Bool) → is_open s.calls call ≡ t
+          → (cond t (call_open_ruling caller call)
+          (admission_to s caller call units (plan_of s.commands digits)
+          (route_of s.commands s.endpoints caller.zone digits))).verdict
+          ≡ AdmitRefused call CallOpen
+          → is_open s.calls call ≡ true
+      by true same h = same
+      by false same h =
+          absurd (route_has_number (route_of s.commands s.endpoints caller.zone digits) h)
+
+  is_refused_as_open : is_open s.calls call ≡ true
+      → (admission_ruling s call digits units (Some caller)).verdict ≡ AdmitRefused call CallOpen
+  is_refused_as_open same =
+      ap (λ t. (cond t (call_open_ruling caller call)
+      (admission_to s caller call units (plan_of s.commands digits)
+      (route_of s.commands s.endpoints caller.zone digits))).verdict) same
+
+-- ---- laws
 accepted_state : (lines : List (List ℕ)) (configuration : Configuration) (s : State)
     → reading_in lines ≡ Ok configuration → s.commands ≡ configuration.commands
     → NamesDeclared s.commands s.commands
@@ -331,15 +410,16 @@ module _ (s : State) (declared : NamesDeclared s.commands s.commands) (call unit
   granted_by : (granted : ℕ) (destination : Destination) (caller : EndpointParts)
       → endpoint_of s.endpoints id ≡ Some caller → (route : Route)
       → route_of s.commands s.endpoints caller.zone digits ≡ route
-      → verdict_of_route call units route ≡ Admitted replied_call destination granted
+      → verdict_to s call units digits caller route ≡ Admitted replied_call destination granted
       → (replied_call ≡ call) × (granted ≡ units) × IsRouted s id digits destination
   granted_by granted destination caller there (Refused reason) e h =
       let impossible : ⊥ = cc in absurd impossible
   granted_by granted destination caller there (To reached) e h =
-      let same : reached ≡ destination = cc in
-      let goes = sym (route_is s caller.zone digits) ∙ e ∙ ap To same in (
-        cc,
-        cc,
+      let is = to_granted caller.zone reached (asked_call s call units digits caller) replied_call
+      granted destination (over_there s call units digits caller) h in
+      let goes = sym (route_is s caller.zone digits) ∙ e ∙ ap To is.2 in (
+        is.0,
+        is.1,
         record {
           caller = caller;
           registered = there;
@@ -351,7 +431,8 @@ module _ (s : State) (declared : NamesDeclared s.commands s.commands) (call unit
 
   granted_to : (granted : ℕ) (destination : Destination) (caller : Option EndpointParts)
       → endpoint_of s.endpoints id ≡ caller
-      → admission_verdict_of s call digits units caller ≡ Admitted replied_call destination granted
+      → (admission_ruling s call digits units caller).verdict
+      ≡ Admitted replied_call destination granted
       → (replied_call ≡ call) × (granted ≡ units) × IsRouted s id digits destination
   granted_to granted destination None there h = let impossible : ⊥ = cc in absurd impossible
   granted_to granted destination (Some caller) there h =
@@ -362,7 +443,7 @@ module _ (s : State) (declared : NamesDeclared s.commands s.commands) (call unit
   refused_by : (refusal : RouteRefusal) (caller : EndpointParts)
       → endpoint_of s.endpoints id ≡ Some caller → (route : Route)
       → route_of s.commands s.endpoints caller.zone digits ≡ route
-      → verdict_of_route call units route ≡ AdmitRefused replied_call (NoRoute refusal)
+      → verdict_to s call units digits caller route ≡ AdmitRefused replied_call (NoRoute refusal)
       → (replied_call ≡ call) × IsUnrouted s id digits refusal
   refused_by refusal caller there (Refused reason) e h =
       let same : reason ≡ refusal = cc in
@@ -376,11 +457,14 @@ module _ (s : State) (declared : NamesDeclared s.commands s.commands) (call unit
               (plan_means s.commands (pick_is_order s.commands) declared digits) goes;
         },
       )
-  refused_by refusal caller there (To reached) e h = let impossible : ⊥ = cc in absurd impossible
+  refused_by refusal caller there (To reached) e h =
+      absurd (to_has_route caller.zone reached (asked_call s call units digits caller)
+      replied_call refusal (over_there s call units digits caller) h)
 
   refused_to : (refusal : RouteRefusal) (caller : Option EndpointParts)
       → endpoint_of s.endpoints id ≡ caller
-      → admission_verdict_of s call digits units caller ≡ AdmitRefused replied_call (NoRoute refusal)
+      → (admission_ruling s call digits units caller).verdict
+      ≡ AdmitRefused replied_call (NoRoute refusal)
       → (replied_call ≡ call) × IsUnrouted s id digits refusal
   refused_to refusal None there h = let impossible : ⊥ = cc in absurd impossible
   refused_to refusal (Some caller) there h =
@@ -400,22 +484,53 @@ refusals_are_unrouted lines configuration s accepted same call units id digits r
     replied_call refusal (endpoint_of s.endpoints id) refl
     (sym (verdict_is s call units id digits) ∙ h)
 
-not_a_stranger : (call units : ℕ) (route : Route)
-    → verdict_of_route call units route ≡ AdmitRefused call CallerNotRegistered → ⊥
-not_a_stranger call units (Refused reason) h = cc
-not_a_stranger call units (To destination) h = cc
-
 stranger : (s : State) (call units : ℕ) (digits : List ℕ) (caller : Option EndpointParts)
-    → admission_verdict_of s call digits units caller ≡ AdmitRefused call CallerNotRegistered
+    → (admission_ruling s call digits units caller).verdict ≡ AdmitRefused call CallerNotRegistered
     → caller ≡ None
 stranger s call units digits None h = refl
 stranger s call units digits (Some caller) h =
-    absurd (not_a_stranger call units (route_of s.commands s.endpoints caller.zone digits)
+    absurd (route_has_caller s call units digits caller
+    (route_of s.commands s.endpoints caller.zone digits)
     (by_route s call units digits caller (AdmitRefused call CallerNotRegistered) (λ e. cc) h))
 
 pub strangers_are_refused : StrangersAreRefused
 strangers_are_refused s call units id digits = (
   (λ h. stranger s call units digits (endpoint_of s.endpoints id)
       (sym (verdict_is s call units id digits) ∙ h)),
-  (λ none. verdict_is s call units id digits ∙ ap (admission_verdict_of s call digits units) none),
+  (λ none. verdict_is s call units id digits
+      ∙ ap (λ caller. (admission_ruling s call digits units caller).verdict) none),
+)
+
+-- ---- open numbers
+is_some_found : {X : Type 0} (p : X → Bool) (xs : List X) → is_some (find p xs) ≡ list_any p xs
+is_some_found p [] = refl
+is_some_found p (x ∷ xs) = by (p x) (is_some_found p xs)
+  where
+    by : (t : Bool) → is_some (find p xs) ≡ list_any p xs
+        → is_some (cond t (Some x) (find p xs)) ≡ (t || list_any p xs)
+    by true h = refl
+    by false h = h
+
+opened_to : (s : State) (call units : ℕ) (digits : List ℕ) (caller : Option EndpointParts)
+    → (admission_ruling s call digits units caller).verdict ≡ AdmitRefused call CallOpen
+    → (is_some caller ≡ true) × (is_open s.calls call ≡ true)
+opened_to s call units digits None h = let impossible : ⊥ = cc in absurd impossible
+opened_to s call units digits (Some caller) h = (refl, opens_as s call units digits caller h)
+
+refused_as_open : (s : State) (call units : ℕ) (digits : List ℕ) (caller : Option EndpointParts)
+    → is_some caller ≡ true → is_open s.calls call ≡ true
+    → (admission_ruling s call digits units caller).verdict ≡ AdmitRefused call CallOpen
+refused_as_open s call units digits None there same = absurd (true≢false (sym there))
+refused_as_open s call units digits (Some caller) there same =
+    is_refused_as_open s call units digits caller same
+
+pub open_numbers_are_refused : OpenNumbersAreRefused
+open_numbers_are_refused s call units id digits = (
+  (λ h.
+      let is = opened_to s call units digits (endpoint_of s.endpoints id)
+      (sym (verdict_is s call units id digits) ∙ h) in
+      (sym (is_some_found (has_id id) s.endpoints) ∙ is.0, is.1)),
+  (λ h. verdict_is s call units id digits
+      ∙ refused_as_open s call units digits (endpoint_of s.endpoints id)
+      (is_some_found (has_id id) s.endpoints ∙ h.0) h.1),
 )

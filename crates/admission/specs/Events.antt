@@ -1,23 +1,59 @@
--- Events: what a core is asked, and what an entry and a receipt name of it.
+-- Events as plain values: what a core is asked, and what an entry and a receipt name of it.
 use Rattle.std.specs.Prelude.{ℕ, List, Option, Some, None}
+use Rattle.registry.specs.Endpoint.{EndpointParts}
 use Rattle.admission.specs.declared.events.Event.{Event}
-use Rattle.admission.specs.declared.events.Event.TheVariants.{Register, Unregister, Admit}
+use Rattle.admission.specs.declared.events.Event.TheVariants as events
 use Rattle.admission.specs.declared.events.EventKind.{EventKind}
-use Rattle.admission.specs.declared.events.EventKind.TheVariants.{Registration, Unregistration, Admission}
+use Rattle.admission.specs.declared.events.EventKind.TheVariants.{Registration, Unregistration, Admission, BandwidthChange, Release}
 
-abbrev pub kind_of : Event → EventKind
-kind_of (Register endpoint) = Registration
-kind_of (Unregister id) = Unregistration
-kind_of (Admit id call digits units) = Admission
+-- an event by its values alone
+pub data PlainEvent : Type 0 where
+  -- an endpoint asks to be registered, in the zone that it names
+  Registering : EndpointParts → PlainEvent
+  -- the endpoint of this ID asks to be unregistered
+  Unregistering : (id : List ℕ) → PlainEvent
+  -- it asks to be admitted to a call to these digits, with this bandwidth
+  Admitting : (id : List ℕ) (call : ℕ) (digits : List ℕ) (units : ℕ) → PlainEvent
+  -- it asks for another bandwidth for the call
+  Changing : (id : List ℕ) (call units : ℕ) → PlainEvent
+  -- it asks to be released from the call
+  Releasing : (id : List ℕ) (call : ℕ) → PlainEvent
+
+-- the values of an event
+abbrev pub plain : Event → PlainEvent
+plain (events.Register endpoint) = Registering endpoint
+plain (events.Unregister id) = Unregistering id
+plain (events.Admit id call digits units) = Admitting id call digits units
+plain (events.Change id call units) = Changing id call units
+plain (events.Release id call) = Releasing id call
+
+abbrev pub kind_of : PlainEvent → EventKind
+kind_of (Registering endpoint) = Registration
+kind_of (Unregistering id) = Unregistration
+kind_of (Admitting id call digits units) = Admission
+kind_of (Changing id call units) = BandwidthChange
+kind_of (Releasing id call) = Release
 
 -- the ID of the endpoint that asks
-abbrev pub id_of : Event → Option (List ℕ)
-id_of (Register endpoint) = Some endpoint.id
-id_of (Unregister id) = Some id
-id_of (Admit id call digits units) = Some id
+abbrev pub id_of : PlainEvent → Option (List ℕ)
+id_of (Registering endpoint) = Some endpoint.id
+id_of (Unregistering id) = Some id
+id_of (Admitting id call digits units) = Some id
+id_of (Changing id call units) = Some id
+id_of (Releasing id call) = Some id
 
 -- the number of the call that it is about
-abbrev pub call_number_of : Event → Option ℕ
-call_number_of (Register endpoint) = None
-call_number_of (Unregister id) = None
-call_number_of (Admit id call digits units) = Some call
+abbrev pub call_number_of : PlainEvent → Option ℕ
+call_number_of (Registering endpoint) = None
+call_number_of (Unregistering id) = None
+call_number_of (Admitting id call digits units) = Some call
+call_number_of (Changing id call units) = Some call
+call_number_of (Releasing id call) = Some call
+
+-- the endpoint that asks to be registered
+abbrev pub endpoint_asking : PlainEvent → Option EndpointParts
+endpoint_asking (Registering endpoint) = Some endpoint
+endpoint_asking (Unregistering id) = None
+endpoint_asking (Admitting id call digits units) = None
+endpoint_asking (Changing id call units) = None
+endpoint_asking (Releasing id call) = None

@@ -1,24 +1,30 @@
 -- What every record says, whatever was asked: its admissions went where the configuration leads,
--- and it never passes the limits.
-use Rattle.std.specs.Prelude.{◌≡◌, ◌≤◌, ℕ, ◌+◌, List, ◌∷◌, ◌++◌, length, Ok}
+-- its grants keep the sums of their calls within the limits, and it never passes the limits of the
+-- run.
+use Rattle.std.specs.Prelude.{◌≡◌, ◌≤◌, ◌<◌, ℕ, ◌+◌, List, [], ◌∷◌, ◌++◌, length, Option, Some, None, Ok}
+use Rattle.std.specs.List.{filter_map}
 use Rattle.command_reader.specs.declared.commands.Command.{Command}
 use Rattle.command_reader.specs.Configuration.{Configuration}
+use Rattle.command_reader.specs.Reading.{reading_in}
+use Rattle.compiler.specs.Last.{last_in}
+use Rattle.bandwidth.specs.declared.open_call.OpenCall.{OpenCall}
+use Rattle.bandwidth.specs.Calls.{call_of}
+use Rattle.bandwidth.specs.FitLaws.{SumsAreWithin}
 use Rattle.admission.specs.declared.limits.Limits.{Limits}
-use Rattle.admission.specs.declared.events.Event.TheVariants.{Admit}
 use Rattle.admission.specs.declared.routes.Destination.{Destination}
 use Rattle.admission.specs.declared.routes.RouteRefusal.{RouteRefusal}
 use Rattle.admission.specs.declared.replies.AdmitRefusal.TheVariants.{NoRoute}
-use Rattle.admission.specs.declared.replies.Reply.TheVariants.{Admitted, AdmitRefused}
-use Rattle.admission.specs.declared.record.Entry.{Entry}
+use Rattle.admission.specs.declared.replies.Reply.{Reply}
+use Rattle.admission.specs.declared.replies.Reply.TheVariants.{Admitted, AdmitRefused, Changed}
 use Rattle.admission.specs.State.{State, opening_of}
-use Rattle.admission.specs.History.{IsLegal, replay}
-use Rattle.command_reader.specs.Reading.{reading_in}
+use Rattle.admission.specs.Events.{PlainEvent, Registering, Unregistering, Admitting, Changing, Releasing}
+use Rattle.admission.specs.History.{PlainEntry, IsLegal, replay}
 use Rattle.admission.specs.RouteLaws.{IsRouted, IsUnrouted}
 
 -- ---- routes
 -- the entry is in the record, after these
-abbrev pub StandsAfter : List Entry → List Entry → Entry → Type 0
-StandsAfter entries before e = (after : List Entry) × (entries ≡ before ++ e ∷ after)
+abbrev pub StandsAfter : List PlainEntry → List PlainEntry → PlainEntry → Type 0
+StandsAfter entries before e = (after : List PlainEntry) × (entries ≡ before ++ e ∷ after)
 
 -- under an accepted configuration, each granted admission of a record, for the call and the
 -- bandwidth that were asked, went where its digits led, by the endpoints that were registered when
@@ -26,12 +32,13 @@ StandsAfter entries before e = (after : List Entry) × (entries ≡ before ++ e 
 abbrev pub RecordedAdmissionsAreRouted : Type 0
 RecordedAdmissionsAreRouted =
     (lines : List (List ℕ)) (configuration : Configuration) (limits : Limits)
-    (entries before : List Entry) (e : Entry)
+    (entries before : List PlainEntry) (e : PlainEntry)
     → reading_in lines ≡ Ok configuration
     → IsLegal (opening_of configuration.commands limits) entries
     → StandsAfter entries before e
     → (call units : ℕ) (id digits : List ℕ) (replied_call granted : ℕ) (destination : Destination)
-    → e.event ≡ Admit id call digits units → e.reply ≡ Admitted replied_call destination granted
+    → e.event ≡ Admitting id call digits units
+    → e.reply ≡ Admitted replied_call destination granted
     → (replied_call ≡ call) × (granted ≡ units)
     × IsRouted (replay (opening_of configuration.commands limits) before) id digits destination
 
@@ -39,14 +46,52 @@ RecordedAdmissionsAreRouted =
 abbrev pub RecordedRefusalsAreUnrouted : Type 0
 RecordedRefusalsAreUnrouted =
     (lines : List (List ℕ)) (configuration : Configuration) (limits : Limits)
-    (entries before : List Entry) (e : Entry)
+    (entries before : List PlainEntry) (e : PlainEntry)
     → reading_in lines ≡ Ok configuration
     → IsLegal (opening_of configuration.commands limits) entries
     → StandsAfter entries before e
     → (call units : ℕ) (id digits : List ℕ) (replied_call : ℕ) (refusal : RouteRefusal)
-    → e.event ≡ Admit id call digits units → e.reply ≡ AdmitRefused replied_call (NoRoute refusal)
+    → e.event ≡ Admitting id call digits units
+    → e.reply ≡ AdmitRefused replied_call (NoRoute refusal)
     → (replied_call ≡ call)
     × IsUnrouted (replay (opening_of configuration.commands limits) before) id digits refusal
+
+-- ---- bandwidth
+-- the reply grants bandwidth that the call of this number did not have: it opens the call, or it
+-- gives it more
+pub data IsGrant (s : State) (number units : ℕ) : Reply → Type 0 where
+  ToOpen : (destination : Destination) → IsGrant s number units (Admitted number destination units)
+  ToRaise : (held : OpenCall) → call_of s.calls number ≡ Some held → held.units < units
+      → IsGrant s number units (Changed number units)
+
+-- the call of this number is open with this bandwidth, and no sum of it is above its limit
+pub record IsWithin (s : State) (number units : ℕ) : Type 0 where
+  pub call : OpenCall
+  pub is_open : call_of s.calls number ≡ Some call
+  pub granted : call.units ≡ units
+  pub within : SumsAreWithin s.commands s.calls call
+
+-- no grant of a record leaves a sum of its call above its limit in force
+abbrev pub RecordedGrantsAreWithin : Type 0
+RecordedGrantsAreWithin =
+    (commands : List Command) (limits : Limits) (entries before : List PlainEntry) (e : PlainEntry)
+    (number units : ℕ)
+    → IsLegal (opening_of commands limits) entries
+    → StandsAfter entries before e
+    → IsGrant (replay (opening_of commands limits) before) number units e.reply
+    → IsWithin (replay (opening_of commands limits) (before ++ e ∷ [])) number units
+
+-- and no call was given more while a sum of it stood above its limit already
+abbrev pub RecordedRaisesWereWithin : Type 0
+RecordedRaisesWereWithin =
+    (commands : List Command) (limits : Limits) (entries before : List PlainEntry) (e : PlainEntry)
+    (number units : ℕ) (held : OpenCall)
+    → IsLegal (opening_of commands limits) entries
+    → StandsAfter entries before e
+    → e.reply ≡ Changed number units
+    → call_of (replay (opening_of commands limits) before).calls number ≡ Some held
+    → held.units < units
+    → IsWithin (replay (opening_of commands limits) before) number held.units
 
 -- ---- limits
 -- endpoints and calls are within their limits, and the record has room for its entries and for one
@@ -56,18 +101,31 @@ pub record IsWithinLimits (s : State) : Type 0 where
   pub calls : length s.calls ≤ s.limits.calls
   pub records : s.records + length s.calls ≤ s.limits.records
 
--- what every record keeps: its commands and limits, a count of its entries, and the limits
+-- the commands that an event puts in force
+abbrev pub put_in_force : PlainEvent → Option (List Command)
+put_in_force (Registering e) = None
+put_in_force (Unregistering id) = None
+put_in_force (Admitting id call digits units) = None
+put_in_force (Changing id call units) = None
+put_in_force (Releasing id call) = None
+
+-- the commands that were put in force, the opening ones first
+abbrev pub generations_of : List Command → List PlainEntry → List (List Command)
+generations_of commands entries = commands ∷ filter_map (λ e. put_in_force e.event) entries
+
+-- what every record keeps: the commands in force are the last that were put in force, the version
+-- is the number of those that were, the limits stay, its entries are counted, and no limit is passed
 pub record IsSound
-    (commands : List Command) (limits : Limits) (entries : List Entry) (s : State)
+    (commands : List Command) (limits : Limits) (entries : List PlainEntry) (s : State)
     : Type 0 where
-  pub commands_are : s.commands ≡ commands
-  pub version_is : s.version ≡ 1
+  pub commands_are : Some s.commands ≡ last_in (generations_of commands entries)
+  pub version_is : s.version ≡ length (generations_of commands entries)
   pub limits_are : s.limits ≡ limits
   pub records_are : s.records ≡ length entries
   pub within : IsWithinLimits s
 
 abbrev pub RecordsAreSound : Type 0
 RecordsAreSound =
-    (commands : List Command) (limits : Limits) (entries : List Entry)
+    (commands : List Command) (limits : Limits) (entries : List PlainEntry)
     → IsLegal (opening_of commands limits) entries
     → IsSound commands limits entries (replay (opening_of commands limits) entries)

@@ -1,8 +1,10 @@
 pub mod CoreInvariant
 pub mod Events
+pub mod Founded
 pub mod History
 pub mod HistoryLaws
 pub mod Limits
+pub mod Refusals
 pub mod RouteLaws
 pub mod Routes
 pub mod Routing

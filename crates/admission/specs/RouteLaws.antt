@@ -16,19 +16,20 @@ use Rattle.compiler.specs.Technology.{prefixes_of, begins_with, hopoffs_of, defa
 use Rattle.compiler.specs.Rows.{Row, rows_of, zones_for}
 use Rattle.compiler.specs.Plan.{rejects_unknown}
 use Rattle.registry.specs.Endpoint.{EndpointParts}
-use Rattle.registry.specs.Registration.{endpoint_of}
+use Rattle.registry.specs.Registration.{endpoint_of, is_registered}
+use Rattle.bandwidth.specs.Calls.{is_open}
 use Rattle.registry.specs.Gateway.{IsChosen}
 use Rattle.registry.specs.GatewayLaws.{HasNoCandidate}
-use Rattle.admission.specs.declared.events.Event.TheVariants.{Admit}
 use Rattle.admission.specs.declared.routes.Destination.{Destination}
 use Rattle.admission.specs.declared.routes.Destination.TheVariants as destinations
 use Rattle.admission.specs.declared.routes.RouteRefusal.{RouteRefusal}
 use Rattle.admission.specs.declared.routes.RouteRefusal.TheVariants as refusals
-use Rattle.admission.specs.declared.replies.AdmitRefusal.TheVariants.{CallerNotRegistered, NoRoute}
+use Rattle.admission.specs.declared.replies.AdmitRefusal.TheVariants.{CallerNotRegistered, CallOpen, NoRoute}
 use Rattle.admission.specs.declared.replies.Reply.TheVariants.{Admitted, AdmitRefused}
 use Rattle.admission.specs.State.{State}
+use Rattle.admission.specs.Events.{Admitting}
 use Rattle.admission.specs.Routing.{destination_of}
-use Rattle.admission.specs.Step.{verdict_of}
+use Rattle.admission.specs.Ruling.{verdict_of}
 
 -- x is the first of the list that has the property
 pub record IsFirst {X : Type 0} (Has : X → Type 0) (xs : List X) (x : X) : Type 0 where
@@ -178,7 +179,7 @@ AdmissionsAreRouted =
     (lines : List (List ℕ)) (configuration : Configuration) (s : State)
     → reading_in lines ≡ Ok configuration → s.commands ≡ configuration.commands
     → (call units : ℕ) (id digits : List ℕ) (replied_call granted : ℕ) (destination : Destination)
-    → verdict_of s (Admit id call digits units) ≡ Admitted replied_call destination granted
+    → verdict_of s (Admitting id call digits units) ≡ Admitted replied_call destination granted
     → (replied_call ≡ call) × (granted ≡ units) × IsRouted s id digits destination
 
 -- and one that is refused for its route has digits that lead nowhere, for this reason
@@ -187,12 +188,19 @@ RefusalsAreUnrouted =
     (lines : List (List ℕ)) (configuration : Configuration) (s : State)
     → reading_in lines ≡ Ok configuration → s.commands ≡ configuration.commands
     → (call units : ℕ) (id digits : List ℕ) (replied_call : ℕ) (refusal : RouteRefusal)
-    → verdict_of s (Admit id call digits units) ≡ AdmitRefused replied_call (NoRoute refusal)
+    → verdict_of s (Admitting id call digits units) ≡ AdmitRefused replied_call (NoRoute refusal)
     → (replied_call ≡ call) × IsUnrouted s id digits refusal
 
 -- a caller is refused as not registered exactly if it is not
 abbrev pub StrangersAreRefused : Type 0
 StrangersAreRefused =
     (s : State) (call units : ℕ) (id digits : List ℕ)
-    → (verdict_of s (Admit id call digits units) ≡ AdmitRefused call CallerNotRegistered)
+    → (verdict_of s (Admitting id call digits units) ≡ AdmitRefused call CallerNotRegistered)
     ↔ (endpoint_of s.endpoints id ≡ None)
+
+-- a call number is refused as open exactly if the caller is registered and a call of it is open
+abbrev pub OpenNumbersAreRefused : Type 0
+OpenNumbersAreRefused =
+    (s : State) (call units : ℕ) (id digits : List ℕ)
+    → (verdict_of s (Admitting id call digits units) ≡ AdmitRefused call CallOpen)
+    ↔ ((is_registered s.endpoints id ≡ true) × (is_open s.calls call ≡ true))

@@ -1,56 +1,161 @@
--- What a machine rules of an event, apart from counts and memory.
-use Rattle.std.specs.Prelude.{ℕ, Option, Some, None, option_map, if◌then◌else◌}
+-- What is ruled of an event in a state: the verdict, what its entry tells of an admission, and what
+-- it changes. The verdict, the entry and the effect of an event are parts of its ruling.
+use Rattle.std.specs.Prelude.{ℕ, List, Option, Some, None, if◌then◌else◌}
+use Rattle.compiler.specs.Zones.{zone_meant}
+use Rattle.compiler.specs.Plan.{Target, plan_of, zone_of_target, is_remote}
 use Rattle.registry.specs.Endpoint.{EndpointParts}
-use Rattle.admission.specs.State.{State}
-use Rattle.compiler.specs.Plan.{Target, plan_of}
-use Rattle.admission.specs.Routing.{route_of}
-use Rattle.bandwidth.specs.Calls.{is_open, with_call}
-use Rattle.admission.specs.Step.{verdict_of, opened_call_of_target}
-use Rattle.admission.specs.History.{caller_of, found_route_of}
-use Rattle.bandwidth.specs.declared.calls.OpenCall.{OpenCall}
-use Rattle.admission.specs.declared.events.Event.{Event}
-use Rattle.admission.specs.declared.events.Event.TheVariants.{Register, Unregister, Admit}
-use Rattle.registry.specs.declared.faults.RegistryFault.{RegistryFault}
-use Rattle.registry.specs.declared.faults.RegistryFault.TheVariants as faults
-use Rattle.admission.specs.declared.replies.RegisterRefusal.{RegisterRefusal}
-use Rattle.admission.specs.declared.replies.RegisterRefusal.TheVariants as register
-use Rattle.admission.specs.declared.machine.Ruling.{Ruling}
+use Rattle.registry.specs.Registration.{registration_refusal, endpoint_of, is_registered}
+use Rattle.bandwidth.specs.declared.open_call.OpenCall.{OpenCall}
+use Rattle.bandwidth.specs.declared.over.Over.{Over}
+use Rattle.bandwidth.specs.Calls.{call_of, is_open, owns, has_owner}
+use Rattle.bandwidth.specs.Fits.{over_of}
+use Rattle.admission.specs.declared.routes.Destination.{Destination}
 use Rattle.admission.specs.declared.routes.Route.{Route}
 use Rattle.admission.specs.declared.routes.Route.TheVariants.{To, Refused}
+use Rattle.admission.specs.declared.replies.RegisterRefusal.{RegisterRefusal}
+use Rattle.admission.specs.declared.replies.RegisterRefusal.TheVariants as register
+use Rattle.admission.specs.declared.replies.UnregisterRefusal.TheVariants as unregister
+use Rattle.admission.specs.declared.replies.AdmitRefusal.TheVariants as admit
+use Rattle.admission.specs.declared.replies.ChangeRefusal.TheVariants as change
+use Rattle.admission.specs.declared.replies.ReleaseRefusal.{ReleaseRefusal}
+use Rattle.admission.specs.declared.replies.ReleaseRefusal.TheVariants as release
+use Rattle.admission.specs.declared.replies.Reply.{Reply}
+use Rattle.admission.specs.declared.replies.Reply.TheVariants.{Registered, RegisterRefused, Unregistered, UnregisterRefused, Admitted, AdmitRefused, Changed, ChangeRefused, Released, ReleaseRefused}
+use Rattle.admission.specs.declared.rulings.Effect.{Effect}
+use Rattle.admission.specs.declared.rulings.Effect.TheVariants as effects
+use Rattle.admission.specs.declared.rulings.Ruling.{Ruling}
+use Rattle.admission.specs.State.{State}
+use Rattle.admission.specs.Events.{PlainEvent, Registering, Unregistering, Admitting, Changing, Releasing}
+use Rattle.admission.specs.Routing.{route_of}
 
--- the call that an admission to this route opens
-abbrev pub opened_call_of_route : EndpointParts → ℕ → ℕ → Target → Route → Option OpenCall
-opened_call_of_route caller call units target (Refused reason) = None
-opened_call_of_route caller call units target (To destination) =
-    Some (opened_call_of_target caller call units target)
+-- a ruling on an event that is not routed
+abbrev pub unrouted : Reply → Effect → Ruling
+unrouted verdict effect =
+    record { verdict = verdict; zone = None; route = None; effect = effect }
 
--- the call that an event of this caller would open
-abbrev pub opened_call_of : State → Event → Option EndpointParts → Option OpenCall
-opened_call_of s (Register e) caller = None
-opened_call_of s (Unregister id) caller = None
-opened_call_of s (Admit id call digits units) None = None
-opened_call_of s (Admit id call digits units) (Some caller) =
-    if is_open s.calls call then None
-    else opened_call_of_route caller call units (plan_of s.commands digits)
-    (route_of s.commands s.endpoints caller.zone digits)
+-- ---- registrations
+-- why an endpoint may not register, apart from the counts: the first of three refusals
+abbrev pub register_refusal : State → EndpointParts → Option RegisterRefusal
+register_refusal s e =
+    registration_refusal register.UnknownZone register.DuplicateAlias s.commands s.endpoints e
 
-abbrev pub ruling_of : State → Event → Ruling
-ruling_of s event = record {
-  verdict = verdict_of s event;
-  zone = option_map (λ caller. caller.zone) (caller_of s event);
-  route = found_route_of s event (caller_of s event);
-  opens = opened_call_of s event (caller_of s event);
+abbrev pub registration_unless : State → EndpointParts → Option RegisterRefusal → Ruling
+registration_unless s e (Some refusal) = unrouted (RegisterRefused e.id refusal) effects.Nothing
+registration_unless s e None =
+    let zone = zone_meant s.commands e.zone in
+    unrouted (Registered e.id zone) (effects.Put zone)
+
+abbrev pub registration_ruling : State → EndpointParts → Ruling
+registration_ruling s e = registration_unless s e (register_refusal s e)
+
+-- ---- unregistrations
+-- an endpoint that is not registered, or that owns an open call, may not
+abbrev pub unregistration_ruling : State → List ℕ → Ruling
+unregistration_ruling s id =
+    if is_registered s.endpoints id
+    then (if owns s.calls id
+    then unrouted (UnregisterRefused id unregister.CallInProgress) effects.Nothing
+    else unrouted (Unregistered id) (effects.Remove id))
+    else unrouted (UnregisterRefused id unregister.NotRegistered) effects.Nothing
+
+-- ---- admissions
+-- the call that an admission of this caller would open
+abbrev pub admitted_call : EndpointParts → ℕ → ℕ → Target → OpenCall
+admitted_call caller call units target = record {
+  number = call;
+  owner = caller.id;
+  source = caller.zone;
+  target = zone_of_target caller.zone target;
+  remote = is_remote target;
+  units = units;
 }
 
--- with a call opened, if there is one
-abbrev pub with_opened : State → Option OpenCall → State
-with_opened s None = s
-with_opened s (Some call) = record s { calls = with_call s.calls call }
+-- to a destination, unless a sum of the call would be above its limit
+abbrev pub admission_unless : List ℕ → Destination → OpenCall → Option Over → Ruling
+admission_unless zone destination call None = record {
+  verdict = Admitted call.number destination call.units;
+  zone = Some zone;
+  route = Some (To destination);
+  effect = effects.Open call;
+}
+admission_unless zone destination call (Some over) = record {
+  verdict = AdmitRefused call.number (admit.OverLimit over);
+  zone = Some zone;
+  route = Some (To destination);
+  effect = effects.Nothing;
+}
 
--- why a registry refuses a registration, room and memory aside, in the words of a reply
-abbrev pub refusal_of : RegistryFault → Option RegisterRefusal
-refusal_of faults.UnknownZone = Some register.UnknownZone
-refusal_of (faults.DuplicateAlias duplicate) = Some (register.DuplicateAlias duplicate)
-refusal_of faults.TooMany = None
-refusal_of faults.NoMemory = None
-refusal_of faults.NotRegistered = None
+-- by the route of the digits
+abbrev pub admission_to : State → EndpointParts → ℕ → ℕ → Target → Route → Ruling
+admission_to s caller call units target (Refused refusal) = record {
+  verdict = AdmitRefused call (admit.NoRoute refusal);
+  zone = Some caller.zone;
+  route = Some (Refused refusal);
+  effect = effects.Nothing;
+}
+admission_to s caller call units target (To destination) =
+    let admitted = admitted_call caller call units target in
+    admission_unless caller.zone destination admitted (over_of s.commands s.calls admitted)
+
+-- the number of the call is an open call's
+abbrev pub call_open_ruling : EndpointParts → ℕ → Ruling
+call_open_ruling caller call = record {
+  verdict = AdmitRefused call admit.CallOpen;
+  zone = Some caller.zone;
+  route = None;
+  effect = effects.Nothing;
+}
+
+-- the caller is registered, no call of the number is open, then the digits decide, and then the
+-- limits
+abbrev pub admission_ruling : State → ℕ → List ℕ → ℕ → Option EndpointParts → Ruling
+admission_ruling s call digits units None =
+    unrouted (AdmitRefused call admit.CallerNotRegistered) effects.Nothing
+admission_ruling s call digits units (Some caller) =
+    if is_open s.calls call then call_open_ruling caller call
+    else admission_to s caller call units (plan_of s.commands digits)
+    (route_of s.commands s.endpoints caller.zone digits)
+
+-- ---- bandwidth changes
+-- this bandwidth for the call, unless a sum of it would be above its limit
+abbrev pub change_unless : List ℕ → ℕ → ℕ → Option Over → Ruling
+change_unless id call units None =
+    unrouted (Changed call units) (effects.Resize call id units)
+change_unless id call units (Some over) =
+    unrouted (ChangeRefused call (change.OverLimit over)) effects.Nothing
+
+-- the call is open and the endpoint's own, and then the limits decide
+abbrev pub change_ruling : State → List ℕ → ℕ → ℕ → Option OpenCall → Ruling
+change_ruling s id call units None =
+    unrouted (ChangeRefused call change.NoCall) effects.Nothing
+change_ruling s id call units (Some held) =
+    if has_owner id held
+    then change_unless id call units (over_of s.commands s.calls (record held { units = units }))
+    else unrouted (ChangeRefused call change.NotYours) effects.Nothing
+
+-- ---- releases
+-- an endpoint may not release a call that is not open, or another's; one that is not registered is
+-- refused for that first
+abbrev pub release_refused : State → List ℕ → ℕ → ReleaseRefusal → Ruling
+release_refused s id call reason =
+    if is_registered s.endpoints id then unrouted (ReleaseRefused call reason) effects.Nothing
+    else unrouted (ReleaseRefused call release.NotRegistered) effects.Nothing
+
+-- a call is released for its owner, registered or not
+abbrev pub release_ruling : State → List ℕ → ℕ → Option OpenCall → Ruling
+release_ruling s id call None = release_refused s id call release.NoCall
+release_ruling s id call (Some held) =
+    if has_owner id held then unrouted (Released call) (effects.Close call id)
+    else release_refused s id call release.NotYours
+
+-- ---- the ruling
+unfoldable pub ruling_of : State → PlainEvent → Ruling
+ruling_of s (Registering e) = registration_ruling s e
+ruling_of s (Unregistering id) = unregistration_ruling s id
+ruling_of s (Admitting id call digits units) =
+    admission_ruling s call digits units (endpoint_of s.endpoints id)
+ruling_of s (Changing id call units) = change_ruling s id call units (call_of s.calls call)
+ruling_of s (Releasing id call) = release_ruling s id call (call_of s.calls call)
+
+abbrev pub verdict_of : State → PlainEvent → Reply
+verdict_of s event = (ruling_of s event).verdict

@@ -1,12 +1,12 @@
 -- The state of a running core, except its record.
 use Rattle.std.specs.Prelude.{ℕ, ◌-◌, List, [], length}
 use Rattle.command_reader.specs.declared.commands.Command.{Command}
-use Rattle.bandwidth.specs.declared.calls.OpenCall.{OpenCall}
+use Rattle.bandwidth.specs.declared.open_call.OpenCall.{OpenCall}
 use Rattle.admission.specs.declared.limits.Limits.{Limits}
 use Rattle.registry.specs.Endpoint.{EndpointParts}
 
 -- the commands in force and the number of their version, the endpoints in order of registration,
--- the open calls in order of admission, how many verdicts were recorded, and the limits
+-- the open calls in order of number, how many verdicts were recorded, and the limits
 pub record State : Type 0 where
   pub commands : List Command
   pub version : ℕ

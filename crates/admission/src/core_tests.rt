@@ -3,7 +3,9 @@
 use crate::cores::{Core, OpeningFault};
 use crate::events::{Event, EventKind};
 use crate::limits::{Limits, STATED_LIMITS};
-use crate::replies::{AdmitRefusal, RegisterRefusal, Reply, UnregisterRefusal};
+use crate::replies::{
+    AdmitRefusal, ChangeRefusal, RegisterRefusal, ReleaseRefusal, Reply, UnregisterRefusal,
+};
 use crate::routes::{Destination, Route};
 use crate::routing::route;
 use crate::test_cores::{
@@ -150,6 +152,34 @@ fn assert_answers(rt: &impl Abort, alloc: Global, core: &mut Core) -> Result<(),
 }
 
 #[test]
+fn changes_and_releases_a_call(rt: HostRuntime) -> Result<(), Fail> {
+    let mut core = core_within(rt.alloc(), STATED_LIMITS)?;
+    assert_released(&rt, rt.alloc(), &mut core)
+}
+
+/// Asserts the replies to a change and to two releases of a call.
+fn assert_released(rt: &impl Abort, alloc: Global, core: &mut Core) -> Result<(), Fail> {
+    let ta = Name::read(b"ta")?;
+    let call = 1001;
+    let units = Units::new(5);
+    five_events(alloc, core)?;
+    let (reply, receipt) = core.change(&ta, call, units)?;
+    assert_eq!(rt; reply, Reply::Changed { call, units });
+    assert_eq!(rt;
+        (receipt.number, receipt.kind),
+        (6, EventKind::BandwidthChange)
+    );
+    let (reply, receipt) = core.release(&ta, call)?;
+    assert_eq!(rt; reply, Reply::Released { call });
+    assert_eq!(rt; (receipt.number, receipt.kind), (7, EventKind::Release));
+    let reason = ReleaseRefusal::NoCall;
+    let refused = Reply::ReleaseRefused { call, reason };
+    assert_eq!(rt; core.release(&ta, call).err(), Some(refused));
+    assert_eq!(rt; core.record().len(), 7);
+    Ok(())
+}
+
+#[test]
 fn plans_anew_for_another_version(rt: HostRuntime) -> Result<(), Fail> {
     let mut core = core_within(rt.alloc(), STATED_LIMITS)?;
     assert_planned(&rt, rt.alloc(), &mut core)
@@ -243,9 +273,24 @@ fn assert_unrecorded(rt: &impl Abort, alloc: Global, core: &mut Core) -> Result<
     let refused = Reply::UnregisterRefused { id: ta, reason };
     assert_eq!(rt; reply_of_unrecorded(core, event)?, refused);
 
-    let event = admission(b"ta", 1001, b"9123")?;
+    let call = 1001;
+    let event = admission(b"ta", call, b"9123")?;
     let reason = AdmitRefusal::RecordFull;
-    let refused = Reply::AdmitRefused { call: 1001, reason };
+    let refused = Reply::AdmitRefused { call, reason };
+    assert_eq!(rt; reply_of_unrecorded(core, event)?, refused);
+
+    let event = Event::Change {
+        id: ta,
+        call,
+        units: Units::new(0),
+    };
+    let reason = ChangeRefusal::RecordFull;
+    let refused = Reply::ChangeRefused { call, reason };
+    assert_eq!(rt; reply_of_unrecorded(core, event)?, refused);
+
+    let event = Event::Release { id: ta, call };
+    let reason = ReleaseRefusal::NoCall;
+    let refused = Reply::ReleaseRefused { call, reason };
     assert_eq!(rt; reply_of_unrecorded(core, event)?, refused);
 
     assert_eq!(rt; core.record().len(), 1);

@@ -1,6 +1,7 @@
 //! The core: one event after another, each recorded with its reply.
 
 ghost use Rattle.std.specs.Prelude.{◌≡◌, ◌↔◌, [], Some, false, IfOk, IsErrOf};
+ghost use Rattle.admission.specs.Events as Events;
 ghost use Rattle.admission.specs.State.{opening_of};
 ghost use Rattle.admission.specs.Limits.{are_limits};
 ghost use Rattle.compiler.specs.Plan.{plan_of, target_of};
@@ -10,10 +11,11 @@ ghost use Rattle.admission.specs.HistoryLaws.{IsSound};
 
 use crate::events::Event;
 use crate::limits::Limits;
-use crate::machine::{Machine, Ruling};
+use crate::machine::Machine;
 use crate::record::{Receipt, Record};
 use crate::replies::Reply;
-use crate::verdicts::no_memory_reply_of;
+use crate::rulings::Ruling;
+use crate::settling::enter;
 use bandwidth::OpenCalls;
 use compiler::{Plan, Routed, Tables};
 use gk_terms::{Dialled, Name, Units, Version};
@@ -39,7 +41,7 @@ pub enum OpeningFault {
 #[derive(Drop)]
 pub struct Core {
     machine: Machine,
-    entries: Record,
+    history: Record,
 }
 
 impl Model for Core {
@@ -51,11 +53,11 @@ impl Model for Core {
 
     ghost view = { λ c. record {
       opening = opening_of c.machine.commands c.machine.limits;
-      entries = c.entries;
+      entries = c.history.entries;
     } };
 
     ghost invariant = { λ c. IsKept
-        (opening_of c.machine.commands c.machine.limits) c.entries c.machine };
+        (opening_of c.machine.commands c.machine.limits) c.history c.machine };
 }
 
 impl Core {
@@ -71,7 +73,7 @@ impl Core {
         }
         Ok(Core {
             machine: Machine::new(alloc, tables, limits),
-            entries: Record::new(alloc),
+            history: Record::new(alloc),
         })
     }
 
@@ -79,7 +81,7 @@ impl Core {
 
     /// Registers an endpoint. Ok and Err are as of `answer`.
     pub fn register(&mut self, endpoint: Endpoint) -> Result<(Reply, Receipt), Reply>
-        ensures { Steps self.old (Event.Register endpoint) result self.new }
+        ensures { Steps self.old (Events.Registering endpoint) result self.new }
     {
         let ruling = self.machine().registration(&endpoint);
         self.settle(Event::Register(endpoint), &ruling)
@@ -87,7 +89,7 @@ impl Core {
 
     /// Takes a registration away. Ok and Err are as of `answer`.
     pub fn unregister(&mut self, id: &Name) -> Result<(Reply, Receipt), Reply>
-        ensures { Steps self.old (Event.Unregister id.now) result self.new }
+        ensures { Steps self.old (Events.Unregistering id.now) result self.new }
     {
         let ruling = self.machine().unregistration(id);
         self.settle(Event::Unregister { id: *id }, &ruling)
@@ -106,7 +108,7 @@ impl Core {
         requires planned { routed.now.version ≡ (state_of self.old).version
             → target_of (state_of self.old).commands routed.now.plan
             ≡ Some (plan_of (state_of self.old).commands routed.now.dialled) }
-        ensures { Steps self.old (Event.Admit id.now call routed.now.dialled units)
+        ensures { Steps self.old (Events.Admitting id.now call routed.now.dialled units)
             result self.new }
     {
         let digits = routed.dialled;
@@ -121,14 +123,36 @@ impl Core {
         self.settle(event, &ruling)
     }
 
+    /// Gives an open call another bandwidth. Ok and Err are as of `answer`.
+    pub fn change(&mut self, id: &Name, call: u32, units: Units) -> Result<(Reply, Receipt), Reply>
+        ensures { Steps self.old (Events.Changing id.now call units) result self.new }
+    {
+        let ruling = self.machine().bandwidth_change(id, call, units);
+        let event = Event::Change {
+            id: *id,
+            call,
+            units,
+        };
+        self.settle(event, &ruling)
+    }
+
+    /// Releases an open call. Ok and Err are as of `answer`. Takes no memory, and meets no full
+    /// record: the place of the entry was kept when the call was admitted.
+    pub fn release(&mut self, id: &Name, call: u32) -> Result<(Reply, Receipt), Reply>
+        ensures { Steps self.old (Events.Releasing id.now call) result self.new }
+    {
+        let ruling = self.machine().release(id, call);
+        self.settle(Event::Release { id: *id, call }, &ruling)
+    }
+
     /// Answers an event. An admission is planned by the tables in force.
     ///
     /// `Ok` comes exactly if the event was recorded: with the reply, granted or refused, and the
     /// receipt of the new entry. `Err` is a refusal by a count (endpoints-full, calls-full,
-    /// record-full), or no-memory if memory ran out for an event that would have been recorded;
-    /// then nothing has changed.
+    /// record-full), a refused release, or no-memory if memory ran out for an event that would have
+    /// been recorded; then nothing has changed.
     pub fn answer(&mut self, event: Event) -> Result<(Reply, Receipt), Reply>
-        ensures { Steps self.old event result self.new }
+        ensures { Steps self.old (Events.plain event) result self.new }
     {
         match event {
             Event::Register(endpoint) => self.register(endpoint),
@@ -142,6 +166,8 @@ impl Core {
                 let routed = self.route_here(&digits);
                 self.admit(&routed, &id, call, units)
             }
+            Event::Change { id, call, units } => self.change(&id, call, units),
+            Event::Release { id, call } => self.release(&id, call),
         }
     }
 
@@ -172,18 +198,22 @@ impl Core {
         }
     }
 
-    /// Refuses by a count, or records the event and carries out the ruling on it.
+    /// Refuses by a count, or records the event and carries out the ruling on it; a refused release
+    /// is not recorded.
     fn settle(&mut self, event: Event, ruling: &Ruling) -> Result<(Reply, Receipt), Reply>
-        requires { ruling.now ≡ ruling_of (state_of self.old) event }
-        ensures { Steps self.old event result self.new }
+        requires { ruling.now ≡ ruling_of (state_of self.old) (Events.plain event) }
+        ensures { Steps self.old (Events.plain event) result self.new }
     {
-        if let Some(refusal) = self.machine.count_refusal(&event, &ruling.verdict) {
+        if let Some(refusal) = self.machine.count_refusal(&event, ruling) {
             return Err(refusal);
         }
-        let no_memory = no_memory_reply_of(&event);
-        match self.entries.enter(&mut self.machine, event, ruling) {
+        if !ruling.verdict.is_recorded() {
+            return Err(ruling.verdict);
+        }
+        let no_memory = event.no_memory_reply();
+        match enter(&mut self.history, &mut self.machine, event, ruling) {
             Ok(receipt) => Ok((ruling.verdict, receipt)),
-            Err(_) => Err(no_memory),
+            Err(_) => Err(no_memory.unwrap()),
         }
     }
 
@@ -210,9 +240,9 @@ impl Core {
         self.machine().registry()
     }
 
-    /// The open calls, in order of admission.
+    /// The open calls, in order of number.
     pub fn calls(&self) -> &OpenCalls
-        ensures { result.now ≡ (state_of self.now).calls }
+        ensures { result.now.calls ≡ (state_of self.now).calls }
     {
         self.machine().calls()
     }
@@ -222,12 +252,14 @@ impl Core {
     /// before it leave, and with a place for the release of each open call it stays within the
     /// limit of the record.
     pub fn record(&self) -> &Record
-        ensures entries { result.now ≡ self.now.entries }
+        ensures entries { result.now.entries ≡ self.now.entries }
+        ensures opening { self.now.opening
+            ≡ opening_of self.now.opening.commands self.now.opening.limits }
         ensures legal { IsLegal self.now.opening self.now.entries }
         ensures sound { IsSound self.now.opening.commands self.now.opening.limits
             self.now.entries (state_of self.now) }
     {
-        &self.entries
+        &self.history
     }
 
     #[tactic(auto, unfolding(crate::specs::History::state_of))]

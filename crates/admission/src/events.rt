@@ -1,7 +1,7 @@
 //! Events: what a core is asked.
 
 ghost use Rattle.std.specs.Prelude.{◌≡◌};
-ghost use Rattle.admission.specs.Events.{kind_of, id_of, call_number_of};
+ghost use Rattle.admission.specs.Events.{plain, kind_of, id_of, call_number_of};
 
 use gk_terms::{Dialled, Name, Units};
 use registry::Endpoint;
@@ -27,6 +27,22 @@ pub enum Event {
         /// The bandwidth that the call asks for, in units of 100 bit/s.
         units: Units,
     },
+    /// Another bandwidth for an open call.
+    Change {
+        /// The ID of the endpoint that owns the call.
+        id: Name,
+        /// The number of the call, 1 to 4294967295.
+        call: u32,
+        /// The bandwidth that the call asks for, in units of 100 bit/s.
+        units: Units,
+    },
+    /// To be released from an open call.
+    Release {
+        /// The ID of the endpoint that owns the call.
+        id: Name,
+        /// The number of the call, 1 to 4294967295.
+        call: u32,
+    },
 }
 
 /// What kind of event it is.
@@ -38,37 +54,47 @@ pub enum EventKind {
     Unregistration,
     /// An admission.
     Admission,
+    /// A bandwidth change.
+    BandwidthChange,
+    /// A release.
+    Release,
 }
 
 impl Event {
     /// What kind of event it is.
     pub fn kind(&self) -> EventKind
-        ensures { result ≡ kind_of self.now }
+        ensures { result ≡ kind_of (plain self.now) }
     {
         match self {
             Event::Register(_) => EventKind::Registration,
             Event::Unregister { .. } => EventKind::Unregistration,
             Event::Admit { .. } => EventKind::Admission,
+            Event::Change { .. } => EventKind::BandwidthChange,
+            Event::Release { .. } => EventKind::Release,
         }
     }
 
     /// The ID of the endpoint that asks.
     pub fn id(&self) -> Option<Name>
-        ensures { result ≡ id_of self.now }
+        ensures { result ≡ id_of (plain self.now) }
     {
         match self {
             Event::Register(endpoint) => Some(endpoint.id()),
-            Event::Unregister { id } | Event::Admit { id, .. } => Some(*id),
+            Event::Unregister { id }
+            | Event::Admit { id, .. }
+            | Event::Change { id, .. }
+            | Event::Release { id, .. } => Some(*id),
         }
     }
 
     /// The number of the call that it is about, if it is about one.
     pub fn call(&self) -> Option<u32>
-        ensures { result ≡ call_number_of self.now }
+        ensures { result ≡ call_number_of (plain self.now) }
     {
         match self {
             Event::Register(_) | Event::Unregister { .. } => None,
-            Event::Admit { call, .. } => Some(*call),
+            Event::Admit { call, .. } | Event::Change { call, .. } | Event::Release { call, .. } =>
+                Some(*call),
         }
     }
 }

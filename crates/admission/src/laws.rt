@@ -1,8 +1,8 @@
 //! Theorems on how calls are routed, and on what every record keeps. Each is the contract of a
 //! function that does nothing.
 
-ghost use Rattle.admission.specs.HistoryLaws.{RecordedAdmissionsAreRouted, RecordedRefusalsAreUnrouted, RecordsAreSound};
-ghost use Rattle.admission.specs.RouteLaws.{AdmissionsAreRouted, RefusalsAreUnrouted, StrangersAreRefused};
+ghost use Rattle.admission.specs.HistoryLaws.{RecordedAdmissionsAreRouted, RecordedRefusalsAreUnrouted, RecordedGrantsAreWithin, RecordedRaisesWereWithin, RecordsAreSound};
+ghost use Rattle.admission.specs.RouteLaws.{AdmissionsAreRouted, RefusalsAreUnrouted, StrangersAreRefused, OpenNumbersAreRefused};
 
 /// Under an accepted configuration, in any state: if the verdict on an admission is a remote zone
 /// or an endpoint, the digits lead there, in one of the ways of the routing flow.
@@ -22,6 +22,12 @@ pub fn strangers_are_refused()
     ensures { StrangersAreRefused }
 {}
 
+/// The verdict on an admission is call-open exactly if its caller is registered and a call of its
+/// number is open. A full record, or that memory ran out, may be replied in its place.
+pub fn open_numbers_are_refused()
+    ensures { OpenNumbersAreRefused }
+{}
+
 /// In every legal history under an accepted configuration, as the record of a core is one: each
 /// granted admission went where its digits led, by the endpoints that were registered when it was
 /// asked.
@@ -35,9 +41,21 @@ pub fn recorded_refusals_are_unrouted()
     ensures { RecordedRefusalsAreUnrouted }
 {}
 
-/// Every legal history keeps its commands and limits, counts its entries, and leaves no more
-/// endpoints, calls or entries than its limits allow, with room for the entry of the release of
-/// each open call.
+/// In every legal history: after each grant, an admission or a raise, the call is open with the
+/// bandwidth that was granted, and no sum of it is above its limit in force.
+pub fn recorded_grants_are_within()
+    ensures { RecordedGrantsAreWithin }
+{}
+
+/// In every legal history: no raise was granted while a sum of its call stood above its limit in
+/// force.
+pub fn recorded_raises_were_within()
+    ensures { RecordedRaisesWereWithin }
+{}
+
+/// Every legal history has the commands in force that were put in force last, as its version says,
+/// keeps its limits, counts its entries, and leaves no more endpoints, calls or entries than its
+/// limits allow, with room for the entry of the release of each open call.
 pub fn records_are_sound()
     ensures { RecordsAreSound }
 {}

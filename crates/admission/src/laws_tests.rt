@@ -7,7 +7,10 @@ fn laws_can_be_called(_rt: HostRuntime) {
     laws::admissions_are_routed();
     laws::refusals_are_unrouted();
     laws::strangers_are_refused();
+    laws::open_numbers_are_refused();
     laws::recorded_admissions_are_routed();
     laws::recorded_refusals_are_unrouted();
+    laws::recorded_grants_are_within();
+    laws::recorded_raises_were_within();
     laws::records_are_sound();
 }

@@ -1,9 +1,11 @@
 //! The core of a gatekeeper: events in, replies and receipts out, each recorded.
 #![tactic(auto)]
 
+mod calling;
 #[cfg(test)]
 mod core_tests;
 pub mod cores;
+mod counts;
 pub mod events;
 pub mod laws;
 #[cfg(test)]
@@ -17,6 +19,8 @@ mod registering;
 pub mod replies;
 pub mod routes;
 pub mod routing;
+mod rulings;
+mod settling;
 #[cfg(test)]
 mod test_cores;
 mod verdicts;
@@ -26,6 +30,8 @@ pub use events::{Event, EventKind};
 pub use limits::{Limits, STATED_LIMITS};
 pub use record::{Entry, Receipt, Record};
 pub use registry::Duplicate;
-pub use replies::{AdmitRefusal, RegisterRefusal, Reply, UnregisterRefusal};
+pub use replies::{
+    AdmitRefusal, ChangeRefusal, RegisterRefusal, ReleaseRefusal, Reply, UnregisterRefusal,
+};
 pub use routes::{Destination, Route, RouteRefusal};
 pub use routing::route;

@@ -1,16 +1,15 @@
 //! The record: what was asked, and what was replied.
 
-ghost use Rattle.std.specs.Prelude.{◌≡◌, ◌↔◌, ◌<◌, ◌+◌, ◌++◌, ◌∷◌, [], true, length, take, slice_get, OnOk, OnErr, IfOk, IfErr, IfNone, IfSome, Some, None};
+ghost use Rattle.std.specs.Prelude.{◌≡◌, ◌↔◌, ◌<◌, ◌≤◌, ◌+◌, ◌-◌, ◌++◌, ◌∷◌, [], true, length, take, slice_get, OnOk, OnErr, IfErr, IfNone, IfSome, option_map};
 ghost use Rattle.std.specs.List.{All};
 ghost use Rattle.std.specs.Option.{option_copied};
-ghost use Rattle.admission.specs.History.{entry_of_number, entry_of, receipt_of, Stands};
-ghost use Rattle.admission.specs.Ruling.{ruling_of};
-ghost use Rattle.admission.specs.Step.{verdict_of, count_refusal, state_after};
+ghost use Rattle.admission.specs.Events.{plain};
+ghost use Rattle.admission.specs.History.{plain_entry, entry_by, entry_of_number, receipt_of, Stands};
 
 use crate::events::{Event, EventKind};
-use crate::machine::{Machine, Ruling};
 use crate::replies::Reply;
 use crate::routes::Route;
+use crate::rulings::Ruling;
 use gk_terms::Name;
 use std::alloc::{AllocError, Global};
 use std::marker::Model;
@@ -31,7 +30,7 @@ pub struct Entry {
 impl Entry {
     /// The receipt of this entry, if it has this number.
     pub fn receipt(&self, number: u32) -> Receipt
-        ensures { result ≡ receipt_of number self.now }
+        ensures { result ≡ receipt_of number (plain_entry self.now) }
     {
         Receipt {
             number,
@@ -58,41 +57,61 @@ pub struct Receipt {
     pub reply: Reply,
 }
 
-/// The recorded events in order. A contract sees the list of entries.
+impl Ruling {
+    /// The entry of the event on which this was ruled.
+    pub(crate) fn entry(&self, event: Event) -> Entry
+        ensures { plain_entry result ≡ entry_by (plain event) self.now }
+    {
+        Entry {
+            event,
+            reply: self.verdict,
+            zone: self.zone,
+            route: self.route,
+        }
+    }
+}
+
+/// The recorded events in order. A contract sees them by their values alone, and how many further
+/// ones find room without memory: the places that are kept.
 #[derive(Drop)]
 pub struct Record {
     entries: Vec<Entry>,
+    kept: usize,
 }
 
 impl Model for Record {
-    ghost use Rattle.std.specs.Prelude.{List};
-    ghost use Rattle.admission.specs.declared.record.Entry.{Entry};
+    ghost use Rattle.std.specs.Prelude.{◌≤◌, ◌+◌, length, map, vec_capacity};
+    ghost use Rattle.admission.specs.History.{RecordParts, plain_entry};
 
-    ghost Value = { List Entry };
+    ghost Value = { RecordParts };
 
-    ghost view = { λ r. r.entries.items };
+    ghost view = { λ r. record { entries = map plain_entry r.entries.items; kept = r.kept } };
+
+    ghost invariant = { λ r. length r.entries.items + r.kept ≤ vec_capacity r.entries };
 }
 
 impl Record {
-    /// No entries.
+    /// No entries, and no place kept.
     pub(crate) fn new(alloc: Global) -> Record
-        ensures { result ≡ [] }
+        ensures { result ≡ record { entries = []; kept = 0 } }
     {
         Record {
             entries: Vec::new(alloc),
+            kept: 0,
         }
     }
 
     /// How many entries there are.
     pub fn len(&self) -> usize
-        ensures { result ≡ length self.now }
+        ensures { result ≡ length self.now.entries }
     {
         self.entries.len()
     }
 
     /// The entry of this number. The first has number 1.
     pub fn get(&self, number: u32) -> Option<&Entry>
-        ensures { option_copied result ≡ entry_of_number self.now number }
+        ensures { option_map plain_entry (option_copied result)
+            ≡ entry_of_number self.now.entries number }
     {
         let place = number.checked_sub(1)?;
         self.entries.get(place as usize)
@@ -101,11 +120,11 @@ impl Record {
     /// `Ok` if each receipt is that of the entry at its number; else the place, from 0, of the
     /// first that is not.
     pub fn confirm(&self, receipts: &[Receipt]) -> Result<(), usize>
-        ensures all { OnOk result (All (Stands self.now) receipts.now) }
+        ensures all { OnOk result (All (Stands self.now.entries) receipts.now) }
         ensures first { IfErr result (λ place. (place < length receipts.now)
-            × All (Stands self.now) (take place receipts.now)
+            × All (Stands self.now.entries) (take place receipts.now)
             × ((receipt : _) → slice_get receipts.now place ≡ Some receipt
-            → ¬ Stands self.now receipt)) }
+            → ¬ Stands self.now.entries receipt)) }
     {
         match self.first_astray(receipts) {
             None => Ok(()),
@@ -115,11 +134,11 @@ impl Record {
 
     /// The place of the first receipt that is not that of the entry at its number.
     fn first_astray(&self, receipts: &[Receipt]) -> Option<usize>
-        ensures none { IfNone result (All (Stands self.now) receipts.now) }
+        ensures none { IfNone result (All (Stands self.now.entries) receipts.now) }
         ensures first { IfSome result (λ place. (place < length receipts.now)
-            × All (Stands self.now) (take place receipts.now)
+            × All (Stands self.now.entries) (take place receipts.now)
             × ((receipt : _) → slice_get receipts.now place ≡ Some receipt
-            → ¬ Stands self.now receipt)) }
+            → ¬ Stands self.now.entries receipt)) }
     {
         for (place, receipt) in receipts.iter().enumerate() {
             if !self.stands(receipt) {
@@ -131,7 +150,7 @@ impl Record {
 
     /// Whether the receipt is that of the entry at its number.
     fn stands(&self, receipt: &Receipt) -> bool
-        ensures { (result ≡ true) ↔ Stands self.now receipt.now }
+        ensures { (result ≡ true) ↔ Stands self.now.entries receipt.now }
     {
         match self.get(receipt.number) {
             None => false,
@@ -139,33 +158,42 @@ impl Record {
         }
     }
 
-    /// Records an event and carries out the ruling on it, which no count refuses. The answer is the
-    /// receipt of the entry. If memory runs out, nothing changes.
-    pub(crate) fn enter(
-        &mut self,
-        machine: &mut Machine,
-        event: Event,
-        ruling: &Ruling,
-    ) -> Result<Receipt, AllocError>
-        requires ruled { ruling.now ≡ ruling_of machine.old event }
-        requires recordable { count_refusal machine.old event (verdict_of machine.old event)
-            ≡ None }
-        ensures receipt { IfOk result (λ receipt. receipt
-            ≡ receipt_of (machine.old.records + 1) (entry_of machine.old event)) }
-        ensures state { OnOk result (machine.new
-            ≡ state_after machine.old event (verdict_of machine.old event)) }
-        ensures entered { OnOk result (self.new ≡ self.old ++ entry_of machine.old event ∷ []) }
-        ensures err { OnErr result ((machine.new ≡ machine.old) × (self.new ≡ self.old)) }
+    /// Keeps this many further places: at most 2, as an event needs. If memory runs out, nothing
+    /// changes; it does not for none.
+    pub(crate) fn keep(&mut self, places: usize) -> Result<(), AllocError>
+        requires { places ≤ 2 }
+        ensures ok { OnOk result (self.new
+            ≡ record self.old { kept = self.old.kept + places }) }
+        ensures err { OnErr result ((self.new ≡ self.old) × (1 ≤ places)) }
     {
-        let number = machine.next_number();
-        self.entries.reserve(1)?;
-        machine.carry_out(&event, ruling)?;
-        // There is room now, so that the entry of what was done is not lost.
-        let entry = ruling.entry(event);
-        let receipt = entry.receipt(number);
+        if places == 0 {
+            return Ok(());
+        }
+        let kept = self.kept + places;
+        self.entries.reserve(kept)?;
+        self.kept = kept;
+        Ok(())
+    }
+
+    /// Keeps this many places less.
+    pub(crate) fn give_back(&mut self, places: usize)
+        requires { places ≤ self.old.kept }
+        ensures { self.new ≡ record self.old { kept = self.old.kept - places } }
+    {
+        self.kept -= places;
+    }
+
+    /// Puts an entry at the end, in a place that was kept.
+    pub(crate) fn push(&mut self, entry: Entry)
+        requires { 1 ≤ self.old.kept }
+        ensures { self.new ≡ record {
+          entries = self.old.entries ++ plain_entry entry ∷ [];
+          kept = self.old.kept - 1;
+        } }
+    {
         let pushed: Result<_, _> = self.entries.push(entry);
         pushed.unwrap();
-        Ok(receipt)
+        self.kept -= 1;
     }
 }
 

@@ -1,12 +1,12 @@
 //! The record of a core: receipts, and what an entry keeps.
 
 use crate::cores::Core;
-use crate::events::EventKind;
+use crate::events::{Event, EventKind};
 use crate::limits::STATED_LIMITS;
 use crate::record::Receipt;
-use crate::replies::{AdmitRefusal, Reply, UnregisterRefusal};
+use crate::replies::{AdmitRefusal, ChangeRefusal, Reply, UnregisterRefusal};
 use crate::routes::Route;
-use crate::test_cores::{away, core_within, entry, five_events};
+use crate::test_cores::{away, core_within, entry, five_events, receipt_of};
 use gk_terms::{Name, Units};
 use std::alloc::Global;
 use std::process::Abort;
@@ -75,6 +75,71 @@ fn assert_receipts(rt: &impl Abort, alloc: Global, core: &mut Core) -> Result<()
         },
     ];
     assert_eq!(rt; receipts, expected);
+    Ok(())
+}
+
+#[test]
+fn gives_receipts_of_changes_and_releases(rt: HostRuntime) -> Result<(), Fail> {
+    let mut core = core_within(rt.alloc(), STATED_LIMITS)?;
+    assert_call_receipts(&rt, rt.alloc(), &mut core)
+}
+
+/// Asserts the receipts and the entries of two changes and a release.
+fn assert_call_receipts(rt: &impl Abort, alloc: Global, core: &mut Core) -> Result<(), Fail> {
+    let ta = Name::read(b"ta")?;
+    let tb = Name::read(b"tb")?;
+    let call = 1001;
+    let units = Units::new(5);
+    five_events(alloc, core)?;
+    let receipts = [
+        receipt_of(
+            core,
+            Event::Change {
+                id: ta,
+                call,
+                units,
+            },
+        )?,
+        receipt_of(
+            core,
+            Event::Change {
+                id: tb,
+                call,
+                units,
+            },
+        )?,
+        receipt_of(core, Event::Release { id: ta, call })?,
+    ];
+    let reason = ChangeRefusal::NotYours;
+    let expected = [
+        Receipt {
+            number: 6,
+            kind: EventKind::BandwidthChange,
+            id: Some(ta),
+            call: Some(call),
+            reply: Reply::Changed { call, units },
+        },
+        Receipt {
+            number: 7,
+            kind: EventKind::BandwidthChange,
+            id: Some(tb),
+            call: Some(call),
+            reply: Reply::ChangeRefused { call, reason },
+        },
+        Receipt {
+            number: 8,
+            kind: EventKind::Release,
+            id: Some(ta),
+            call: Some(call),
+            reply: Reply::Released { call },
+        },
+    ];
+    assert_eq!(rt; receipts, expected);
+    assert_eq!(rt; core.record().confirm(&receipts), Ok(()));
+    for receipt in receipts {
+        let entry = entry(core.record(), receipt.number)?;
+        assert_eq!(rt; (entry.zone, entry.route), (None, None));
+    }
     Ok(())
 }
 

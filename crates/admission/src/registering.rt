@@ -1,18 +1,19 @@
 //! Registrations, as a machine asks a registry for them.
 
-ghost use Rattle.std.specs.Prelude.{◌≡◌, Some, None, false, IsSome, OnOk, OnErr};
-ghost use Rattle.registry.specs.Registration.{registration_fault, is_full_for, with_endpoint, in_zone_meant};
-ghost use Rattle.admission.specs.Ruling as Rulings;
+ghost use Rattle.std.specs.Prelude.{◌≡◌, Some, None, true, false, IsSome, OnOk, OnErr};
+ghost use Rattle.registry.specs.Registration.{registration_fault, is_registered, is_full_for, with_endpoint, without_endpoint, in_zone_meant};
+ghost use Rattle.admission.specs.Refusals as Refusals;
 
 use crate::replies::RegisterRefusal;
 use compiler::Tables;
+use gk_terms::Name;
 use registry::{Endpoint, Registry, RegistryFault};
 use std::alloc::AllocError;
 
 /// The refusal of a registration, in the words of a reply.
 pub(crate) fn refusal_of(fault: RegistryFault) -> RegisterRefusal
-    requires { IsSome (Rulings.refusal_of fault) }
-    ensures { Rulings.refusal_of fault ≡ Some result }
+    requires { IsSome (Refusals.refusal_of fault) }
+    ensures { Refusals.refusal_of fault ≡ Some result }
 {
     match fault {
         RegistryFault::UnknownZone => RegisterRefusal::UnknownZone,
@@ -45,4 +46,15 @@ pub(crate) fn register_in(
         Err(RegistryFault::NoMemory) => Err(AllocError),
         Err(_) => unreachable!(),
     }
+}
+
+#[tactic(auto, using(crate::proofs::RegisteringLemmas::unregisters))]
+/// Takes out an endpoint that is registered.
+pub(crate) fn remove_from(registry: &mut Registry, id: &Name)
+    requires { is_registered registry.old.endpoints id.now ≡ true }
+    ensures { registry.new ≡ record registry.old {
+      endpoints = without_endpoint registry.old.endpoints id.now;
+    } }
+{
+    let _ = registry.unregister(id);
 }

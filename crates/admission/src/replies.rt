@@ -1,6 +1,7 @@
 //! Replies to events.
 
 use crate::routes::{Destination, RouteRefusal};
+use bandwidth::Over;
 use gk_terms::{Name, Units};
 use registry::Duplicate;
 
@@ -45,6 +46,8 @@ pub enum AdmitRefusal {
     CallOpen,
     /// The dialled digits lead nowhere: calledPartyNotRegistered.
     NoRoute(RouteRefusal),
+    /// A sum of the call would be above its limit: requestDenied.
+    OverLimit(Over),
     /// As many calls are open as the limit allows: resourceUnavailable.
     CallsFull,
     /// The record lacks the free places for the entry and, if a call would be opened, for the entry
@@ -52,6 +55,33 @@ pub enum AdmitRefusal {
     RecordFull,
     /// Memory ran out: resourceUnavailable.
     NoMemory,
+}
+
+/// Why another bandwidth is refused. Which case has which of H.225.0's reasons is this project's
+/// profile.
+#[derive(Clone, Copy, Debug, PartialEq, Eq)]
+pub enum ChangeRefusal {
+    /// No call of the number is open: undefinedReason.
+    NoCall,
+    /// The call belongs to another endpoint: invalidPermission.
+    NotYours,
+    /// A sum of the call would be above its limit: insufficientResources.
+    OverLimit(Over),
+    /// The record has no free place for the entry: undefinedReason.
+    RecordFull,
+    /// Memory ran out: undefinedReason.
+    NoMemory,
+}
+
+/// Why a release is refused. Which case has which of H.225.0's reasons is this project's profile.
+#[derive(Clone, Copy, Debug, PartialEq, Eq)]
+pub enum ReleaseRefusal {
+    /// The call is not the endpoint's own, and the ID is not registered: notRegistered.
+    NotRegistered,
+    /// The call belongs to another endpoint: requestToDropOther.
+    NotYours,
+    /// No call of the number is open: requestToDropOther.
+    NoCall,
 }
 
 /// What is replied to a request.
@@ -86,5 +116,24 @@ pub enum Reply {
     AdmitRefused {
         call: u32,
         reason: AdmitRefusal,
+    },
+    /// `BCF`, H.225.0's bandwidth confirm, with the bandwidth in units of 100 bit/s.
+    Changed {
+        call: u32,
+        units: Units,
+    },
+    /// `BRJ`, H.225.0's bandwidth reject.
+    ChangeRefused {
+        call: u32,
+        reason: ChangeRefusal,
+    },
+    /// `DCF`, H.225.0's disengage confirm.
+    Released {
+        call: u32,
+    },
+    /// `DRJ`, H.225.0's disengage reject.
+    ReleaseRefused {
+        call: u32,
+        reason: ReleaseRefusal,
     },
 }

@@ -1,90 +1,98 @@
 //! Replies to events, by what they grant and what they need.
 
 ghost use Rattle.std.specs.Prelude.{◌≡◌};
+ghost use Rattle.admission.specs.Events.{plain};
 ghost use Rattle.admission.specs.Step as Spec;
 
 use crate::events::Event;
-use crate::replies::{AdmitRefusal, RegisterRefusal, Reply, UnregisterRefusal};
-use crate::routes::Route;
-use gk_terms::Units;
+use crate::replies::{AdmitRefusal, ChangeRefusal, RegisterRefusal, Reply, UnregisterRefusal};
 
-/// A refused admission.
-pub(crate) fn refused(call: u32, reason: AdmitRefusal) -> Reply
-    ensures { result ≡ Reply.AdmitRefused call reason }
-{
-    Reply::AdmitRefused { call, reason }
-}
+impl Reply {
+    /// Whether it grants what was asked.
+    pub(crate) fn is_granted(&self) -> bool
+        ensures { result ≡ Spec.is_granted self.now }
+    {
+        match self {
+            Reply::Registered { .. }
+            | Reply::Unregistered { .. }
+            | Reply::Admitted { .. }
+            | Reply::Changed { .. }
+            | Reply::Released { .. } => true,
+            Reply::RegisterRefused { .. }
+            | Reply::UnregisterRefused { .. }
+            | Reply::AdmitRefused { .. }
+            | Reply::ChangeRefused { .. }
+            | Reply::ReleaseRefused { .. } => false,
+        }
+    }
 
-/// The verdict on a caller whose digits have this route.
-pub(crate) fn verdict_of_route(route: &Route, call: u32, units: Units) -> Reply
-    ensures { result ≡ Spec.verdict_of_route call units route.now }
-{
-    match route {
-        Route::Refused(reason) => refused(call, AdmitRefusal::NoRoute(*reason)),
-        Route::To(destination) => Reply::Admitted {
-            call,
-            destination: *destination,
-            units,
-        },
+    /// Whether it is recorded if it is a verdict: each is but a refused release.
+    pub(crate) fn is_recorded(&self) -> bool
+        ensures { result ≡ Spec.is_recorded self.now }
+    {
+        match self {
+            Reply::Registered { .. }
+            | Reply::RegisterRefused { .. }
+            | Reply::Unregistered { .. }
+            | Reply::UnregisterRefused { .. }
+            | Reply::Admitted { .. }
+            | Reply::AdmitRefused { .. }
+            | Reply::Changed { .. }
+            | Reply::ChangeRefused { .. }
+            | Reply::Released { .. } => true,
+            Reply::ReleaseRefused { .. } => false,
+        }
     }
 }
 
-/// Whether a reply grants what was asked.
-pub(crate) fn is_granted(reply: &Reply) -> bool
-    ensures { result ≡ Spec.is_granted reply.now }
-{
-    match reply {
-        Reply::Registered { .. } | Reply::Unregistered { .. } | Reply::Admitted { .. } => true,
-        Reply::RegisterRefused { .. }
-        | Reply::UnregisterRefused { .. }
-        | Reply::AdmitRefused { .. } => false,
+impl Event {
+    /// The reply if the record is full; nothing for a release, which is never refused for that.
+    pub(crate) fn record_full_reply(&self) -> Option<Reply>
+        ensures { result ≡ Spec.record_full_reply_of (plain self.now) }
+    {
+        match self {
+            Event::Register(endpoint) => Some(Reply::RegisterRefused {
+                id: endpoint.id(),
+                reason: RegisterRefusal::RecordFull,
+            }),
+            Event::Unregister { id } => Some(Reply::UnregisterRefused {
+                id: *id,
+                reason: UnregisterRefusal::RecordFull,
+            }),
+            Event::Admit { call, .. } => Some(Reply::AdmitRefused {
+                call: *call,
+                reason: AdmitRefusal::RecordFull,
+            }),
+            Event::Change { call, .. } => Some(Reply::ChangeRefused {
+                call: *call,
+                reason: ChangeRefusal::RecordFull,
+            }),
+            Event::Release { .. } => None,
+        }
     }
-}
 
-/// The free places of the record that a verdict needs.
-pub(crate) fn places_needed(verdict: &Reply) -> usize
-    ensures { result ≡ Spec.places_needed verdict.now }
-{
-    match verdict {
-        Reply::Admitted { .. } => 2,
-        Reply::Registered { .. }
-        | Reply::RegisterRefused { .. }
-        | Reply::Unregistered { .. }
-        | Reply::UnregisterRefused { .. }
-        | Reply::AdmitRefused { .. } => 1,
-    }
-}
-
-/// The reply if the record is full.
-pub(crate) fn record_full_reply_of(event: &Event) -> Reply
-    ensures { result ≡ Spec.record_full_reply_of event.now }
-{
-    match event {
-        Event::Register(endpoint) => Reply::RegisterRefused {
-            id: endpoint.id(),
-            reason: RegisterRefusal::RecordFull,
-        },
-        Event::Unregister { id } => Reply::UnregisterRefused {
-            id: *id,
-            reason: UnregisterRefusal::RecordFull,
-        },
-        Event::Admit { call, .. } => refused(*call, AdmitRefusal::RecordFull),
-    }
-}
-
-/// The reply if memory runs out.
-pub(crate) fn no_memory_reply_of(event: &Event) -> Reply
-    ensures { result ≡ Spec.no_memory_reply_of event.now }
-{
-    match event {
-        Event::Register(endpoint) => Reply::RegisterRefused {
-            id: endpoint.id(),
-            reason: RegisterRefusal::NoMemory,
-        },
-        Event::Unregister { id } => Reply::UnregisterRefused {
-            id: *id,
-            reason: UnregisterRefusal::NoMemory,
-        },
-        Event::Admit { call, .. } => refused(*call, AdmitRefusal::NoMemory),
+    /// The reply if memory runs out; nothing for a release, which takes none.
+    pub(crate) fn no_memory_reply(&self) -> Option<Reply>
+        ensures { result ≡ Spec.no_memory_reply_of (plain self.now) }
+    {
+        match self {
+            Event::Register(endpoint) => Some(Reply::RegisterRefused {
+                id: endpoint.id(),
+                reason: RegisterRefusal::NoMemory,
+            }),
+            Event::Unregister { id } => Some(Reply::UnregisterRefused {
+                id: *id,
+                reason: UnregisterRefusal::NoMemory,
+            }),
+            Event::Admit { call, .. } => Some(Reply::AdmitRefused {
+                call: *call,
+                reason: AdmitRefusal::NoMemory,
+            }),
+            Event::Change { call, .. } => Some(Reply::ChangeRefused {
+                call: *call,
+                reason: ChangeRefusal::NoMemory,
+            }),
+            Event::Release { .. } => None,
+        }
     }
 }

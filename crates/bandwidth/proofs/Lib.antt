@@ -1,1 +1,7 @@
 pub mod CallLemmas
+pub mod SumLemmas
+pub mod PassLemmas
+pub mod OpenLemmas
+pub mod FitLemmas
+pub mod FitLaws
+mod ListLemmas

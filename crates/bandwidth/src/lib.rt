@@ -1,8 +1,27 @@
-//! The open calls: each with its bandwidth, found by number and counted by owner.
+//! The open calls and the bandwidth that they use: each call found by number, each sum kept as the
+//! calls change, and the limits that a call has to fit.
 #![tactic(auto)]
 
-pub mod calls;
+mod call_list;
 #[cfg(test)]
 mod calls_tests;
+pub mod faults;
+pub mod fits;
+#[cfg(test)]
+mod fits_tests;
+pub mod laws;
+mod named;
+pub mod open_call;
+pub mod open_calls;
+pub mod over;
+mod owner_counts;
+#[cfg(test)]
+mod random_tests;
+mod step;
+mod sums;
+mod zone_uses;
 
-pub use calls::{OpenCall, OpenCalls};
+pub use faults::CallsFault;
+pub use open_call::OpenCall;
+pub use open_calls::OpenCalls;
+pub use over::Over;

@@ -21,7 +21,8 @@ use Rattle.command_reader.specs.Zones.{zones_of, is_declared, named_by}
 use Rattle.compiler.specs.Last.{last_in}
 use Rattle.compiler.specs.Priority.{priority_among, priority_in, named_priority_of}
 use Rattle.compiler.specs.Rows.{Row}
-use Rattle.compiler.specs.TablesIndex.{Zones, number_in, NumberedRow, is_about, numbered_priority_in, numbered_priority_of, Priorities, kept_priority, ArePriorities}
+use Rattle.compiler.specs.Zones.{number_in}
+use Rattle.compiler.specs.TablesIndex.{Zones, NumberedRow, is_about, numbered_priority_in, numbered_priority_of, Priorities, kept_priority, ArePriorities}
 use Rattle.compiler.proofs.FirstRows.{same_pattern-same}
 use Rattle.compiler.proofs.RowLemmas.{same_pattern-itself}
 use Rattle.compiler.proofs.StepLemmas.{last_in-more}

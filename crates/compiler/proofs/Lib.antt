@@ -1,5 +1,6 @@
 pub mod FirstRows
 pub mod StepLemmas
+pub mod LimitLemmas
 pub mod PickLemmas
 pub mod RowLemmas
 pub mod GatewayLemmas

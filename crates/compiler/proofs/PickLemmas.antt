@@ -10,7 +10,8 @@ use Rattle.command_reader.specs.declared.zones.ZoneKind.{ZoneKind}
 use Rattle.command_reader.specs.declared.zones.ZoneKind.TheVariants.{Local, Remote}
 use Rattle.command_reader.specs.Zones.{zones_of, zone_of}
 use Rattle.compiler.specs.Pick.{is_option_preferred, is_picked_before, picked}
-use Rattle.compiler.specs.TablesIndex.{number_in, kind_at, is_number_before, best_number}
+use Rattle.compiler.specs.Zones.{number_in}
+use Rattle.compiler.specs.TablesIndex.{kind_at, is_number_before, best_number}
 
 -- ---- the order of zones
 -- less of a number beats more of it

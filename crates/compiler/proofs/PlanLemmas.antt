@@ -18,8 +18,8 @@ use Rattle.compiler.specs.Pick.{picked}
 use Rattle.compiler.specs.Plan.{RemoteZone, LocalZone, target_in, remote_target, local_target, row_at, row_meant, target_of, by_row, by_hopoff, by_technology, plan_of}
 use Rattle.compiler.specs.Rows.{Row, rows_of, zones_for, row_of_pattern, row_for, first_rows_of, with_picked_zone}
 use Rattle.compiler.specs.Technology.{technology_of, hopoffs_of}
-use Rattle.compiler.specs.Zones.{zone_at}
-use Rattle.compiler.specs.TablesIndex.{number_in, kind_at, best_number, plan_to, NumberedRow, zone_at_pattern, AreRows, places_of}
+use Rattle.compiler.specs.Zones.{zone_at, number_in}
+use Rattle.compiler.specs.TablesIndex.{kind_at, best_number, plan_to, NumberedRow, zone_at_pattern, AreRows, places_of}
 use Rattle.compiler.proofs.FirstRows.{beside, at_place, best_of-first_rows_of, best_of-beside, best_of-places_of, duplicate_of-beside, distinct-first_rows_of}
 use Rattle.compiler.proofs.PickLemmas.{best_number-picked}
 

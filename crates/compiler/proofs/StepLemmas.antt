@@ -18,7 +18,8 @@ use Rattle.gk_terms.specs.TechPrefix.{is_tech_prefix}
 use Rattle.compiler.specs.Last.{last_in}
 use Rattle.compiler.specs.Rows.{Row, row_of, rows_of, zone_for, zones_for, with_row, first_rows_of}
 use Rattle.compiler.specs.Technology.{prefix_in, prefixes_of, hopoffs_in, hopoffs_of}
-use Rattle.compiler.specs.TablesIndex.{Zones, number_in, better_in, best_after, best_number, hopoffs_named, Technologies, technology_at, hopoff_at, is_among, AreTechnologies, NumberedRow, zone_at_pattern, with_pattern, AreRows}
+use Rattle.compiler.specs.Zones.{number_in}
+use Rattle.compiler.specs.TablesIndex.{Zones, better_in, best_after, best_number, hopoffs_named, Technologies, technology_at, hopoff_at, is_among, AreTechnologies, NumberedRow, zone_at_pattern, with_pattern, AreRows}
 
 -- the items before a place, with the item there
 pub take_with : {X : Type 0} (xs : List X) (place : ℕ) (x : X)

@@ -10,17 +10,19 @@ use Rattle.digit_patterns.specs.Pattern.{same_pattern}
 use Rattle.digit_patterns.specs.Table.{best_hit}
 use Rattle.digit_patterns.specs.declared.tables.Hit.{Hit}
 use Rattle.command_reader.specs.declared.commands.Command.{Command}
-use Rattle.command_reader.specs.Zones.{zones_of, zone_of}
+use Rattle.command_reader.specs.declared.zones.ZoneKind.{ZoneKind}
+use Rattle.command_reader.specs.Zones.{zones_of, zone_of, is_local, is_local_option}
 use Rattle.command_reader.specs.Accepted.{IsAccepted}
 use Rattle.command_reader.proofs.AcceptedLemmas.{zones_few}
 use Rattle.gk_terms.specs.declared.limits.TheConstants.{MOST_ZONES}
+use Rattle.compiler.specs.declared.limits.ZoneLimits.{ZoneLimits}
 use Rattle.compiler.specs.declared.plans.TheConstants.{USUAL_GATEWAY_PRIORITY}
 use Rattle.compiler.specs.Plan.{row_at, row_meant, target_of, by_row}
-use Rattle.compiler.specs.Priority.{entries_of, priority_in_entries, priority_of}
+use Rattle.compiler.specs.Priority.{entries_of, named_priority, AreNamedFor, priority_of}
 use Rattle.compiler.specs.Rows.{Row, rows_of, row_for, first_rows_of, with_picked_zone}
 use Rattle.compiler.specs.Technology.{technology_of, hopoffs_of}
-use Rattle.compiler.specs.Zones.{view_at, view_of, view_of_name, number_of_zone}
-use Rattle.compiler.specs.TablesIndex.{Zones, number_in, kind_at, best_number, plan_to, numbered_priority_of, NumberedRow, zone_at_pattern, AreRows, Technologies, IsFound, IsLongest, Priorities, IsIndex}
+use Rattle.compiler.specs.Zones.{zone_meant, local_zone, view_at, view_of, view_of_name, number_in}
+use Rattle.compiler.specs.TablesIndex.{Zones, kind_at, best_number, plan_to, numbered_priority_of, NumberedRow, zone_at_pattern, AreRows, Technologies, IsFound, IsLongest, Priorities, IsIndex}
 use Rattle.compiler.proofs.RowLemmas.{IsEquivalence-pattern}
 use Rattle.compiler.proofs.ZoneLemmas.{number_by_position}
 use Rattle.compiler.proofs.TechnologyLemmas.{longest_none, longest_some}
@@ -46,11 +48,22 @@ pub kept_zone : (zones : Zones) (commands : List Command) (name : List ℕ) → 
 kept_zone zones commands name h =
     ap (lookup (bytes_eq name)) h ∙ lookup_is_find (bytes_eq name) (zones_of commands)
 
+-- the local zone that a name means, by what the map says of it
+pub local_zone_by : (commands : List Command) (zones : Zones) (name zone : List ℕ)
+    (kind : Option ZoneKind)
+    → zones ≡ zones_of commands → zone ≡ zone_meant commands name
+    → kind ≡ lookup (bytes_eq zone) zones
+    → local_zone commands name ≡ cond (is_local_option kind) (Some zone) None
+local_zone_by commands zones name zone kind h meant said =
+    ap (λ z. cond (is_local commands z) (Some z) None) (sym meant)
+    ∙ ap (λ o. cond (is_local_option o) (Some zone) None)
+    (sym (kept_zone zones commands zone h) ∙ sym said)
+
 -- a name that is among the keys of the map has this number
 pub number_found : (zones : Zones) (commands : List Command) (name : List ℕ) (place : ℕ)
     → zones ≡ zones_of commands
     → position (bytes_eq name) (keys_of zones) ≡ Some place
-    → number_of_zone commands name ≡ place
+    → number_in (zones_of commands) name ≡ place
 number_found zones commands name place h at =
     sym (number_by_position (bytes_eq name) (zones_of commands))
     ∙ ap (λ (all : Zones). unwrap_or (position (bytes_eq name) (keys_of all)) (length all)) (sym h)
@@ -96,40 +109,46 @@ kept_row commands rows h distinct place row at =
     ∙ ap (option_map (λ (r : Row). (r.0, number_in (zones_of commands) r.1))) same
 
 -- the kept priorities of a row are what the commands say
-pub kept_priorities : {S : Type 0} (commands : List Command) (zones : Zones) (first_local : List ℕ)
-    (rows : List NumberedRow) (prefixes : List (PatternParts × ℕ)) (priorities : Priorities S)
-    (technologies : Technologies) (default_technology : Option (List ℕ)) (rejects : Bool)
+pub kept_priorities : {S : Type 0} {commands : List Command} {zones : Zones} {first_local : List ℕ}
+    {rows : List NumberedRow} {prefixes : List (PatternParts × ℕ)} {priorities : Priorities S}
+    {technologies : Technologies} {default_technology : Option (List ℕ)} {rejects : Bool}
+    {limits : List ZoneLimits} {remote_limit : Option ℕ}
     → IsIndex commands zones first_local rows prefixes priorities technologies default_technology
-    rejects
+    rejects limits remote_limit
     → (place : ℕ)
-    → IfSome (row_meant commands (Some place)) (λ used. (gateway : List ℕ)
-    → priority_in_entries (entries_of (lookup (nat_eq place) priorities)) gateway
-    ≡ priority_of commands used gateway)
-kept_priorities {S} commands zones first_local rows prefixes priorities technologies
-    default_technology rejects h place =
+    → IfSome (row_meant commands (Some place)) (λ used.
+    AreNamedFor commands used (entries_of (lookup (nat_eq place) priorities)))
+kept_priorities {S} {commands} {zones} {rows = rows} {priorities = priorities} h place =
     by (row_at commands place) refl
   where
     by : (o : Option Row) → row_at commands place ≡ o
-        → IfSome (option_map (λ row. Some row) o) (λ used. (gateway : List ℕ)
-        → priority_in_entries (entries_of (lookup (nat_eq place) priorities)) gateway
-        ≡ priority_of commands used gateway)
+        → IfSome (option_map (λ row. Some row) o) (λ used.
+        AreNamedFor commands used (entries_of (lookup (nat_eq place) priorities)))
     by None e = tt
     by (Some row) e = λ gateway.
-        ap (λ o. unwrap_or o USUAL_GATEWAY_PRIORITY)
-        (h.priorities_are place (row.0, number_in (zones_of commands) row.1)
+        h.priorities_are place (row.0, number_in (zones_of commands) row.1)
         (kept_row commands rows
         (subst (λ (all : Zones). AreRows all commands rows) h.zones_are h.rows_are) h.distinct place
         row e) gateway
         ∙ ap (λ all. numbered_priority_of all commands
         (row.0, number_in (zones_of commands) row.1) gateway) h.zones_are
-        ∙ numbered_is_named commands row gateway h.declared)
+        ∙ numbered_is_named commands row gateway h.declared
+
+-- the priorities that are named for a row give those of all gateways
+pub priority_by_named : (commands : List Command) (used : Option Row) (named : List (List ℕ × ℕ))
+    → AreNamedFor commands used named
+    → (gateway : List ℕ) → named_priority named gateway ≡ priority_of commands used gateway
+priority_by_named commands None named h gateway = ap (λ all. named_priority all gateway) h
+priority_by_named commands (Some row) named h gateway =
+    ap (λ o. unwrap_or o USUAL_GATEWAY_PRIORITY) (h gateway)
 
 -- ---- by the whole index
-module _ {S : Type 0} (commands : List Command) (zones : Zones) (first_local : List ℕ)
-    (rows : List NumberedRow) (prefixes : List (PatternParts × ℕ)) (priorities : Priorities S)
-    (technologies : Technologies) (default_technology : Option (List ℕ)) (rejects : Bool)
+module _ {S : Type 0} {commands : List Command} {zones : Zones} {first_local : List ℕ}
+    {rows : List NumberedRow} {prefixes : List (PatternParts × ℕ)} {priorities : Priorities S}
+    {technologies : Technologies} {default_technology : Option (List ℕ)} {rejects : Bool}
+    {limits : List ZoneLimits} {remote_limit : Option ℕ}
     (h : IsIndex commands zones first_local rows prefixes priorities technologies default_technology
-    rejects) where
+    rejects limits remote_limit) where
   index_rows : AreRows (zones_of commands) commands rows
   index_rows = subst (λ (all : Zones). AreRows all commands rows) h.zones_are h.rows_are
 

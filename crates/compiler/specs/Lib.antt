@@ -1,4 +1,5 @@
 pub mod Last
+pub mod Limit
 pub mod Pick
 pub mod Plan
 pub mod Priority

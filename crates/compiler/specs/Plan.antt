@@ -1,6 +1,5 @@
 -- What the commands alone say of dialled digits: a technology prefix, its hop-off zone, and else
--- the
--- longest matching zone prefix. This project's profile, after Cisco's flow for an admission
+-- the longest matching zone prefix. This project's profile, after Cisco's flow for an admission
 -- request.
 use Rattle.std.specs.Prelude.{ℕ, Bool, true, false, List, length, drop, slice_get, Option, Some, None, option_map, option_and_then, if◌then◌else◌}
 use Rattle.std.specs.List.{list_any}
@@ -95,8 +94,7 @@ row_meant commands None = Some None
 row_meant commands (Some number) = option_map (λ row. Some row) (row_at commands number)
 
 -- what a plan means under its commands; nothing if a number is out of range, or of the other kind
--- of
--- zone
+-- of zone
 abbrev pub target_of : List Command → Plan → Option Target
 target_of commands (plans.Remote zone) = option_and_then remote_target (zone_at commands zone)
 target_of commands (plans.Local zone technology row) =

@@ -1,5 +1,5 @@
 -- The priority of a gateway for a row: 0 to 10, from the `gw-priority` of Cisco's `zone prefix`.
-use Rattle.std.specs.Prelude.{ℕ, ◌&&◌, List, [], Option, Some, None, unwrap_or, bytes_eq, if◌then◌else◌}
+use Rattle.std.specs.Prelude.{◌≡◌, ℕ, ◌&&◌, List, [], Option, Some, None, unwrap_or, bytes_eq, if◌then◌else◌}
 use Rattle.std.specs.List.{filter_map, list_any}
 use Rattle.std.specs.Map.{lookup}
 use Rattle.indexmap.specs.IndexMap.{IndexMap}
@@ -45,7 +45,13 @@ abbrev pub entries_of : {S : Type 0} → Option (IndexMap (List ℕ) ℕ S) → 
 entries_of None = []
 entries_of (Some gateways) = gateways.entries
 
--- the same by a list of gateways with their priorities
-abbrev pub priority_in_entries : List (List ℕ × ℕ) → List ℕ → ℕ
-priority_in_entries entries gateway =
-    unwrap_or (lookup (bytes_eq gateway) entries) USUAL_GATEWAY_PRIORITY
+-- the priority by a list of gateways with their priorities, or else 5
+abbrev pub named_priority : List (List ℕ × ℕ) → List ℕ → ℕ
+named_priority named gateway = unwrap_or (lookup (bytes_eq gateway) named) USUAL_GATEWAY_PRIORITY
+
+-- the list has the gateways that commands name for the row, with their priorities, and no other
+-- one; none if no row was used
+abbrev pub AreNamedFor : List Command → Option Row → List (List ℕ × ℕ) → Type 0
+AreNamedFor commands None named = named ≡ []
+AreNamedFor commands (Some row) named =
+    (gateway : List ℕ) → lookup (bytes_eq gateway) named ≡ named_priority_of commands row gateway

@@ -62,7 +62,6 @@ with_picked_zone commands row =
     (row.0, unwrap_or (picked commands (zones_for commands row.0)) row.1)
 
 -- a row for each pattern, in the order of their first rows, with the zone that is picked for it.
--- The
--- number of a row is its place here
+-- The number of a row is its place here
 abbrev pub picked_rows_of : List Command → List Row
 picked_rows_of commands = map (with_picked_zone commands) (first_rows_of (rows_of commands))

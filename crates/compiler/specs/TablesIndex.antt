@@ -1,7 +1,8 @@
 -- What the tables keep, beside the commands that they stand for.
-use Rattle.std.specs.Prelude.{◌≡◌, ℕ, ◌+◌, ◌≤◌, ◌<◌, ◌==◌, Bool, ◌&&◌, true, false, List, [], ◌∷◌, ◌++◌, length, take, fold, map, slice_get, Option, Some, None, option_map, option_and_then, is_some, nat_eq, bytes_eq, if◌then◌else◌}
-use Rattle.std.specs.List.{All, IsDistinct, filter_map, list_any, position_or_len}
+use Rattle.std.specs.Prelude.{◌≡◌, ℕ, ◌+◌, ◌≤◌, ◌<◌, ◌==◌, Bool, ◌&&◌, true, false, List, [], ◌∷◌, ◌++◌, length, take, fold, map, slice_get, Option, Some, None, option_map, option_and_then, unwrap_or, is_some, nat_eq, bytes_eq, if◌then◌else◌}
+use Rattle.std.specs.List.{All, IsDistinct, filter_map, list_any}
 use Rattle.std.specs.Map.{lookup, keys_of}
+use Rattle.std.specs.Option.{option_or}
 use Rattle.indexmap.specs.IndexMap.{IndexMap}
 use Rattle.gk_terms.specs.Choice.{better}
 use Rattle.gk_terms.specs.TechPrefix.{is_tech_prefix}
@@ -11,26 +12,27 @@ use Rattle.digit_patterns.specs.Pattern.{same_pattern}
 use Rattle.command_reader.specs.declared.commands.Command.{Command}
 use Rattle.command_reader.specs.declared.commands.Command.TheVariants.{ZoneLocal, ZoneRemote, ZonePrefix, GwTypePrefix, RejectUnknownPrefix, BandwidthDefault, BandwidthZone, BandwidthRemote}
 use Rattle.command_reader.specs.declared.commands.GatewayPriority.{GatewayPriority}
+use Rattle.command_reader.specs.declared.commands.LimitKind.{LimitKind}
+use Rattle.command_reader.specs.declared.commands.LimitKind.TheVariants.{Session, Total, Interzone}
 use Rattle.command_reader.specs.declared.zones.ZoneKind.{ZoneKind}
 use Rattle.command_reader.specs.declared.zones.ZoneKind.TheVariants as kinds
-use Rattle.command_reader.specs.Zones.{zones_of, first_local_of, is_declared, named_by}
+use Rattle.command_reader.specs.Zones.{zones_of, first_local_of, is_declared, is_local_kind, named_by}
+use Rattle.compiler.specs.declared.limits.ZoneLimits.{ZoneLimits}
 use Rattle.compiler.specs.declared.plans.Plan.{Plan}
 use Rattle.compiler.specs.declared.plans.Plan.TheVariants as plans
 use Rattle.compiler.specs.Last.{last_in}
+use Rattle.compiler.specs.Limit.{same_kind, default_size, zone_size, units_of_kbps, remote_limit_of}
 use Rattle.compiler.specs.Pick.{is_option_preferred}
 use Rattle.compiler.specs.Plan.{rejects_unknown}
 use Rattle.compiler.specs.Priority.{priority_among, entries_of}
 use Rattle.compiler.specs.Rows.{Row, row_of, rows_of, zones_for, first_rows_of}
 use Rattle.compiler.specs.Technology.{prefixes_of, hopoffs_of, default_technology_of}
+use Rattle.compiler.specs.Zones.{number_in}
 
 -- ---- zones by their numbers
 -- names with what is declared of them; the number of a zone is its place
 abbrev pub Zones : Type 0
 Zones = List (List ℕ × ZoneKind)
-
--- the number of the zone of a name; the count of all zones if there is none
-abbrev pub number_in : Zones → List ℕ → ℕ
-number_in zones name = position_or_len (λ zone. bytes_eq name zone.0) zones
 
 -- the kind of the zone of a number
 abbrev pub kind_at : Zones → ℕ → Option ZoneKind
@@ -195,12 +197,105 @@ ArePriorities zones commands rows priorities =
     (place : ℕ) (row : NumberedRow) → slice_get rows place ≡ Some row → (gateway : List ℕ)
     → kept_priority priorities place gateway ≡ numbered_priority_of zones commands row gateway
 
+-- ---- limits
+-- the limits that this gives for each kind
+abbrev pub limits_by : (LimitKind → Option ℕ) → ZoneLimits
+limits_by limit_for = record {
+  session = limit_for Session;
+  total = limit_for Total;
+  interzone = limit_for Interzone;
+}
+
+-- the limits of a zone that has none
+abbrev pub no_limits : ZoneLimits
+no_limits = limits_by (λ kind. None)
+
+-- the limit of a kind
+abbrev pub limit_in : ZoneLimits → LimitKind → Option ℕ
+limit_in limits Session = limits.session
+limit_in limits Total = limits.total
+limit_in limits Interzone = limits.interzone
+
+-- a limit, if it is of this kind
+abbrev pub limit_if : LimitKind → ℕ → LimitKind → Option ℕ
+limit_if said limit kind = if same_kind said kind then Some limit else None
+
+-- each limit, or that of others if there is none
+abbrev pub limits_or : ZoneLimits → ZoneLimits → ZoneLimits
+limits_or limits others = record {
+  session = option_or limits.session others.session;
+  total = option_or limits.total others.total;
+  interzone = option_or limits.interzone others.interzone;
+}
+
+-- the limits that a command gives each local zone
+abbrev pub defaults_said : Command → ZoneLimits
+defaults_said command =
+    limits_by (λ kind. option_map units_of_kbps (default_size kind command))
+
+-- the limits that the last commands give each local zone
+abbrev pub default_limits_of : List Command → ZoneLimits
+default_limits_of commands =
+    limits_by (λ kind. option_map units_of_kbps (last_in (filter_map (default_size kind) commands)))
+
+-- the limits that a command gives this zone
+abbrev pub limits_said : List ℕ → Command → ZoneLimits
+limits_said zone command =
+    limits_by (λ kind. option_map units_of_kbps (zone_size kind zone command))
+
+-- the limits that the last commands for this zone give it
+abbrev pub own_limits_of : List Command → List ℕ → ZoneLimits
+own_limits_of commands zone =
+    limits_by (λ kind.
+    option_map units_of_kbps (last_in (filter_map (zone_size kind zone) commands)))
+
+-- the zone that a command gives limits, with those limits
+abbrev pub named_limits : Command → Option (List ℕ × ZoneLimits)
+named_limits (ZoneLocal name domain address) = None
+named_limits (ZoneRemote name domain address cost priority) = None
+named_limits (ZonePrefix zone pattern gateways) = None
+named_limits (GwTypePrefix prefix hopoffs is_default) = None
+named_limits RejectUnknownPrefix = None
+named_limits (BandwidthDefault kind size) = None
+named_limits (BandwidthZone kind zone size) =
+    Some (zone, limits_by (limit_if kind (units_of_kbps size)))
+named_limits (BandwidthRemote size) = None
+
+-- what is kept of the zone of a name
+abbrev pub kept_limits : Zones → List ZoneLimits → List ℕ → Option ZoneLimits
+kept_limits zones limits name = slice_get limits (number_in zones name)
+
+-- for each zone, at its number, the limits that commands give it itself
+abbrev pub AreOwnLimits : Zones → List Command → List ZoneLimits → Type 0
+AreOwnLimits zones commands limits =
+    (name : List ℕ) → kept_limits zones limits name
+    ≡ option_map (λ kind. own_limits_of commands name) (kind_at zones (number_in zones name))
+
+-- these limits, if a zone of this kind may have any
+abbrev pub limits_if_local : ZoneKind → ZoneLimits → ZoneLimits
+limits_if_local kind limits = if is_local_kind kind then limits else no_limits
+
+-- the limits of the zone of a number, which are its own over the defaults
+abbrev pub limits_with : Zones → ZoneLimits → List ZoneLimits → ℕ → Option ZoneLimits
+limits_with zones defaults own number =
+    option_map (λ kind.
+    limits_if_local kind (limits_or (unwrap_or (slice_get own number) no_limits) defaults))
+    (kind_at zones number)
+
+-- for each zone, at its number, its limits
+abbrev pub AreLimits : Zones → List Command → List ZoneLimits → Type 0
+AreLimits zones commands limits =
+    (name : List ℕ) → kept_limits zones limits name
+    ≡ option_map (λ kind.
+    limits_if_local kind (limits_or (own_limits_of commands name) (default_limits_of commands)))
+    (kind_at zones (number_in zones name))
+
 -- ---- the whole
 -- the tables stand for the commands
 pub record IsIndex {S : Type 0} (commands : List Command) (zones : Zones) (first_local : List ℕ)
     (rows : List NumberedRow) (prefixes : List (PatternParts × ℕ)) (priorities : Priorities S)
     (technologies : Technologies) (default_technology : Option (List ℕ)) (rejects : Bool)
-    : Type 0 where
+    (limits : List ZoneLimits) (remote_limit : Option ℕ) : Type 0 where
   pub zones_are : zones ≡ zones_of commands
   pub few_zones : length zones ≤ MOST_ZONES
   pub local_is : Some first_local ≡ first_local_of commands
@@ -211,5 +306,7 @@ pub record IsIndex {S : Type 0} (commands : List Command) (zones : Zones) (first
   pub technologies_are : AreTechnologies zones commands technologies
   pub default_is : default_technology ≡ default_technology_of commands
   pub rejects_is : rejects ≡ rejects_unknown commands
+  pub limits_are : AreLimits zones commands limits
+  pub remote_limit_is : remote_limit ≡ remote_limit_of commands
   pub declared : All (λ command. All (λ name. is_declared commands name ≡ true)
       (named_by command)) commands

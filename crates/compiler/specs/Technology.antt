@@ -1,6 +1,5 @@
 -- Technology prefixes: which one begins dialled digits, its hop-off zones, and the default one.
--- From
--- Cisco's `gw-type-prefix`.
+-- From Cisco's `gw-type-prefix`.
 use Rattle.std.specs.Prelude.{ℕ, ◌==◌, Bool, nat_lt, List, [], length, filter, flat_map, Option, Some, None, bytes_eq, if◌then◌else◌}
 use Rattle.std.specs.List.{filter_map, starts_with}
 use Rattle.gk_terms.specs.Choice.{first_unbeaten}

@@ -5,13 +5,18 @@ use Rattle.gk_terms.specs.Address.{AddressParts}
 use Rattle.command_reader.specs.declared.commands.Command.{Command}
 use Rattle.command_reader.specs.declared.zones.ZoneKind.{ZoneKind}
 use Rattle.command_reader.specs.declared.zones.ZoneKind.TheVariants.{Local, Remote}
-use Rattle.command_reader.specs.Zones.{zones_of, first_local_of, is_local_kind}
+use Rattle.command_reader.specs.Zones.{zones_of, first_local_of, is_local, is_local_kind}
 use Rattle.compiler.specs.declared.zones.ZoneView.{ZoneView}
 
 -- the zone `-` is the first local one
 abbrev pub zone_meant : List Command → List ℕ → List ℕ
 zone_meant commands zone =
     if bytes_eq zone (codes "-") then unwrap_or (first_local_of commands) zone else zone
+
+-- the local zone that a registration means; nothing if it means none
+abbrev pub local_zone : List Command → List ℕ → Option (List ℕ)
+local_zone commands name =
+    if is_local commands (zone_meant commands name) then Some (zone_meant commands name) else None
 
 -- the zone of a number: its place among all zones, in line order
 abbrev pub zone_at : List Command → ℕ → Option (List ℕ × ZoneKind)
@@ -35,9 +40,9 @@ abbrev pub view_at : List Command → ℕ → Option ZoneView
 view_at commands number = option_map (view_of number) (zone_at commands number)
 
 -- the number of the zone of a name; the count of all zones if there is none
-abbrev pub number_of_zone : List Command → List ℕ → ℕ
-number_of_zone commands name = position_or_len (λ zone. bytes_eq name zone.0) (zones_of commands)
+abbrev pub number_in : List (List ℕ × ZoneKind) → List ℕ → ℕ
+number_in zones name = position_or_len (λ zone. bytes_eq name zone.0) zones
 
 -- what is told of the zone of a name
 abbrev pub view_of_name : List Command → List ℕ → Option ZoneView
-view_of_name commands name = view_at commands (number_of_zone commands name)
+view_of_name commands name = view_at commands (number_in (zones_of commands) name)

@@ -1,6 +1,10 @@
 //! The compiler: a configuration made ready for look-ups, and where it sends dialled digits.
 #![tactic(auto)]
 
+mod limit_table;
+#[cfg(test)]
+mod limit_tests;
+pub mod limits;
 mod picking;
 pub mod plans;
 mod priorities;
@@ -12,6 +16,8 @@ mod tests;
 mod zone_table;
 pub mod zones;
 
+pub use command_reader::LimitKind;
+pub use limits::ZoneLimits;
 pub use plans::{Plan, Routed, RowNo, ZoneNo};
 pub use tables::Tables;
 pub use zones::ZoneView;

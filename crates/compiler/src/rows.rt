@@ -8,7 +8,8 @@ ghost use Rattle.digit_patterns.specs.PatternParts.{PatternParts};
 ghost use Rattle.digit_patterns.specs.Pattern.{same_pattern};
 ghost use Rattle.digit_patterns.specs.Duplicate.{duplicate_of};
 ghost use Rattle.compiler.specs.Rows.{row_of};
-ghost use Rattle.compiler.specs.TablesIndex.{AreRows, number_in, zone_at_pattern, better_in, with_pattern, places_of};
+ghost use Rattle.compiler.specs.Zones.{number_in};
+ghost use Rattle.compiler.specs.TablesIndex.{AreRows, zone_at_pattern, better_in, with_pattern, places_of};
 
 use crate::picking::better;
 use crate::plans::ZoneNo;

@@ -3,21 +3,24 @@
 ghost use Rattle.std.specs.Prelude.{◌≡◌, ℕ, ◌<◌, ◌≤◌, List, [], length, drop, IfOk, IfSome, Some, None, option_map, unwrap_or, if◌then◌else◌};
 ghost use Rattle.std.specs.Option.{option_copied};
 ghost use Rattle.std.specs.List.{IsDistinct};
-ghost use Rattle.command_reader.specs.Zones.{zones_of, first_local_of, is_local, is_local_option};
+ghost use Rattle.command_reader.specs.Zones.{zones_of, first_local_of, is_local_option};
+ghost use Rattle.compiler.specs.Limit.{limits_of, limit_of, remote_limit_of};
 ghost use Rattle.compiler.specs.Plan.{plan_of, target_of, row_meant, rejects_unknown, is_reject, by_row};
-ghost use Rattle.compiler.specs.Priority.{priority_of, priority_in_entries, entries_of};
+ghost use Rattle.compiler.specs.Priority.{priority_of, AreNamedFor, entries_of};
 ghost use Rattle.compiler.specs.Rows.{row_for};
 ghost use Rattle.compiler.specs.Technology.{technology_of, hopoffs_of, default_technology_of};
-ghost use Rattle.compiler.specs.Zones.{zone_meant, view_at, view_of_name};
+ghost use Rattle.compiler.specs.Zones.{zone_meant, local_zone, view_at, view_of_name};
 ghost use Rattle.compiler.specs.TablesIndex as Index;
 
+use crate::limit_table::{limits_at, limits_in, remote_limit_in};
+use crate::limits::ZoneLimits;
 use crate::plans::{Plan, Routed, RowNo, USUAL_GATEWAY_PRIORITY, ZoneNo};
 use crate::priorities::priorities_in;
 use crate::rows::{prefixes_in, rows_in};
 use crate::technologies::{default_technology_in, technologies_in, technology_of};
 use crate::zone_table::{first_local_in, kind_at, view_of, zones_in};
 use crate::zones::ZoneView;
-use command_reader::{Command, Commands, ZoneKind};
+use command_reader::{Command, Commands, LimitKind, ZoneKind};
 use digit_patterns::{Pattern, PlainTable, PrefixTable};
 use gk_terms::{Dialled, Name, TechPrefix, Version};
 use indexmap::IndexMap;
@@ -30,7 +33,8 @@ use std::marker::Model;
 /// that the number of a row is its place; `prefixes` has the same patterns, each with that number.
 /// `priorities` has, by the number of a row, the gateways that are named for it; a row for which
 /// none is named is not there. `technologies` has each declared technology prefix with the number
-/// of its picked hop-off zone. A contract sees the configuration that they were compiled from.
+/// of its picked hop-off zone. `limits` has the limits of each zone, at the place that is its
+/// number; a remote zone has none. A contract sees the configuration that they were compiled from.
 #[derive(Drop)]
 pub struct Tables {
     commands: Commands,
@@ -42,6 +46,8 @@ pub struct Tables {
     technologies: IndexMap<TechPrefix, Option<ZoneNo>>,
     default_technology: Option<TechPrefix>,
     rejects_unknown: bool,
+    limits: Vec<ZoneLimits>,
+    remote_limit: Option<u64>,
 }
 
 impl Model for Tables {
@@ -54,7 +60,7 @@ impl Model for Tables {
 
     ghost invariant = { λ t. IsIndex t.commands.commands t.zones.entries t.first_local
         t.rows.entries t.prefixes t.priorities.entries t.technologies.entries
-        t.default_technology t.rejects_unknown };
+        t.default_technology t.rejects_unknown t.limits.items t.remote_limit };
 }
 
 impl Tables {
@@ -75,6 +81,8 @@ impl Tables {
         let technologies = technologies_in(alloc, lines, &zones)?;
         let default_technology = default_technology_in(lines);
         let rejects_unknown = rejects_unknown(lines);
+        let limits = limits_in(alloc, lines, &zones)?;
+        let remote_limit = remote_limit_in(lines);
         Ok(Tables {
             commands,
             zones,
@@ -85,6 +93,8 @@ impl Tables {
             technologies,
             default_technology,
             rejects_unknown,
+            limits,
+            remote_limit,
         })
     }
 
@@ -201,12 +211,12 @@ impl Tables {
         }
     }
 
-    /// The priorities of gateways for the row: a gateway that is not in the map has 5, and so has
-    /// each if there is none. The number is to be one of these tables'.
+    /// The gateways that `gw-priority` names for the row's zone and pattern, each with what the
+    /// last such line says. A gateway that is not in the map has 5, and so has each if there is no
+    /// map or no row was used. The number is to be one of these tables'.
     pub fn gateways(&self, row: Option<RowNo>) -> Option<&IndexMap<Name, u8>>
-        ensures { IfSome (row_meant self.now.commands row) (λ used. (gateway : List ℕ)
-            → priority_in_entries (entries_of (option_copied result)) gateway
-            ≡ priority_of self.now.commands used gateway) }
+        ensures { IfSome (row_meant self.now.commands row) (λ used.
+            AreNamedFor self.now.commands used (entries_of (option_copied result))) }
     {
         let row = row?;
         self.priorities.get(&row.place())
@@ -248,8 +258,7 @@ impl Tables {
     /// The zone that a registration names: `-` is the first local zone of the configuration.
     /// Nothing if it is not a local zone.
     pub fn local_zone(&self, name: &Name) -> Option<Name>
-        ensures { let zone = zone_meant self.now.commands name.now in
-            result ≡ (if is_local self.now.commands zone then Some zone else None) }
+        ensures { result ≡ local_zone self.now.commands name.now }
     {
         let zone = self.zone_meant(name);
         if is_local_option(self.zones.get(&zone)) {
@@ -257,6 +266,31 @@ impl Tables {
         } else {
             None
         }
+    }
+
+    /// The bandwidth limits of the zone of a name. The last `bandwidth KIND zone` line for the zone
+    /// counts, else the last `bandwidth KIND default` line; a remote zone, and one that is not
+    /// declared, has none. From Cisco's `bandwidth`.
+    pub fn limits(&self, zone: &Name) -> ZoneLimits
+        ensures { result ≡ limits_of self.now.commands zone.now }
+    {
+        limits_at(&self.zones, &self.limits, zone)
+    }
+
+    /// One of these limits, in units of 100 bit/s: 10 to 50,000 of one call, and else 10 to
+    /// 100,000,000; nothing if there is none.
+    pub fn limit(&self, kind: LimitKind, zone: &Name) -> Option<u64>
+        ensures { result ≡ limit_of self.now.commands kind zone.now }
+    {
+        self.limits(zone).of(kind)
+    }
+
+    /// The limit of all calls to remote zones together, 10 to 100,000,000 units of 100 bit/s: what
+    /// the last `bandwidth remote` line says. From Cisco's `bandwidth`.
+    pub fn remote_limit(&self) -> Option<u64>
+        ensures { result ≡ remote_limit_of self.now.commands }
+    {
+        self.remote_limit
     }
 
     /// The zone that a registration means, by its name.
@@ -274,7 +308,10 @@ impl Tables {
 fn is_local_option(kind: Option<&ZoneKind>) -> bool
     ensures { result ≡ is_local_option (option_copied kind.entry) }
 {
-    matches!(kind, Some(ZoneKind::Local))
+    match kind {
+        Some(kind) => kind.is_local(),
+        None => false,
+    }
 }
 
 /// Whether digits that no zone prefix matches are rejected.

@@ -25,7 +25,11 @@ const GATEWAYS: &str = "zone local a d\nzone local b d\n\
     zone prefix b 7*\n";
 
 /// The tables of a configuration.
-fn tables_of(rt: &impl Abort, alloc: Global, configuration: &str) -> Result<Tables, Fail> {
+pub(crate) fn tables_of(
+    rt: &impl Abort,
+    alloc: Global,
+    configuration: &str,
+) -> Result<Tables, Fail> {
     let Ok(commands) = read(alloc, configuration.as_bytes()) else {
         panic!(rt; "refused");
     };

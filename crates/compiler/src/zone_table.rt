@@ -6,8 +6,8 @@ ghost use Rattle.std.specs.Option.{option_copied};
 ghost use Rattle.std.specs.Map.{keys_of};
 ghost use Rattle.gk_terms.specs.declared.limits.TheConstants.{MOST_ZONES};
 ghost use Rattle.command_reader.specs.Zones.{zones_of, declared_by, first_local_of, is_local_command};
-ghost use Rattle.compiler.specs.Zones.{view_of, address_of_kind};
-ghost use Rattle.compiler.specs.TablesIndex.{number_in, kind_at};
+ghost use Rattle.compiler.specs.Zones.{view_of, address_of_kind, number_in};
+ghost use Rattle.compiler.specs.TablesIndex.{kind_at};
 
 use crate::plans::ZoneNo;
 use crate::zones::ZoneView;

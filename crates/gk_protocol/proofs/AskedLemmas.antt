@@ -4,12 +4,12 @@ use Rattle.std.specs.Prelude.{Option, Some, None, Result, Ok, Err, option_map, c
 use Rattle.std.proofs.lemmas.Bool.{cases_Bool}
 use Rattle.gk_terms.specs.Text.{words_of, is_too_long}
 use Rattle.gk_protocol.specs.declared.request_faults.RequestFault.{RequestFault}
-use Rattle.gk_protocol.specs.declared.request_faults.RequestFault.TheVariants.{LineTooLong, UnknownWord}
+use Rattle.gk_protocol.specs.declared.request_faults.RequestFault.TheVariants.{LineTooLong}
 use Rattle.gk_protocol.specs.declared.request_faults.NoRequest.{NoRequest}
 use Rattle.gk_protocol.specs.declared.request_faults.NoRequest.TheVariants.{Fault, NoMemory}
 use Rattle.gk_protocol.specs.declared.requests.Request.{Request}
 use Rattle.gk_protocol.specs.declared.answers.Answer.{Answer}
-use Rattle.gk_protocol.specs.Requests.{Whole, asking_of, asking_at, whole_of, registering_of, registering_by_word, registering_at, register_at, unregister_at, admit_at, no_memory_to, answer_of_none, IsNoRequest}
+use Rattle.gk_protocol.specs.Requests.{Whole, asking_of, asking_at, whole_of, registering_of, registering_by_word, registering_at, register_at, other_request_at, no_memory_to, answer_of_none, IsNoRequest}
 use Rattle.gk_protocol.specs.AnswersLine.{AnswersLine}
 
 -- the words of a registration ask one request, or have one fault
@@ -17,8 +17,10 @@ registering_asks_at : (words : List (List ℕ)) (x : ℕ × List ℕ) → regist
 registering_asks_at [] x h = let no_such : ⊥ = cc in absurd no_such
 registering_asks_at (word ∷ words) x h =
     ⊎_elim
-    (λ (yes : bytes_eq word (codes "RRQ") ≡ true).
-    (register_at words, ap (λ b. cond b (whole_of (register_at words)) (cond (bytes_eq word (codes "URQ")) (whole_of (unregister_at words)) (cond (bytes_eq word (codes "ARQ")) (whole_of (admit_at words)) (Err UnknownWord)))) yes))
+    (λ (yes : bytes_eq word (codes "RRQ") ≡ true). (
+      register_at words,
+      ap (λ b. cond b (whole_of (register_at words)) (whole_of (other_request_at word words))) yes,
+    ))
     (λ (other : bytes_eq word (codes "RRQ") ≡ false).
     let none : None ≡ Some x = sym (ap (λ b. cond b (registering_at words) None) other) ∙ h in
     let no_such : ⊥ = cc in absurd no_such)

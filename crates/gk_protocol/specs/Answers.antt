@@ -3,6 +3,9 @@ use Rattle.std.specs.Prelude.{ℕ, List, [], ◌∷◌, ◌++◌, codes, decimal
 use Rattle.gk_terms.specs.Text.{line_text}
 use Rattle.gk_terms.specs.Reason.{word_of}
 use Rattle.gk_terms.specs.declared.reasons.Reason.TheVariants as reason
+use Rattle.command_reader.specs.Printing.{limit_word}
+use Rattle.bandwidth.specs.declared.over.Over.{Over}
+use Rattle.bandwidth.specs.declared.over.Over.TheVariants as overs
 use Rattle.admission.specs.Routes.{destination_words, route_refusal_word}
 use Rattle.registry.specs.declared.faults.Duplicate.{Duplicate}
 use Rattle.registry.specs.declared.faults.Duplicate.TheVariants as duplicate
@@ -12,6 +15,10 @@ use Rattle.admission.specs.declared.replies.UnregisterRefusal.{UnregisterRefusal
 use Rattle.admission.specs.declared.replies.UnregisterRefusal.TheVariants as unregister
 use Rattle.admission.specs.declared.replies.AdmitRefusal.{AdmitRefusal}
 use Rattle.admission.specs.declared.replies.AdmitRefusal.TheVariants as admit
+use Rattle.admission.specs.declared.replies.ChangeRefusal.{ChangeRefusal}
+use Rattle.admission.specs.declared.replies.ChangeRefusal.TheVariants as change
+use Rattle.admission.specs.declared.replies.ReleaseRefusal.{ReleaseRefusal}
+use Rattle.admission.specs.declared.replies.ReleaseRefusal.TheVariants as release
 use Rattle.admission.specs.declared.replies.Reply.{Reply as CoreReply}
 use Rattle.admission.specs.declared.replies.Reply.TheVariants as reply
 use Rattle.gk_protocol.specs.declared.request_faults.RequestFault.{RequestFault}
@@ -44,15 +51,37 @@ unregister_refusal_words unregister.RecordFull =
 unregister_refusal_words unregister.NoMemory =
     word_of reason.UndefinedReason ∷ codes "no-memory" ∷ []
 
+-- ---- which limit refuses
+-- the kind of the limit with the zone whose limit it is; or remote
+abbrev pub over_words : Over → List (List ℕ)
+over_words (overs.Zone kind zone) = limit_word kind ∷ zone ∷ []
+over_words overs.Remote = codes "remote" ∷ []
+
 -- ---- why an admission is refused
 abbrev pub admit_refusal_words : AdmitRefusal → List (List ℕ)
 admit_refusal_words admit.CallerNotRegistered = word_of reason.CallerNotRegistered ∷ []
 admit_refusal_words admit.CallOpen = word_of reason.UndefinedReason ∷ codes "call-open" ∷ []
 admit_refusal_words (admit.NoRoute refusal) =
     word_of reason.CalledPartyNotRegistered ∷ route_refusal_word refusal ∷ []
+admit_refusal_words (admit.OverLimit over) = word_of reason.RequestDenied ∷ over_words over
 admit_refusal_words admit.CallsFull = word_of reason.ResourceUnavailable ∷ codes "calls-full" ∷ []
 admit_refusal_words admit.RecordFull = word_of reason.ResourceUnavailable ∷ codes "record-full" ∷ []
 admit_refusal_words admit.NoMemory = word_of reason.ResourceUnavailable ∷ codes "no-memory" ∷ []
+
+-- ---- why another bandwidth is refused
+abbrev pub change_refusal_words : ChangeRefusal → List (List ℕ)
+change_refusal_words change.NoCall = word_of reason.UndefinedReason ∷ codes "no-call" ∷ []
+change_refusal_words change.NotYours = word_of reason.InvalidPermission ∷ codes "not-yours" ∷ []
+change_refusal_words (change.OverLimit over) =
+    word_of reason.InsufficientResources ∷ over_words over
+change_refusal_words change.RecordFull = word_of reason.UndefinedReason ∷ codes "record-full" ∷ []
+change_refusal_words change.NoMemory = word_of reason.UndefinedReason ∷ codes "no-memory" ∷ []
+
+-- ---- why a release is refused
+abbrev pub release_refusal_words : ReleaseRefusal → List (List ℕ)
+release_refusal_words release.NotRegistered = word_of reason.NotRegistered ∷ []
+release_refusal_words release.NotYours = word_of reason.RequestToDropOther ∷ codes "not-yours" ∷ []
+release_refusal_words release.NoCall = word_of reason.RequestToDropOther ∷ codes "no-call" ∷ []
 
 -- ---- replies
 abbrev pub reply_words : ℕ → CoreReply → List (List ℕ)
@@ -67,6 +96,14 @@ reply_words sequence (reply.Admitted call destination units) =
     ∷ []
 reply_words sequence (reply.AdmitRefused call refusal) =
     codes "ARJ" ∷ decimal sequence ∷ decimal call ∷ admit_refusal_words refusal
+reply_words sequence (reply.Changed call units) =
+    codes "BCF" ∷ decimal sequence ∷ decimal call ∷ decimal units ∷ []
+reply_words sequence (reply.ChangeRefused call refusal) =
+    codes "BRJ" ∷ decimal sequence ∷ decimal call ∷ change_refusal_words refusal
+reply_words sequence (reply.Released call) =
+    codes "DCF" ∷ decimal sequence ∷ decimal call ∷ []
+reply_words sequence (reply.ReleaseRefused call refusal) =
+    codes "DRJ" ∷ decimal sequence ∷ decimal call ∷ release_refusal_words refusal
 
 -- ---- lines that are no requests
 -- the word of a fault

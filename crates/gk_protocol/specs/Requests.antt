@@ -27,7 +27,7 @@ use Rattle.gk_protocol.specs.declared.registrations.OptionsLeft.{OptionsLeft}
 use Rattle.gk_protocol.specs.declared.registrations.RegistrationOption.{RegistrationOption}
 use Rattle.gk_protocol.specs.declared.registrations.RegistrationOption.TheVariants.{Alias, Technology}
 use Rattle.gk_protocol.specs.declared.requests.Request.{Request}
-use Rattle.gk_protocol.specs.declared.requests.Request.TheVariants.{Register, Unregister, Admit}
+use Rattle.gk_protocol.specs.declared.requests.Request.TheVariants.{Register, Unregister, Admit, Change, Release}
 
 -- ---- fields
 abbrev pub sequence_of : List ℕ → Option ℕ
@@ -146,6 +146,23 @@ admit_at words = do
   units ← field_at units_of fault.BadNumber digits.1
   nothing_more fault.Extra (Admit sequence.0 id.0 call.0 digits.0 units.0) units.1
 
+-- ---- BRQ seq id call units
+abbrev pub change_at : List (List ℕ) → Result Request RequestFault
+change_at words = do
+  sequence ← field_at sequence_of fault.BadSequence words
+  id ← field_at name_of fault.BadName sequence.1
+  call ← field_at call_of fault.BadNumber id.1
+  units ← field_at units_of fault.BadNumber call.1
+  nothing_more fault.Extra (Change sequence.0 id.0 call.0 units.0) units.1
+
+-- ---- DRQ seq id call
+abbrev pub release_at : List (List ℕ) → Result Request RequestFault
+release_at words = do
+  sequence ← field_at sequence_of fault.BadSequence words
+  id ← field_at name_of fault.BadName sequence.1
+  call ← field_at call_of fault.BadNumber id.1
+  nothing_more fault.Extra (Release sequence.0 id.0 call.0) call.1
+
 -- ---- a line
 -- what a line asks: a request, or one to which the next so many lines belong, by what these say
 pub data Asking : Type 0 where
@@ -156,13 +173,20 @@ abbrev pub whole_of : Result Request RequestFault → Result (Option Asking) Req
 whole_of (Ok request) = Ok (Some (Whole request))
 whole_of (Err fault) = Err fault
 
+-- the request of another first word than RRQ
+abbrev pub other_request_at : List ℕ → List (List ℕ) → Result Request RequestFault
+other_request_at word words =
+    if bytes_eq word (codes "URQ") then unregister_at words
+    else (if bytes_eq word (codes "ARQ") then admit_at words
+    else (if bytes_eq word (codes "BRQ") then change_at words
+    else (if bytes_eq word (codes "DRQ") then release_at words else Err fault.UnknownWord)))
+
 -- what the words of a line ask; without a word they ask nothing
 abbrev pub asking_at : List (List ℕ) → Result (Option Asking) RequestFault
 asking_at [] = Ok None
 asking_at (word ∷ words) =
     if bytes_eq word (codes "RRQ") then whole_of (register_at words)
-    else (if bytes_eq word (codes "URQ") then whole_of (unregister_at words)
-    else (if bytes_eq word (codes "ARQ") then whole_of (admit_at words) else Err fault.UnknownWord))
+    else whole_of (other_request_at word words)
 
 -- what a line asks
 unfoldable pub asking_of : List ℕ → Result (Option Asking) RequestFault

@@ -2,18 +2,21 @@
 
 ghost use Rattle.std.specs.Prelude.{◌≡◌, ◌<◌, ◌∷◌, ◌++◌, [], codes, decimal};
 ghost use Rattle.gk_terms.specs.Address.{address_text};
-ghost use Rattle.gk_terms.specs.Reason.{word_of};
 ghost use Rattle.gk_lines.specs.LineBuffer.{ROOM_BYTES, with_words, line_of_words, room_of};
 ghost use Rattle.admission.specs.Routes as RouteSpec;
 ghost use Rattle.gk_protocol.specs.Answers as Spec;
 
 use crate::answers::Answer;
+use crate::refusal_words::{
+    admit_refusal, change_refusal, register_refusal, release_refusal, unregister_refusal,
+};
 use crate::request_faults::RequestFault;
 use admission::{
-    AdmitRefusal, Destination, Duplicate, RegisterRefusal, Reply, RouteRefusal, UnregisterRefusal,
+    AdmitRefusal, ChangeRefusal, Destination, RegisterRefusal, ReleaseRefusal, Reply,
+    UnregisterRefusal,
 };
 use gk_lines::LineBuffer;
-use gk_terms::{Address, Name, Reason, Units};
+use gk_terms::{Address, Name, Units};
 
 #[tactic(auto, using(gk_lines::proofs::LineBufferLemmas::line_in_room))]
 /// Makes it the line of an answer, with its line feed. Each answer has room.
@@ -53,6 +56,10 @@ fn show_reply(line: &mut LineBuffer, sequence: u32, reply: &Reply)
             units,
         } => admitted(line, sequence, *call, destination, *units),
         Reply::AdmitRefused { call, reason } => admit_refused(line, sequence, *call, *reason),
+        Reply::Changed { call, units } => changed(line, sequence, *call, *units),
+        Reply::ChangeRefused { call, reason } => change_refused(line, sequence, *call, *reason),
+        Reply::Released { call } => released(line, sequence, *call),
+        Reply::ReleaseRefused { call, reason } => release_refused(line, sequence, *call, *reason),
     }
 }
 
@@ -140,6 +147,58 @@ fn admit_refused(line: &mut LineBuffer, sequence: u32, call: u32, reason: AdmitR
     admit_refusal(line, reason);
 }
 
+/// `BCF seq call units`
+fn changed(line: &mut LineBuffer, sequence: u32, call: u32, granted: Units)
+    ensures words { line.new ≡ line_of_words
+        (codes "BCF" ∷ decimal sequence ∷ decimal call ∷ decimal granted ∷ []) }
+    ensures room { room_of (codes "BCF" ∷ decimal sequence ∷ decimal call ∷ decimal granted ∷ [])
+        < ROOM_BYTES }
+{
+    line.begin(b"BCF");
+    line.number(sequence);
+    line.number(call);
+    line.number(granted.value());
+}
+
+/// `BRJ seq call` and why
+fn change_refused(line: &mut LineBuffer, sequence: u32, call: u32, reason: ChangeRefusal)
+    ensures words { line.new ≡ line_of_words
+        (codes "BRJ" ∷ decimal sequence ∷ decimal call ∷ Spec.change_refusal_words reason) }
+    ensures room { room_of
+        (codes "BRJ" ∷ decimal sequence ∷ decimal call ∷ Spec.change_refusal_words reason)
+        < ROOM_BYTES }
+{
+    line.begin(b"BRJ");
+    line.number(sequence);
+    line.number(call);
+    change_refusal(line, reason);
+}
+
+/// `DCF seq call`
+fn released(line: &mut LineBuffer, sequence: u32, call: u32)
+    ensures words { line.new
+        ≡ line_of_words (codes "DCF" ∷ decimal sequence ∷ decimal call ∷ []) }
+    ensures room { room_of (codes "DCF" ∷ decimal sequence ∷ decimal call ∷ []) < ROOM_BYTES }
+{
+    line.begin(b"DCF");
+    line.number(sequence);
+    line.number(call);
+}
+
+/// `DRJ seq call` and why
+fn release_refused(line: &mut LineBuffer, sequence: u32, call: u32, reason: ReleaseRefusal)
+    ensures words { line.new ≡ line_of_words
+        (codes "DRJ" ∷ decimal sequence ∷ decimal call ∷ Spec.release_refusal_words reason) }
+    ensures room { room_of
+        (codes "DRJ" ∷ decimal sequence ∷ decimal call ∷ Spec.release_refusal_words reason)
+        < ROOM_BYTES }
+{
+    line.begin(b"DRJ");
+    line.number(sequence);
+    line.number(call);
+    release_refusal(line, reason);
+}
+
 /// `ERR` and the word of the fault
 fn malformed(line: &mut LineBuffer, fault: RequestFault)
     ensures words { line.new ≡ line_of_words (codes "ERR" ∷ Spec.fault_word fault ∷ []) }
@@ -170,86 +229,4 @@ fn place(line: &mut LineBuffer, kind: &[u8], name: &Name, address: &Address)
     line.word(kind);
     line.name(name);
     line.address(address);
-}
-
-/// Adds why a registration is refused.
-fn register_refusal(line: &mut LineBuffer, refusal: RegisterRefusal)
-    ensures { line.new ≡ with_words line.old (Spec.register_refusal_words refusal) }
-{
-    match refusal {
-        RegisterRefusal::UnknownZone => reason(line, Reason::UndefinedReason, b"unknown-zone"),
-        RegisterRefusal::DuplicateAlias(duplicate) => {
-            reason(line, Reason::DuplicateAlias, duplicate_word(duplicate));
-        }
-        RegisterRefusal::EndpointsFull => {
-            reason(line, Reason::UndefinedReason, b"endpoints-full");
-        }
-        RegisterRefusal::RecordFull => reason(line, Reason::UndefinedReason, b"record-full"),
-        RegisterRefusal::NoMemory => reason(line, Reason::UndefinedReason, b"no-memory"),
-    }
-}
-
-/// Adds why an unregistration is refused.
-fn unregister_refusal(line: &mut LineBuffer, refusal: UnregisterRefusal)
-    ensures { line.new ≡ with_words line.old (Spec.unregister_refusal_words refusal) }
-{
-    match refusal {
-        UnregisterRefusal::NotRegistered => {
-            line.word(Reason::NotCurrentlyRegistered.word().as_bytes());
-        }
-        UnregisterRefusal::CallInProgress => line.word(Reason::CallInProgress.word().as_bytes()),
-        UnregisterRefusal::RecordFull => reason(line, Reason::UndefinedReason, b"record-full"),
-        UnregisterRefusal::NoMemory => reason(line, Reason::UndefinedReason, b"no-memory"),
-    }
-}
-
-/// Adds why an admission is refused.
-fn admit_refusal(line: &mut LineBuffer, refusal: AdmitRefusal)
-    ensures { line.new ≡ with_words line.old (Spec.admit_refusal_words refusal) }
-{
-    match refusal {
-        AdmitRefusal::CallerNotRegistered => {
-            line.word(Reason::CallerNotRegistered.word().as_bytes());
-        }
-        AdmitRefusal::CallOpen => reason(line, Reason::UndefinedReason, b"call-open"),
-        AdmitRefusal::NoRoute(refusal) => {
-            reason(
-                line,
-                Reason::CalledPartyNotRegistered,
-                route_refusal_word(refusal),
-            );
-        }
-        AdmitRefusal::CallsFull => reason(line, Reason::ResourceUnavailable, b"calls-full"),
-        AdmitRefusal::RecordFull => reason(line, Reason::ResourceUnavailable, b"record-full"),
-        AdmitRefusal::NoMemory => reason(line, Reason::ResourceUnavailable, b"no-memory"),
-    }
-}
-
-/// Adds a reason of H.225.0, and the word that this project puts after it.
-fn reason(line: &mut LineBuffer, reason: Reason, word: &[u8])
-    ensures { line.new ≡ with_words line.old (word_of reason ∷ word.now ∷ []) }
-{
-    line.word(reason.word().as_bytes());
-    line.word(word);
-}
-
-/// The word of what another endpoint has already.
-fn duplicate_word(duplicate: Duplicate) -> &'static [u8]
-    ensures { result.now ≡ Spec.duplicate_word duplicate }
-{
-    match duplicate {
-        Duplicate::Id => b"id",
-        Duplicate::E164 => b"e164",
-    }
-}
-
-/// The word of why no route was found.
-fn route_refusal_word(refusal: RouteRefusal) -> &'static [u8]
-    ensures { result.now ≡ RouteSpec.route_refusal_word refusal }
-{
-    match refusal {
-        RouteRefusal::UnknownPrefix => b"unknown-prefix",
-        RouteRefusal::NoGateway => b"no-gateway",
-        RouteRefusal::NoDefault => b"no-default",
-    }
 }

@@ -4,6 +4,8 @@
 pub mod answer_lines;
 pub mod answerer;
 pub mod answers;
+mod open_call_requests;
+mod refusal_words;
 mod registrations;
 #[cfg(test)]
 mod reply_tests;

@@ -4,6 +4,7 @@ ghost use Rattle.std.specs.Prelude.{◌≡◌, Ok, MatchResult, option_map};
 ghost use Rattle.gk_terms.specs.Text.{words_of};
 ghost use Rattle.gk_protocol.specs.Requests as Spec;
 
+use crate::open_call_requests::{change, release};
 use crate::registrations::register;
 use crate::request_faults::{NoRequest, RequestFault};
 use crate::request_fields::{call_field, sequence_field, units_field};
@@ -38,12 +39,25 @@ fn request_at(alloc: Global, words: &mut Words<'_>) -> Result<Option<Request>, N
         (λ request. Spec.asking_at (words_of words.old) ≡ Ok (option_map Spec.Whole request))
         (Spec.IsNoRequestAt (words_of words.old)) }
 {
-    match words.next() {
-        None => Ok(None),
-        Some(b"RRQ") => Ok(Some(register(alloc, words)?)),
-        Some(b"URQ") => Ok(Some(unregister(words)?)),
-        Some(b"ARQ") => Ok(Some(admit(words)?)),
-        Some(_) => Err(NoRequest::Fault(RequestFault::UnknownWord)),
+    let Some(word) = words.next() else {
+        return Ok(None);
+    };
+    if word == b"RRQ".as_slice() {
+        return Ok(Some(register(alloc, words)?));
+    }
+    Ok(Some(other_request(word, words)?))
+}
+
+/// The request of another first word than `RRQ`. It takes no memory.
+fn other_request(word: &[u8], words: &mut Words<'_>) -> Result<Request, RequestFault>
+    ensures { result ≡ Spec.other_request_at word.now (words_of words.old) }
+{
+    match word {
+        b"URQ" => unregister(words),
+        b"ARQ" => admit(words),
+        b"BRQ" => change(words),
+        b"DRQ" => release(words),
+        _ => Err(RequestFault::UnknownWord),
     }
 }
 

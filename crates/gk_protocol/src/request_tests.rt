@@ -56,6 +56,24 @@ fn faults(rt: HostRuntime) -> Result<(), Fail> {
         (b"ARQ 5 t\x7F 1 9123 640", "name"),
         (b"ARQ 5 ta 1 9,1 0", "digits"),
         (b"ARQ 5 ta 1 900000000000000000000000000000000 0", "digits"),
+        (b"brq 5 ta 1001 640", "word"),
+        (b"BRQ", "missing"),
+        (b"BRQ 5", "missing"),
+        (b"BRQ 5 ta", "missing"),
+        (b"BRQ 5 ta 1001", "missing"),
+        (b"BRQ 0 ta 1001 640", "seq"),
+        (b"BRQ 5 t\x7F 1001 640", "name"),
+        (b"BRQ 5 ta 0 640", "number"),
+        (b"BRQ 5 ta 1001 4294967296", "number"),
+        (b"BRQ 5 ta 1001 640 x", "extra"),
+        (b"drq 5 ta 1001", "word"),
+        (b"DRQ", "missing"),
+        (b"DRQ 5", "missing"),
+        (b"DRQ 5 ta", "missing"),
+        (b"DRQ 65536 ta 1001", "seq"),
+        (b"DRQ 5 t\x7F 1001", "name"),
+        (b"DRQ 5 ta 4294967296", "number"),
+        (b"DRQ 5 ta 1001 640", "extra"),
         (b"RRQ 5 PBX tb gk-a 10.0.0.3", "option"),
         (b"RRQ 5 TERM tb gk-a 10.0.0.300", "address"),
         (b"RRQ 5 TERM tb gk-a 10.0.0.3:0", "address"),
@@ -163,5 +181,40 @@ fn admissions(rt: HostRuntime) -> Result<(), Fail> {
     assert_eq!(rt; call, u32::MAX);
     assert_eq!(rt; digits.as_str(), "90000000000000000000000000000000");
     assert_eq!(rt; units.value(), 0);
+    Ok(())
+}
+
+#[test]
+fn bandwidth_changes(rt: HostRuntime) -> Result<(), Fail> {
+    for (line, asked) in [
+        (b"BRQ 65535 ta 1001 0".as_slice(), 0),
+        (b" BRQ\t65535 ta  1001 4294967295 ", u32::MAX),
+    ] {
+        let Request::Change {
+            sequence,
+            id,
+            call,
+            units,
+        } = request(rt.alloc(), line)?
+        else {
+            return Err(Fail::new("no bandwidth change"));
+        };
+        assert_eq!(rt; sequence, 65_535);
+        assert_eq!(rt; id.as_str(), "ta");
+        assert_eq!(rt; call, 1_001);
+        assert_eq!(rt; units.value(), asked);
+    }
+    Ok(())
+}
+
+#[test]
+fn releases(rt: HostRuntime) -> Result<(), Fail> {
+    let line = b"DRQ 1 ta 4294967295";
+    let Request::Release { sequence, id, call } = request(rt.alloc(), line)? else {
+        return Err(Fail::new("no release"));
+    };
+    assert_eq!(rt; sequence, 1);
+    assert_eq!(rt; id.as_str(), "ta");
+    assert_eq!(rt; call, u32::MAX);
     Ok(())
 }

@@ -5,7 +5,9 @@ use crate::answers::Answer;
 use crate::requests::Request;
 use crate::session_faults::SessionFault;
 use crate::sessions::session;
-use admission::{AdmitRefusal, RegisterRefusal, Reply, UnregisterRefusal};
+use admission::{
+    AdmitRefusal, ChangeRefusal, RegisterRefusal, ReleaseRefusal, Reply, UnregisterRefusal,
+};
 use gk_lines::fakes::Piecewise;
 use gk_lines::{Noted, Sink, Source};
 use std::alloc::Global;
@@ -38,6 +40,14 @@ impl Answerer for Refuser {
             Request::Admit { sequence, call, .. } => {
                 let reason = AdmitRefusal::CallerNotRegistered;
                 (sequence, Reply::AdmitRefused { call, reason })
+            }
+            Request::Change { sequence, call, .. } => {
+                let reason = ChangeRefusal::NoCall;
+                (sequence, Reply::ChangeRefused { call, reason })
+            }
+            Request::Release { sequence, call, .. } => {
+                let reason = ReleaseRefusal::NoCall;
+                (sequence, Reply::ReleaseRefused { call, reason })
             }
         };
         Answer::Reply { sequence, reply }
@@ -199,6 +209,12 @@ fn one_reply_to_each_request(rt: HostRuntime) {
             3,
             2,
             b"RRJ 65535 ta undefinedReason unknown-zone\nARJ 1 7 callerNotRegistered\nERR missing\n",
+        ),
+        (
+            b"BRQ 1 ta 7 9\nDRQ 2 ta 7\nDRQ 3 ta",
+            3,
+            2,
+            b"BRJ 1 7 undefinedReason no-call\nDRJ 2 7 requestToDropOther no-call\nERR missing\n",
         ),
     ] {
         for most in [1, 2, 3, 7, 10_000] {

@@ -94,17 +94,22 @@ after_registered replies =
     codes "RCF 1 ta gk-a" ∷ codes "RCF 2 ga gk-a" ∷ codes "RCF 3 gb1 gk-b" ∷ codes "RCF 4 gb2 gk-b"
     ∷ replies
 
--- the longest pattern, the cheaper zone, a hop-off zone, and a technology prefix alone
+-- the longest pattern, the cheaper zone, and a hop-off zone
 abbrev pub ByPatternCostAndHopoff : Type 0
 ByPatternCostAndHopoff = Writes stated
     (dial_plan default_technology []
     ++ after_endpoints (codes "ARQ 5 ta 1001 4085551234 640" ∷ codes "ARQ 6 ta 1002 40855512345 640"
-    ∷ codes "ARQ 7 ta 1003 9123 640" ∷ codes "ARQ 8 ta 1004 2#4085551234 640"
-    ∷ codes "ARQ 9 ta 1005 1# 640" ∷ []))
+    ∷ codes "ARQ 7 ta 1003 9123 640" ∷ codes "ARQ 8 ta 1004 2#4085551234 640" ∷ []))
     (after_registered (codes "ACF 5 1001 GW gb1 10.0.2.1:1720 640"
     ∷ codes "ACF 6 1002 GW ga 10.0.1.2:1720 640" ∷ codes "ACF 7 1003 ZONE gk-y 10.9.0.2:1719 640"
-    ∷ codes "ACF 8 1004 ZONE gk-x 10.9.0.1:1719 640" ∷ codes "ACF 9 1005 GW ga 10.0.1.2:1720 640"
-    ∷ []))
+    ∷ codes "ACF 8 1004 ZONE gk-x 10.9.0.1:1719 640" ∷ []))
+
+-- a technology prefix alone, after which no digits are left
+abbrev pub PrefixAlone : Type 0
+PrefixAlone = Writes stated
+    (dial_plan default_technology []
+    ++ after_endpoints (codes "ARQ 5 ta 1001 1# 640" ∷ []))
+    (after_registered (codes "ACF 5 1001 GW ga 10.0.1.2:1720 640" ∷ []))
 
 -- the gateway of the greatest priority, and the next when that has gone
 abbrev pub GreatestPriority : Type 0
@@ -129,7 +134,8 @@ UnknownPrefix = Writes stated
     ++ after_endpoints (codes "ARQ 5 ta 1001 1# 640" ∷ []))
     (after_registered (codes "ARJ 5 1001 calledPartyNotRegistered unknown-prefix" ∷ []))
 
--- an alias, and else the default technology
+-- an alias, and else the default technology; a call within one zone counts there once, so these
+-- take 2560 of its 2560
 abbrev pub AliasOrDefault : Type 0
 AliasOrDefault = Writes stated
     (dial_plan default_technology []
@@ -167,3 +173,77 @@ LongDigits = Writes stated
     ∷ []))
     (after_registered (codes "ACF 5 1001 ZONE gk-y 10.9.0.2:1719 640" ∷ codes "ERR digits"
     ∷ codes "ERR digits" ∷ []))
+
+-- ---- bandwidth limits
+-- two calls take all that a zone may have, and one of 0 units fits still
+abbrev pub FullTotal : Type 0
+FullTotal = Writes stated
+    (dial_plan default_technology []
+    ++ after_endpoints (codes "ARQ 5 ta 1001 9123 1280" ∷ codes "ARQ 6 ta 1002 9124 1280"
+    ∷ codes "ARQ 7 ta 1003 9125 1" ∷ codes "ARQ 8 ta 1003 9125 0" ∷ []))
+    (after_registered (codes "ACF 5 1001 ZONE gk-y 10.9.0.2:1719 1280"
+    ∷ codes "ACF 6 1002 ZONE gk-y 10.9.0.2:1719 1280"
+    ∷ codes "ARJ 7 1003 requestDenied total gk-a"
+    ∷ codes "ACF 8 1003 ZONE gk-y 10.9.0.2:1719 0" ∷ []))
+
+-- one that asks more than a call may have is refused for that first
+abbrev pub SessionBeforeTotal : Type 0
+SessionBeforeTotal = Writes stated
+    (dial_plan default_technology []
+    ++ after_endpoints (codes "ARQ 5 ta 1001 9123 1280" ∷ codes "ARQ 6 ta 1002 9124 1280"
+    ∷ codes "ARQ 7 ta 1003 9125 1281" ∷ []))
+    (after_registered (codes "ACF 5 1001 ZONE gk-y 10.9.0.2:1719 1280"
+    ∷ codes "ACF 6 1002 ZONE gk-y 10.9.0.2:1719 1280"
+    ∷ codes "ARJ 7 1003 requestDenied session gk-a" ∷ []))
+
+-- calls between two zones, limited at both
+abbrev pub BetweenZones : Type 0
+BetweenZones = Writes stated
+    (dial_plan default_technology
+    (codes " bandwidth interzone zone gk-a 100" ∷ codes " bandwidth interzone zone gk-b 64" ∷ [])
+    ++ after_endpoints (codes "ARQ 5 ta 1001 4085551234 1280" ∷ codes "ARQ 6 ta 1001 4085551234 900"
+    ∷ codes "ARQ 7 ta 1001 4085551234 640" ∷ []))
+    (after_registered (codes "ARJ 5 1001 requestDenied interzone gk-a"
+    ∷ codes "ARJ 6 1001 requestDenied interzone gk-b"
+    ∷ codes "ACF 7 1001 GW gb1 10.0.2.1:1720 640" ∷ []))
+
+-- all calls to zones of other gatekeepers together
+abbrev pub ToRemoteZones : Type 0
+ToRemoteZones = Writes stated
+    (dial_plan default_technology (codes " bandwidth remote 63" ∷ [])
+    ++ after_endpoints (codes "ARQ 5 ta 1001 9123 640" ∷ []))
+    (after_registered (codes "ARJ 5 1001 requestDenied remote" ∷ []))
+
+-- ---- bandwidth changes and releases
+-- a raise above what a call may have, the same amount, and less
+abbrev pub RaisedAndLowered : Type 0
+RaisedAndLowered = Writes stated
+    (dial_plan default_technology []
+    ++ after_endpoints (codes "ARQ 5 ta 1001 9123 1280" ∷ codes "ARQ 6 ta 1002 9124 1280"
+    ∷ codes "BRQ 7 ta 1002 1281" ∷ codes "BRQ 8 ta 1002 1280" ∷ codes "BRQ 9 ta 1002 640" ∷ []))
+    (after_registered (codes "ACF 5 1001 ZONE gk-y 10.9.0.2:1719 1280"
+    ∷ codes "ACF 6 1002 ZONE gk-y 10.9.0.2:1719 1280"
+    ∷ codes "BRJ 7 1002 insufficientResources session gk-a" ∷ codes "BCF 8 1002 1280"
+    ∷ codes "BCF 9 1002 640" ∷ []))
+
+-- a call counts in its target zone too
+abbrev pub CountedInTargetZone : Type 0
+CountedInTargetZone = Writes stated
+    (dial_plan default_technology (codes " bandwidth total zone gk-b 100" ∷ [])
+    ++ after_endpoints (codes "ARQ 5 ta 1001 4085551234 1000" ∷ codes "ARQ 6 gb1 1002 9123 1" ∷ []))
+    (after_registered (codes "ACF 5 1001 GW gb1 10.0.2.1:1720 1000"
+    ∷ codes "ARJ 6 1002 requestDenied total gk-b" ∷ []))
+
+-- a call is changed and released by its owner alone, and is gone after its release
+abbrev pub ByOwnerAlone : Type 0
+ByOwnerAlone = Writes stated
+    (dial_plan default_technology []
+    ++ after_endpoints (codes "ARQ 5 ta 1001 9123 640" ∷ codes "ARQ 6 ta 1001 9123 640"
+    ∷ codes "URQ 7 ta" ∷ codes "DRQ 8 ga 1001" ∷ codes "BRQ 9 ga 1001 0" ∷ codes "DRQ 10 ta 1001"
+    ∷ codes "DRQ 11 ta 1001" ∷ codes "DRQ 12 nobody 1001" ∷ codes "BRQ 13 ta 1001 5" ∷ []))
+    (after_registered (codes "ACF 5 1001 ZONE gk-y 10.9.0.2:1719 640"
+    ∷ codes "ARJ 6 1001 undefinedReason call-open" ∷ codes "URJ 7 ta callInProgress"
+    ∷ codes "DRJ 8 1001 requestToDropOther not-yours"
+    ∷ codes "BRJ 9 1001 invalidPermission not-yours" ∷ codes "DCF 10 1001"
+    ∷ codes "DRJ 11 1001 requestToDropOther no-call" ∷ codes "DRJ 12 1001 notRegistered"
+    ∷ codes "BRJ 13 1001 undefinedReason no-call" ∷ []))

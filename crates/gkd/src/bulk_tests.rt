@@ -7,12 +7,14 @@ use gk_lines::Noted;
 use std::alloc::{AllocError, Global};
 use std::test::Fail;
 
-/// Adds a configuration of 20,000 lines: one pattern leads from `gk-a` to `gk-x`, and the others are remarks.
+/// Adds a configuration of 20,000 lines: one pattern leads from `gk-a` to `gk-x`, the limit of
+/// `gk-a` is 50,000 times the 640 units of a call, and the other lines are remarks.
 fn write_configuration(input: &mut String) -> Result<(), AllocError> {
     writeln!(input, "zone local gk-a example.com")?;
     writeln!(input, "zone remote gk-x example.com 10.9.0.1")?;
     writeln!(input, "zone prefix gk-x 9*")?;
-    for _ in 0..19_996 {
+    writeln!(input, "bandwidth total zone gk-a 3200000")?;
+    for _ in 0..19_995 {
         writeln!(input, "!")?;
     }
     writeln!(input, "end")
@@ -39,12 +41,23 @@ fn write_admission(
     writeln!(replies, "ACF {number} {number} ZONE gk-x 10.9.0.1:1719 640")
 }
 
-/// Adds one registration and one admission more, and that they are refused.
+/// Adds one registration and two admissions more, and that they are refused: the limit of `gk-a` is
+/// used up, and a call without bandwidth finds the table of calls full.
 fn write_refusals(input: &mut String, replies: &mut String) -> Result<(), AllocError> {
     writeln!(input, "RRQ 60001 TERM t10001 gk-a 10.0.1.1")?;
     writeln!(replies, "RRJ 60001 t10001 undefinedReason endpoints-full")?;
-    writeln!(input, "ARQ 60002 t1 60001 9 640")?;
-    writeln!(replies, "ARJ 60002 60001 resourceUnavailable calls-full")
+    writeln!(input, "ARQ 60002 t1 60001 9 1")?;
+    writeln!(replies, "ARJ 60002 60001 requestDenied total gk-a")?;
+    writeln!(input, "ARQ 60003 t1 60001 9 0")?;
+    writeln!(replies, "ARJ 60003 60001 resourceUnavailable calls-full")
+}
+
+/// Adds a release of the last call, and an admission that takes its place.
+fn write_release(input: &mut String, replies: &mut String) -> Result<(), AllocError> {
+    writeln!(input, "DRQ 60004 t8571 60000")?;
+    writeln!(replies, "DCF 60004 60000")?;
+    writeln!(input, "ARQ 60005 t1 60001 9 640")?;
+    writeln!(replies, "ACF 60005 60001 ZONE gk-x 10.9.0.1:1719 640")
 }
 
 /// How a run over this input ends, and what it writes.
@@ -69,8 +82,9 @@ fn ten_thousand_endpoints_and_fifty_thousand_calls(rt: HostRuntime) -> Result<()
         write_admission(&mut input, &mut replies, number)?;
     }
     write_refusals(&mut input, &mut replies)?;
+    write_release(&mut input, &mut replies)?;
     let (result, output) = run_of(rt.alloc(), input.as_bytes());
     assert!(rt; output.as_slice() == replies.as_bytes());
-    assert_eq!(rt; result, Ok(60_002));
+    assert_eq!(rt; result, Ok(60_005));
     Ok(())
 }

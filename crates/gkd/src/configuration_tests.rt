@@ -64,9 +64,11 @@ fn lines_without_effect_change_no_reply(rt: HostRuntime) -> Result<(), Fail> {
         zone prefix gk-a 408* gw-priority 0 ta\n \
         zone prefix gk-x 9* seq\n \
         gw-type-prefix 1#* hopoff gk-x\n \
-        bandwidth total default 1\n \
+        bandwidth total zone gk-x 1\n \
         bandwidth session zone gk-a 1\n \
+        bandwidth session zone gk-a 64\n \
         bandwidth remote 1\n \
+        bandwidth remote 64\n \
         no shutdown\n\
         end\n",
     )?;

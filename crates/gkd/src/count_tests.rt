@@ -69,7 +69,11 @@ fn full_endpoints_and_full_calls_come_before_a_full_record(rt: HostRuntime) -> R
         URQ 7 ta\n\
         RRQ 8 TERM ta gk-a 10.0.1.1\n\
         RRQ 9 TERM tb gk-a 10.0.1.2\n\
-        ARQ 10 ta 1002 9123 640\n",
+        ARQ 10 ta 1002 9123 640\n\
+        BRQ 11 ta 1001 1\n\
+        DRQ 12 nobody 1001\n\
+        DRQ 13 ta 1001\n\
+        ARQ 14 ta 1002 9123 640\n",
         "RCF 1 ta gk-a\n\
         RRJ 2 tb undefinedReason endpoints-full\n\
         ACF 3 1001 ZONE gk-x 10.9.0.1:1719 640\n\
@@ -79,7 +83,11 @@ fn full_endpoints_and_full_calls_come_before_a_full_record(rt: HostRuntime) -> R
         URJ 7 ta undefinedReason record-full\n\
         RRJ 8 ta undefinedReason record-full\n\
         RRJ 9 tb undefinedReason endpoints-full\n\
-        ARJ 10 1002 resourceUnavailable calls-full\n",
+        ARJ 10 1002 resourceUnavailable calls-full\n\
+        BRJ 11 1001 undefinedReason record-full\n\
+        DRJ 12 1001 notRegistered\n\
+        DCF 13 1001\n\
+        ARJ 14 1002 resourceUnavailable record-full\n",
     )?;
     Ok(())
 }

@@ -1,76 +1,9 @@
 //! Whole runs over memory: technology prefixes, hop-off zones, costs, gateways and priorities.
 
-use crate::test_runs::assert_run;
-use admission::STATED_LIMITS;
-use std::alloc::{AllocError, Global};
-use std::process::Abort;
+use crate::test_dial_plans::{
+    DEFAULT, ENDPOINTS, HOPOFF, REGISTERED, ZONES, assert_dial_plan, assert_lines,
+};
 use std::test::Fail;
-
-/// Two zones here and two of other gatekeepers, of which `gk-y` is the cheaper.
-const ZONES: &str = "gatekeeper\n \
-    zone local gk-a example.com 10.0.0.1\n \
-    zone local gk-b example.com\n \
-    zone remote gk-x example.com 10.9.0.1 1719 cost 50\n \
-    zone remote gk-y example.com 10.9.0.2 1719 cost 20\n \
-    zone prefix gk-a 408*\n \
-    zone prefix gk-b 4085......\n \
-    zone prefix gk-x 9*\n \
-    zone prefix gk-y 9*\n";
-
-/// A default technology.
-const DEFAULT: &str = " gw-type-prefix 1#* default-technology\n";
-
-/// A hop-off zone, limits, and the end; lines may be added before it.
-const HOPOFF: &str = " gw-type-prefix 2# hopoff gk-x\n \
-    bandwidth total zone gk-a 256\n \
-    bandwidth session default 128\n";
-
-/// A terminal and a gateway in `gk-a`, and two gateways in `gk-b`.
-const ENDPOINTS: &str = "RRQ 1 TERM ta gk-a 10.0.1.1:1720 e164=5551000\n\
-    RRQ 2 GW ga gk-a 10.0.1.2:1720 tech=1#\n\
-    RRQ 3 GW gb1 gk-b 10.0.2.1:1720 tech=1#\n\
-    RRQ 4 GW gb2 gk-b 10.0.2.2:1720 tech=1#\n";
-
-/// Their replies.
-const REGISTERED: &str = "RCF 1 ta gk-a\nRCF 2 ga gk-a\nRCF 3 gb1 gk-b\nRCF 4 gb2 gk-b\n";
-
-/// Asserts that these lines, and then `no shutdown` and `end`, get these replies, each list of parts
-/// being one text.
-fn assert_lines(
-    rt: &impl Abort,
-    alloc: Global,
-    lines: &[&str],
-    requests: &[&str],
-    replies: &[&str],
-) -> Result<(), AllocError> {
-    let mut input = Vec::new(alloc);
-    for part in lines {
-        input.extend_from_slice(part.as_bytes())?;
-    }
-    input.extend_from_slice(b" no shutdown\nend\n")?;
-    for part in requests {
-        input.extend_from_slice(part.as_bytes())?;
-    }
-    let mut text = Vec::new(alloc);
-    for part in replies {
-        text.extend_from_slice(part.as_bytes())?;
-    }
-    assert_run(rt, alloc, STATED_LIMITS, &input, &text);
-    Ok(())
-}
-
-/// Asserts the same of the whole dial plan with these lines added, after the endpoints registered.
-fn assert_dial_plan(
-    rt: &impl Abort,
-    alloc: Global,
-    added: &str,
-    requests: &str,
-    replies: &str,
-) -> Result<(), AllocError> {
-    let lines = [ZONES, DEFAULT, HOPOFF, added];
-    let requests = [ENDPOINTS, requests];
-    assert_lines(rt, alloc, &lines, &requests, &[REGISTERED, replies])
-}
 
 #[test]
 fn refuses_a_stranger(rt: HostRuntime) -> Result<(), Fail> {
@@ -93,13 +26,23 @@ fn routes_by_pattern_cost_and_hopoff(rt: HostRuntime) -> Result<(), Fail> {
         "ARQ 5 ta 1001 4085551234 640\n\
         ARQ 6 ta 1002 40855512345 640\n\
         ARQ 7 ta 1003 9123 640\n\
-        ARQ 8 ta 1004 2#4085551234 640\n\
-        ARQ 9 ta 1005 1# 640\n",
+        ARQ 8 ta 1004 2#4085551234 640\n",
         "ACF 5 1001 GW gb1 10.0.2.1:1720 640\n\
         ACF 6 1002 GW ga 10.0.1.2:1720 640\n\
         ACF 7 1003 ZONE gk-y 10.9.0.2:1719 640\n\
-        ACF 8 1004 ZONE gk-x 10.9.0.1:1719 640\n\
-        ACF 9 1005 GW ga 10.0.1.2:1720 640\n",
+        ACF 8 1004 ZONE gk-x 10.9.0.1:1719 640\n",
+    )?;
+    Ok(())
+}
+
+#[test]
+fn routes_a_technology_prefix_alone(rt: HostRuntime) -> Result<(), Fail> {
+    assert_dial_plan(
+        &rt,
+        rt.alloc(),
+        "",
+        "ARQ 5 ta 1001 1# 640\n",
+        "ACF 5 1001 GW ga 10.0.1.2:1720 640\n",
     )?;
     Ok(())
 }

@@ -22,6 +22,7 @@ pub fn worked_rows()
     ensures stranger { Rows.Stranger }
     ensures faults { Rows.Faults }
     ensures by_pattern { Rows.ByPatternCostAndHopoff }
+    ensures prefix_alone { Rows.PrefixAlone }
     ensures greatest { Rows.GreatestPriority }
     ensures priority_zero { Rows.PriorityZero }
     ensures unknown_prefix { Rows.UnknownPrefix }
@@ -29,4 +30,11 @@ pub fn worked_rows()
     ensures no_default { Rows.NoDefault }
     ensures other_aliases { Rows.OtherAliases }
     ensures long_digits { Rows.LongDigits }
+    ensures full_total { Rows.FullTotal }
+    ensures session_before_total { Rows.SessionBeforeTotal }
+    ensures between_zones { Rows.BetweenZones }
+    ensures to_remote_zones { Rows.ToRemoteZones }
+    ensures raised_and_lowered { Rows.RaisedAndLowered }
+    ensures counted_in_target_zone { Rows.CountedInTargetZone }
+    ensures by_owner_alone { Rows.ByOwnerAlone }
 {}

@@ -20,12 +20,16 @@ mod count_tests;
 mod dial_plan_tests;
 pub mod laws;
 #[cfg(test)]
+mod limit_tests;
+#[cfg(test)]
 mod registration_tests;
 pub mod run;
 #[cfg(test)]
 mod run_tests;
 #[cfg(test)]
 mod stream_tests;
+#[cfg(test)]
+mod test_dial_plans;
 #[cfg(test)]
 mod test_runs;
 

@@ -9,13 +9,14 @@ use Rattle.std.proofs.lemmas.Bool.Decides.{nat_tests}
 use Rattle.std.proofs.lemmas.Option.{same_Some}
 use Rattle.std.proofs.lemmas.Map.Keys.{IsDistinct-head}
 use Rattle.compiler.specs.declared.plans.TheConstants.{USUAL_GATEWAY_PRIORITY}
+use Rattle.compiler.specs.Priority.{named_priority}
 use Rattle.registry.specs.Endpoint.{EndpointParts}
 use Rattle.registry.specs.Gateway.{serves, is_candidate}
 use Rattle.registry.specs.RegistryIndex.{kept_endpoint_of}
 use Rattle.registry.specs.Roll.{Numbered, at_number, by_id, found_with_id, IsNumberFor}
 use Rattle.registry.specs.Served.{found_serving}
 use Rattle.registry.specs.Listing.{NoneServes, IsNextServing}
-use Rattle.registry.specs.Chosen.{Named, named_priority, is_other_than, IsBest, IsBestAt, comes_first, first_of}
+use Rattle.registry.specs.Chosen.{Named, is_other_than, IsBest, IsBestAt, comes_first, first_of}
 use Rattle.registry.proofs.RegistryLemmas.{entry_id}
 use Rattle.registry.proofs.RollLemmas.{not_missed}
 use Rattle.registry.proofs.ShelfLemmas.{Keyed-by_id}
@@ -149,10 +150,12 @@ module _ (entries : Numbered) (named : Named) (zone prefix : List ℕ) where
 
     -- whether who has the ID is a candidate
     able : (n : ℕ) (e : EndpointParts) → at_number entries n ≡ Some e → bytes_eq e.id id ≡ true
-        → (found_serving (at_number entries number) zone prefix && nat_lt 0 (named_priority named id))
+        → (found_serving (at_number entries number) zone prefix
+        && nat_lt 0 (named_priority named id))
         ≡ is_able e
     able n e there own =
-        ap (λ m. found_serving (at_number entries m) zone prefix && nat_lt 0 (named_priority named id))
+        ap (λ m. found_serving (at_number entries m) zone prefix
+        && nat_lt 0 (named_priority named id))
         (sym (under n e there own))
         ∙ ap (λ found. found_serving found zone prefix && nat_lt 0 (named_priority named id)) there
         ∙ ap (λ i. serves zone prefix e && nat_lt 0 (named_priority named i))
@@ -232,7 +235,8 @@ module _ (entries : Numbered) (named : Named) (zone prefix : List ℕ) where
               → (c : Bool) → bytes_eq f.id id ≡ c
               → (named_priority named f.id < a) ⊎ ((named_priority named f.id ≡ a) × (b ≤ n))
           by n f at p true q =
-              subst (λ m. (named_priority named f.id < a) ⊎ ((named_priority named f.id ≡ a) × (b ≤ m)))
+              subst (λ m. (named_priority named f.id < a)
+              ⊎ ((named_priority named f.id ≡ a) × (b ≤ m)))
               (sym (under n f at q))
               (subst (λ r. (r < a) ⊎ ((r ≡ a) × (b ≤ number))) (sym (own_priority f q))
               (no_better (named_priority named id) a b number first))
@@ -271,7 +275,8 @@ module _ (entries : Numbered) (named : Named) (zone prefix : List ℕ) where
             (first_of best (named_priority named id, number)).1
         by None at =
             absurd (both_ways false refl
-            (ap (λ found. found_serving found zone prefix && nat_lt 0 (named_priority named id)) (sym at)
+            (ap (λ found. found_serving found zone prefix && nat_lt 0 (named_priority named id))
+            (sym at)
             ∙ passes))
         by (Some e) at =
             let own = entry_id (by_id entries) id e (Keyed-by_id entries) (kept ∙ at) in
@@ -302,7 +307,8 @@ module _ (entries : Numbered) (named : Named) (zone prefix : List ℕ) where
           ∙ next.least n (grind (arith, nat_tests)) less)
 
   -- one that is named is passed by
-  pub passed_named : (from number : ℕ) (e : EndpointParts) → IsNextServing entries zone prefix from number
+  pub passed_named : (from number : ℕ) (e : EndpointParts)
+      → IsNextServing entries zone prefix from number
       → at_number entries number ≡ Some e → is_some (lookup (bytes_eq e.id) named) ≡ true
       → AllNamedBefore from → AllNamedBefore (number + 1)
   passed_named from number e next there named_so before n f at less = by (n == number) refl

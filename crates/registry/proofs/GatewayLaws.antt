@@ -53,7 +53,8 @@ module _ (priority : List ℕ → ℕ) (endpoints : List EndpointParts) (zone pr
   off false h = refl
 
   -- who is beaten has less than a candidate
-  pub chosen_from_computed : (e : EndpointParts) → gateway_by priority endpoints zone prefix ≡ Some e
+  pub chosen_from_computed : (e : EndpointParts)
+      → gateway_by priority endpoints zone prefix ≡ Some e
       → IsChosenBy priority endpoints zone prefix e
   chosen_from_computed e h =
       let found = sym computed ∙ h in

@@ -17,11 +17,12 @@ use Rattle.std.proofs.lemmas.Map.Entries.{none_below_head}
 use Rattle.std.proofs.lemmas.Map.Keys.{sorted_tail}
 use Rattle.command_reader.specs.declared.commands.Command.{Command}
 use Rattle.compiler.specs.Rows.{Row}
-use Rattle.compiler.specs.Priority.{priority_of}
+use Rattle.compiler.specs.Priority.{named_priority, AreNamedFor}
+use Rattle.compiler.proofs.TableLemmas.{priority_by_named}
 use Rattle.registry.specs.Endpoint.{EndpointParts}
 use Rattle.registry.specs.Gateway.{is_candidate, has_greater, gateway_by, gateway_of}
 use Rattle.registry.specs.Roll.{Numbered, at_number}
-use Rattle.registry.specs.Chosen.{Named, named_priority, IsBest}
+use Rattle.registry.specs.Chosen.{Named, IsBest}
 use Rattle.registry.proofs.RegistryLemmas.{is_some-find}
 use Rattle.registry.proofs.RollLemmas.{distinct_numbers, later, first, each_entry}
 
@@ -196,12 +197,13 @@ module _ (entries : Numbered) (sorted : IsStrictlySortedBy nat_cmp (keys_of entr
           (beats m f less (h.greatest m f there passes)))
 
 -- ---- by the priorities of a row
--- equal priorities choose the same gateway
+-- the gateways that are named for the row choose the gateway of the row
 pub by_row : (commands : List Command) (row : Option (Option Row)) (endpoints : List EndpointParts)
-    (zone prefix : List ℕ) (priority : List ℕ → ℕ) (chosen : Option EndpointParts)
-    → chosen ≡ gateway_by priority endpoints zone prefix
-    → IfSome row (λ used. (gateway : List ℕ) → priority gateway ≡ priority_of commands used gateway)
+    (zone prefix : List ℕ) (named : Named) (chosen : Option EndpointParts)
+    → chosen ≡ gateway_by (named_priority named) endpoints zone prefix
+    → IfSome row (λ used. AreNamedFor commands used named)
     → IfSome row (λ used. chosen ≡ gateway_of commands endpoints zone prefix used)
-by_row commands None endpoints zone prefix priority chosen h same = tt
-by_row commands (Some used) endpoints zone prefix priority chosen h same =
-    h ∙ (λ i. gateway_by (λ gateway. same gateway i) endpoints zone prefix)
+by_row commands None endpoints zone prefix named chosen h named_for = tt
+by_row commands (Some used) endpoints zone prefix named chosen h named_for =
+    h ∙ (λ i. gateway_by
+    (λ gateway. priority_by_named commands used named named_for gateway i) endpoints zone prefix)

@@ -171,7 +171,8 @@ pub next_serves : (places : List Place) (entries : Numbered) (zone prefix : List
     → MatchOption found
     ((number : ℕ) → from ≤ number → is_among places (zone, prefix, number) ≡ false)
     (IsNext places zone prefix from)
-    → MatchOption found (NoneServes entries zone prefix from) (IsNextServing entries zone prefix from)
+    → MatchOption found (NoneServes entries zone prefix from)
+    (IsNextServing entries zone prefix from)
 next_serves places entries zone prefix from served None h =
     λ number low. sym (served (zone, prefix, number)) ∙ h number low
 next_serves places entries zone prefix from served (Some n) h = record {

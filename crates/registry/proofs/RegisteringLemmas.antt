@@ -6,13 +6,13 @@ use Rattle.std.proofs.lemmas.Bool.{both_ways}
 use Rattle.std.proofs.lemmas.Bool.Decides.{nat_tests}
 use Rattle.command_reader.specs.declared.commands.Command.{Command}
 use Rattle.command_reader.specs.Zones.{is_local}
-use Rattle.compiler.specs.Zones.{zone_meant}
+use Rattle.compiler.specs.Zones.{zone_meant, local_zone}
 use Rattle.registry.specs.declared.faults.Duplicate.TheVariants.{Id, E164}
 use Rattle.registry.specs.declared.faults.RegistryFault.{RegistryFault}
 use Rattle.registry.specs.declared.faults.RegistryFault.TheVariants.{UnknownZone, DuplicateAlias, NotRegistered}
 use Rattle.registry.specs.Endpoint.{EndpointParts}
 use Rattle.registry.specs.Registration.{RegistryParts, registration_fault, registered_in, id_is_taken, alias_is_taken, without_endpoint, has_id, registered_unless, endpoint_of, unregistered_in, is_full_for, is_registered, with_endpoint}
-use Rattle.registry.specs.Registering.{local_zone, fault_among, registered_among, placed_in}
+use Rattle.registry.specs.Registering.{fault_among, registered_among, placed_in}
 use Rattle.registry.proofs.RegistryLemmas.{found-some, found-none, put_at, put_later}
 
 pub fault_of_local : (commands : List Command) (endpoints : List EndpointParts) (e : EndpointParts)
@@ -20,7 +20,8 @@ pub fault_of_local : (commands : List Command) (endpoints : List EndpointParts) 
     ≡ registration_fault commands endpoints e
 fault_of_local commands endpoints e = by (is_local commands (zone_meant commands e.zone))
   where
-    by : (b : Bool) → fault_among endpoints e (if b then Some (zone_meant commands e.zone) else None)
+    by : (b : Bool)
+        → fault_among endpoints e (if b then Some (zone_meant commands e.zone) else None)
         ≡ (if b then fault_among endpoints e (Some (zone_meant commands e.zone))
         else fault_among endpoints e None)
     by true = refl

@@ -33,7 +33,8 @@ pub found-some : {X : Type 0} (p : X → Bool) (xs : List X) (x : X) → find p 
     → list_any p xs ≡ true
 found-some p xs x h = sym (is_some-find p xs) ∙ ap is_some h
 
-pub found-none : {X : Type 0} (p : X → Bool) (xs : List X) → find p xs ≡ None → list_any p xs ≡ false
+pub found-none : {X : Type 0} (p : X → Bool) (xs : List X) → find p xs ≡ None
+    → list_any p xs ≡ false
 found-none p xs h = sym (is_some-find p xs) ∙ ap is_some h
 
 -- what one test finds passes no other test that finds nothing
@@ -50,7 +51,8 @@ missed p q (y ∷ xs) x h k = by (p y) (q y) refl h k (missed p q xs x)
     by false false f h k rest = rest h k
 
 -- what one test finds passes another test, so that one passes
-pub also_passes : {X : Type 0} (p q : X → Bool) (xs : List X) (x : X) → find p xs ≡ Some x → q x ≡ true
+pub also_passes : {X : Type 0} (p q : X → Bool) (xs : List X) (x : X) → find p xs ≡ Some x
+    → q x ≡ true
     → list_any q xs ≡ true
 also_passes p q xs x h k = by (find q xs) refl
   where

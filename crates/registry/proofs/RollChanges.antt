@@ -89,11 +89,13 @@ fits_new n e [] h = tt
 fits_new n e (f ∷ fs) h =
     inr ((sym (nat_cmp_is n f.0 Greater h.0.0), h.0.1), fits_new n e fs h.1)
 
-module _ (entries : Numbered) (numbers : Numbers) (next : ℕ) (roll : IsRoll entries numbers next) where
+module _ (entries : Numbered) (numbers : Numbers) (next : ℕ)
+    (roll : IsRoll entries numbers next) where
   -- the endpoint of a number, if it has an ID
   own_endpoint : (id : List ℕ) (n : ℕ) → found_with_id id (at_number entries n) ≡ true
       → (found : Option EndpointParts) → at_number entries n ≡ found
-      → (P : Type 0) → ((g : EndpointParts) → at_number entries n ≡ Some g → bytes_eq g.id id ≡ true → P)
+      → (P : Type 0)
+      → ((g : EndpointParts) → at_number entries n ≡ Some g → bytes_eq g.id id ≡ true → P)
       → P
   own_endpoint id n own None at P f =
       absurd (both_ways false refl (ap (found_with_id id) (sym at) ∙ own))
@@ -115,7 +117,8 @@ module _ (entries : Numbered) (numbers : Numbers) (next : ℕ) (roll : IsRoll en
           let both : g ≡ f = same_Some g f (sym at ∙ ap (at_number entries) one ∙ there) in
           nat_list_eq_equiv.symm e.id f.id ∙ ap (λ x. bytes_eq x.id e.id) (sym both) ∙ same_id)
           (λ has.
-          let one = h.only m (ap (found_with_id e.id) there ∙ nat_list_eq_equiv.symm f.id e.id ∙ has) in
+          let one =
+          h.only m (ap (found_with_id e.id) there ∙ nat_list_eq_equiv.symm f.id e.id ∙ has) in
           ap (is_at (nat_cmp n)) one ∙ number_itself n))))
       by (inr fresh) =
           fits_new n e entries
@@ -125,7 +128,8 @@ module _ (entries : Numbered) (numbers : Numbers) (next : ℕ) (roll : IsRoll en
           let low = roll.below m f there in (
             omega (arith, low, fresh),
             false_from_ne_true (bytes_eq e.id f.id) (λ has.
-                let one = h.only m (ap (found_with_id e.id) there ∙ nat_list_eq_equiv.symm f.id e.id ∙ has) in
+                let one = h.only m
+                (ap (found_with_id e.id) there ∙ nat_list_eq_equiv.symm f.id e.id ∙ has) in
                 let never : ⊥ = omega (arith, low, fresh, one) in never),
           )))
 
@@ -152,7 +156,8 @@ module _ (entries : Numbered) (numbers : Numbers) (next : ℕ) (roll : IsRoll en
       (h : IsNumberFor (record { entries = entries; next = next }) e.id n)
       (new : Numbered) (all : Numbers) (after : ℕ)
       (set : IsSetAt entries new n (Some e))
-      (led : (id : List ℕ) → number_of all id ≡ cond (bytes_eq e.id id) (Some n) (number_of numbers id))
+      (led : (id : List ℕ)
+      → number_of all id ≡ cond (bytes_eq e.id id) (Some n) (number_of numbers id))
     where
       numbered_after : (id : List ℕ) (m : ℕ)
           → is_number m (number_of all id) ≡ found_with_id id (at_number new m)
@@ -229,7 +234,8 @@ lookup_put q k v (e ∷ es) = by (bytes_eq k e.0) refl (lookup_put q k v es)
         ap (bytes_eq q) (sym (same_text k e.0 (sym p))) ∙ nat_list_eq_equiv.symm q k in
         ap (λ b. cond b (Some v) (kept_endpoint_of es q)) here
         ∙ twice (bytes_eq k q) (kept_endpoint_of es q)
-        ∙ ap (λ b. cond (bytes_eq k q) (Some v) (cond b (Some e.1) (kept_endpoint_of es q))) (sym here)
+        ∙ ap (λ b. cond (bytes_eq k q) (Some v) (cond b (Some e.1) (kept_endpoint_of es q)))
+        (sym here)
     by false p rest =
         ap (cond (bytes_eq q e.0) (Some e.1)) rest ∙ past (bytes_eq q e.0) refl p
 
@@ -243,7 +249,8 @@ put_by_id entries new numbers all next after e n before h put roll =
     record {
       entries = placed;
       unique = distinct_ids new all after roll;
-      updates = λ id. ap (λ es. kept_endpoint_of es id) placed ∙ lookup_put id e.id e (by_id entries);
+      updates =
+          λ id. ap (λ es. kept_endpoint_of es id) placed ∙ lookup_put id e.id e (by_id entries);
     }
 
 -- ---- an unregistration
@@ -378,19 +385,22 @@ module _ (entries new : Numbered) (numbers reserved : Numbers) (next : ℕ)
         ∙ ap (λ x. cond (bytes_eq x other) (Some n) (number_of reserved other)) own
         ∙ ap (cond (bytes_eq e.id other) (Some n)) (reordered other)) sorted grown within
 
-    pub put_among : new ≡ tree.insert_entry nat_cmp entries n e → IsPut (by_id entries) (by_id new) e
+    pub put_among : new ≡ tree.insert_entry nat_cmp entries n e
+        → IsPut (by_id entries) (by_id new) e
     put_among put =
         put_by_id entries new numbers all next (next + (n + 1)) e n roll h put
         (roll_put (next + (n + 1)) (omega arith) (omega arith))
 
 -- a number that is not the next one is less
-pub less_than_next : (entries : Numbered) (numbers : Numbers) (next : ℕ) → IsRoll entries numbers next
+pub less_than_next : (entries : Numbered) (numbers : Numbers) (next : ℕ)
+    → IsRoll entries numbers next
     → (id : List ℕ) (n : ℕ) → IsNumberFor (record { entries = entries; next = next }) id n
     → (n ≡ next → ⊥) → n < next
 less_than_next entries numbers next roll id n h apart = by h.which
   where
     by : (found_with_id id (at_number entries n) ≡ true) ⊎ (n ≡ next) → n < next
-    by (inl own) = own_endpoint entries numbers next roll id n own (at_number entries n) refl (n < next)
+    by (inl own) =
+        own_endpoint entries numbers next roll id n own (at_number entries n) refl (n < next)
         (λ g at has. roll.below n g at)
     by (inr fresh) = absurd (apart fresh)
 

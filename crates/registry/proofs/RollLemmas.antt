@@ -116,7 +116,8 @@ not_missed (e ∷ es) n id f there own none =
         (nat_list_eq_equiv.symm id e.1.id ∙ ap (has_id id) (same_Some e.1 f found) ∙ own)
     by false false q found missed rest = rest found own missed
 
-module _ (entries : Numbered) (numbers : Numbers) (next : ℕ) (roll : IsRoll entries numbers next) where
+module _ (entries : Numbered) (numbers : Numbers) (next : ℕ)
+    (roll : IsRoll entries numbers next) where
   -- the endpoint with an ID stands under the number of that ID
   pub kept_under : (id : List ℕ) (number : ℕ) → number_of numbers id ≡ Some number
       → kept_endpoint_of (by_id entries) id ≡ at_number entries number
@@ -229,7 +230,8 @@ distinct_from (e ∷ es) d one = (
 pub distinct_ids : (entries : Numbered) (numbers : Numbers) (next : ℕ) → IsRoll entries numbers next
     → IsDistinct bytes_eq (keys_of (by_id entries))
 distinct_ids entries numbers next roll =
-    distinct_from entries (distinct_numbers entries roll.sorted) (one_number entries numbers next roll)
+    distinct_from entries (distinct_numbers entries roll.sorted)
+    (one_number entries numbers next roll)
 
 -- what is known of the number of an ID
 pub known_or_not : (entries : Numbered) (numbers : Numbers) (next : ℕ) → IsRoll entries numbers next

@@ -63,14 +63,16 @@ module _ (zone prefix : List ℕ) (a b : ℕ) (k : Place)
   by_prefix z Less h =
       absurd (both_ways false refl
       (sym high
-      ∙ ap (λ o. is_gt (ordering_then (ordering_then o (slice_cmp nat_cmp k.1 prefix)) (nat_cmp k.2 b)))
+      ∙ ap (λ o. is_gt
+      (ordering_then (ordering_then o (slice_cmp nat_cmp k.1 prefix)) (nat_cmp k.2 b)))
       (nat_list_cmp_total.antisymm k.0 zone ∙ ap ordering_reverse z)
       ∙ ap (λ o. is_gt (ordering_then o (nat_cmp k.2 b)))
       (nat_list_cmp_total.antisymm k.1 prefix ∙ ap ordering_reverse h)))
   by_prefix z Greater h =
       absurd (both_ways false refl
       (sym low
-      ∙ ap (λ o. is_gt (ordering_then (ordering_then o (slice_cmp nat_cmp prefix k.1)) (nat_cmp a k.2))) z
+      ∙ ap (λ o. is_gt
+      (ordering_then (ordering_then o (slice_cmp nat_cmp prefix k.1)) (nat_cmp a k.2))) z
       ∙ ap (λ o. is_gt (ordering_then o (nat_cmp a k.2))) h))
 
   by_zone : (o : Ordering) → slice_cmp nat_cmp zone k.0 ≡ o
@@ -79,12 +81,14 @@ module _ (zone prefix : List ℕ) (a b : ℕ) (k : Place)
   by_zone Less h =
       absurd (both_ways false refl
       (sym high
-      ∙ ap (λ o. is_gt (ordering_then (ordering_then o (slice_cmp nat_cmp k.1 prefix)) (nat_cmp k.2 b)))
+      ∙ ap (λ o. is_gt
+      (ordering_then (ordering_then o (slice_cmp nat_cmp k.1 prefix)) (nat_cmp k.2 b)))
       (nat_list_cmp_total.antisymm k.0 zone ∙ ap ordering_reverse h)))
   by_zone Greater h =
       absurd (both_ways false refl
       (sym low
-      ∙ ap (λ o. is_gt (ordering_then (ordering_then o (slice_cmp nat_cmp prefix k.1)) (nat_cmp a k.2))) h))
+      ∙ ap (λ o. is_gt
+      (ordering_then (ordering_then o (slice_cmp nat_cmp prefix k.1)) (nat_cmp a k.2))) h))
 
   pub between : (bytes_eq k.0 zone ≡ true) × (bytes_eq k.1 prefix ≡ true)
   between = by_zone (slice_cmp nat_cmp zone k.0) refl
@@ -215,7 +219,8 @@ module _ (old mid new : List Place) (number : ℕ) (zone : List ℕ) (kept : Opt
     left_more absent puts place =
         puts place
         ∙ ap (λ b. if same_place (zone, next, number) place then false else b) (before place)
-        ∙ ap (λ s. if s then false else left_of i place) (same_place_tests (zone, next, number) place)
+        ∙ ap (λ s. if s then false else left_of i place)
+        (same_place_tests (zone, next, number) place)
         ∙ by (bytes_eq zone place.0) (bytes_eq next place.1) (number == place.2)
         (list_any (bytes_eq place.1) (take i prefixes)) (found_serving kept place.0 place.1)
         (is_among old place) (λ z p. here place z p ∙ absent)

@@ -44,7 +44,8 @@ module _ (old new : Numbered) (e : EndpointParts) (put : IsPut (by_id old) (by_i
       put.entries put.unique put.updates
     where
       there : kept_endpoint_of (by_id new) e.id ≡ Some e
-      there = put.updates e.id ∙ ap (λ b. cond b (Some e) (kept_endpoint_of (by_id old) e.id)) (nat_list_eq_equiv.refl e.id)
+      there = put.updates e.id ∙ ap (λ b. cond b (Some e) (kept_endpoint_of (by_id old) e.id))
+          (nat_list_eq_equiv.refl e.id)
 
 -- after an unregistration
 module _ (old new : Numbered) (id : List ℕ) (out : IsTakenOut (by_id old) (by_id new) id) where

@@ -72,5 +72,6 @@ pub no_shared_alias : (entries : Entries) (owners : Owners) → IsIndexed entrie
 no_shared_alias entries owners h alias e f i j at_i at_j has_e has_f =
     one_place entries h.keyed h.distinct e f i j at_i at_j
     (same_Some e.id f.id
-    (sym (leads entries owners h alias e.id e (listed_entry entries h.keyed h.distinct e i at_i) has_e)
+    (sym (leads entries owners h alias e.id e
+    (listed_entry entries h.keyed h.distinct e i at_i) has_e)
     ∙ leads entries owners h alias f.id f (listed_entry entries h.keyed h.distinct f j at_j) has_f))

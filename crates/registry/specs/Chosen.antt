@@ -1,9 +1,8 @@
 -- The gateway that is chosen, by the priorities that are named: looked for among those that are
 -- named, and among the others, by number.
-use Rattle.std.specs.Prelude.{◌≡◌, ◌<◌, ◌≤◌, ◌⊎◌, ℕ, ◌==◌, Bool, true, false, not, ◌&&◌, ◌||◌, nat_lt, nat_le, List, Option, Some, None, unwrap_or, bytes_eq, if◌then◌else◌}
+use Rattle.std.specs.Prelude.{◌≡◌, ◌<◌, ◌≤◌, ◌⊎◌, ℕ, ◌==◌, Bool, true, false, not, ◌&&◌, ◌||◌, nat_lt, nat_le, List, Option, Some, None, bytes_eq, if◌then◌else◌}
 use Rattle.std.specs.List.{list_any}
-use Rattle.std.specs.Map.{lookup}
-use Rattle.compiler.specs.declared.plans.TheConstants.{USUAL_GATEWAY_PRIORITY}
+use Rattle.compiler.specs.Priority.{named_priority}
 use Rattle.registry.specs.Endpoint.{EndpointParts}
 use Rattle.registry.specs.Gateway.{is_candidate}
 use Rattle.registry.specs.Roll.{Numbered, at_number}
@@ -11,10 +10,6 @@ use Rattle.registry.specs.Roll.{Numbered, at_number}
 -- the gateways that are named, each with its priority
 abbrev pub Named : Type 0
 Named = List (List ℕ × ℕ)
-
--- the priority that is named, or else the usual one
-abbrev pub named_priority : Named → List ℕ → ℕ
-named_priority named gateway = unwrap_or (lookup (bytes_eq gateway) named) USUAL_GATEWAY_PRIORITY
 
 -- a candidate that is none of these
 abbrev pub is_other_than : Named → List ℕ → List ℕ → List (List ℕ) → EndpointParts → Bool

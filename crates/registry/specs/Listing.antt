@@ -15,7 +15,8 @@ NoneServes entries zone prefix from =
     (number : ℕ) → from ≤ number → found_serving (at_number entries number) zone prefix ≡ false
 
 -- the least number from here on of a gateway that serves the zone with the prefix
-pub record IsNextServing (entries : Numbered) (zone prefix : List ℕ) (from number : ℕ) : Type 0 where
+pub record IsNextServing (entries : Numbered) (zone prefix : List ℕ)
+    (from number : ℕ) : Type 0 where
   pub there : found_serving (at_number entries number) zone prefix ≡ true
   pub from_here : from ≤ number
   pub least : (other : ℕ) → from ≤ other → other < number

@@ -1,19 +1,11 @@
--- A registration whose local zone was looked up: the name of the zone that it means, or none if that
--- is not a local zone.
+-- A registration whose local zone was looked up: the name of the zone that it means, or none if
+-- that is not a local zone.
 use Rattle.std.specs.Prelude.{ℕ, List, Option, Some, None, Result, Ok, Err, if◌then◌else◌}
-use Rattle.command_reader.specs.declared.commands.Command.{Command}
-use Rattle.command_reader.specs.Zones.{is_local}
-use Rattle.compiler.specs.Zones.{zone_meant}
 use Rattle.registry.specs.declared.faults.Duplicate.TheVariants.{Id, E164}
 use Rattle.registry.specs.declared.faults.RegistryFault.{RegistryFault}
 use Rattle.registry.specs.declared.faults.RegistryFault.TheVariants.{UnknownZone, DuplicateAlias, TooMany}
 use Rattle.registry.specs.Endpoint.{EndpointParts}
 use Rattle.registry.specs.Registration.{RegistryParts, id_is_taken, alias_is_taken, is_full_for, with_endpoint}
-
--- the local zone that a registration means
-abbrev pub local_zone : List Command → List ℕ → Option (List ℕ)
-local_zone commands name =
-    if is_local commands (zone_meant commands name) then Some (zone_meant commands name) else None
 
 -- why an endpoint may not register, room aside
 abbrev pub fault_among : List EndpointParts → EndpointParts → Option (List ℕ)

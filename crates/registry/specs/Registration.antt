@@ -39,8 +39,8 @@ id_is_taken endpoints e =
 abbrev pub alias_is_taken : List EndpointParts → EndpointParts → Bool
 alias_is_taken endpoints e = list_any (λ f. not (has_id e.id f) && share_alias f e) endpoints
 
--- why an endpoint may not register, room aside: the first of three refusals, in the words of whoever
--- asks
+-- why an endpoint may not register, room aside: the first of three refusals, in the words of
+-- whoever asks
 abbrev pub registration_refusal : {A : Type 0} → A → (Duplicate → A) → List Command
     → List EndpointParts → EndpointParts → Option A
 registration_refusal unknown_zone duplicate commands endpoints e =
@@ -97,7 +97,8 @@ registered_in commands r e =
 -- the registry after an unregistration
 abbrev pub unregistered_in : RegistryParts → List ℕ → Result RegistryParts RegistryFault
 unregistered_in r id =
-    if is_registered r.endpoints id then Ok (record r { endpoints = without_endpoint r.endpoints id })
+    if is_registered r.endpoints id
+    then Ok (record r { endpoints = without_endpoint r.endpoints id })
     else Err NotRegistered
 
 -- ---- what every registry keeps

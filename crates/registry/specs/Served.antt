@@ -26,7 +26,8 @@ is_among places place = list_any (same_place place) places
 -- new has `there` for that place, and for each other place what old has
 abbrev pub Puts : List Place → List Place → Place → Bool → Type 0
 Puts old new place there =
-    (other : Place) → is_among new other ≡ (if same_place place other then there else is_among old other)
+    (other : Place)
+    → is_among new other ≡ (if same_place place other then there else is_among old other)
 
 -- whether an endpoint was found, and it serves
 abbrev pub found_serving : Option EndpointParts → List ℕ → List ℕ → Bool
@@ -65,7 +66,8 @@ TakesOut old new number zone prefixes kept =
 -- new has the places of the endpoint too
 abbrev pub Enters : List Place → List Place → ℕ → EndpointParts → Type 0
 Enters old new number e =
-    (place : Place) → is_among new place ≡ (if is_of number (Some e) place then true else is_among old place)
+    (place : Place)
+    → is_among new place ≡ (if is_of number (Some e) place then true else is_among old place)
 
 -- new may have some places of the endpoint too
 abbrev pub MayEnter : List Place → List Place → ℕ → EndpointParts → Type 0
@@ -74,7 +76,8 @@ MayEnter old new number e =
     ⊎ ((is_among new place ≡ true) × (is_of number (Some e) place ≡ true))
 
 -- new lacks the places of one endpoint that the other does not have
-abbrev pub Leaves : List Place → List Place → ℕ → Option EndpointParts → Option EndpointParts → Type 0
+abbrev pub Leaves : List Place → List Place → ℕ → Option EndpointParts → Option EndpointParts
+    → Type 0
 Leaves old new number gone kept =
     (place : Place) → is_among new place
     ≡ (if is_of number gone place && not (is_of number kept place) then false

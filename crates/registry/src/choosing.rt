@@ -6,9 +6,10 @@ ghost use Rattle.std.specs.Ordering.{nat_cmp};
 ghost use Rattle.std.specs.List.{IsDistinct};
 ghost use Rattle.std.specs.List.Sorted.{IsStrictlySortedBy};
 ghost use Rattle.std.specs.Map.{keys_of, lookup};
+ghost use Rattle.compiler.specs.Priority.{named_priority};
 ghost use Rattle.registry.specs.Roll.{endpoints_of};
 ghost use Rattle.registry.specs.Gateway.{gateway_by, is_candidate};
-ghost use Rattle.registry.specs.Chosen.{IsBest, comes_first, first_of, is_other_than, named_priority};
+ghost use Rattle.registry.specs.Chosen.{IsBest, comes_first, first_of, is_other_than};
 
 use crate::endpoints::Endpoint;
 use crate::listing::Listing;
@@ -27,7 +28,8 @@ pub fn chosen<'a>(
     named: &IndexMap<Name, u8>,
 ) -> Option<&'a Endpoint>
     ensures { option_copied result
-        ≡ gateway_by (named_priority named.now.entries) (endpoints_of listing.now) zone.now prefix.now }
+        ≡ gateway_by (named_priority named.now.entries) (endpoints_of listing.now)
+        zone.now prefix.now }
 {
     let usual = first_unnamed(listing, zone, prefix, named);
     let (_, number) = best_named(listing, zone, prefix, named, usual)?;

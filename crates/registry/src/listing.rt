@@ -107,11 +107,12 @@ impl Listing {
         self.roll.endpoints()
     }
 
-    /// Puts the endpoint in the place of the one with its ID, which it gives, or else at the end. If
-    /// memory runs out nothing has changed.
+    /// Puts the endpoint in the place of the one with its ID, which it gives, or else at the end.
+    /// If memory runs out nothing has changed.
     pub fn insert(&mut self, endpoint: Endpoint) -> Result<Option<Endpoint>, AllocError>
         requires room { self.old.next + 1 < 2 ^ 32 }
-        ensures ok { OnOk result (IsPut (by_id self.old.entries) (by_id self.new.entries) endpoint) }
+        ensures ok { OnOk result
+            (IsPut (by_id self.old.entries) (by_id self.new.entries) endpoint) }
         ensures replaced { IfOk result (λ replaced.
             replaced ≡ kept_endpoint_of (by_id self.old.entries) endpoint.id) }
         ensures next { self.new.next ≤ self.old.next + 1 }

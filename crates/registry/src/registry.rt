@@ -18,8 +18,8 @@ use indexmap::IndexMap;
 use std::alloc::{AllocError, Global};
 use std::marker::Model;
 
-/// The registered endpoints, in order of registration, and how many there may be. A contract sees it
-/// as `RegistryParts`.
+/// The registered endpoints, in order of registration, and how many there may be. A contract sees
+/// it as `RegistryParts`.
 #[derive(Drop)]
 pub struct Registry {
     shelf: Shelf,
@@ -59,7 +59,8 @@ impl Registry {
         self.shelf.len()
     }
 
-    /// The endpoint at this place in the order of registration, from 0. Its time grows with the place.
+    /// The endpoint at this place in the order of registration, from 0. Its time grows with the
+    /// place.
     pub fn at(&self, place: usize) -> Option<&Endpoint>
         ensures { option_copied result ≡ slice_get self.now.endpoints place }
     {
@@ -88,9 +89,9 @@ impl Registry {
     }
 
     /// The gateway that serves the zone with the prefix, of the greatest priority for the row that
-    /// was used, if one was: of equal priority the one that registered first, and none of priority 0.
-    /// The row is to be one of these tables'; nothing is promised for another. The time grows with
-    /// the number of the gateways that the lines of the row name, and not with that of the
+    /// was used, if one was: of equal priority the one that registered first, and none of priority
+    /// 0. The row is to be one of these tables'; nothing is promised for another. The time grows
+    /// with the number of the gateways that the lines of the row name, and not with that of the
     /// endpoints.
     pub fn gateway(
         &self,
@@ -111,9 +112,9 @@ impl Registry {
         }
     }
 
-    /// Why the endpoint may not register, room aside: the first of `UnknownZone`, if the zone that it
-    /// means is no local one, `DuplicateAlias(Id)`, if its ID is registered from another address,
-    /// and `DuplicateAlias(E164)`, if an alias is another endpoint's, in whatever zone.
+    /// Why the endpoint may not register, room aside: the first of `UnknownZone`, if the zone that
+    /// it means is no local one, `DuplicateAlias(Id)`, if its ID is registered from another
+    /// address, and `DuplicateAlias(E164)`, if an alias is another endpoint's, in whatever zone.
     pub fn fault_of(&self, endpoint: &Endpoint, tables: &Tables) -> Option<RegistryFault>
         ensures { result
             ≡ registration_fault tables.now.commands self.now.endpoints endpoint.now }
@@ -121,10 +122,10 @@ impl Registry {
         self.fault_among(endpoint, tables.local_zone(&endpoint.zone()))
     }
 
-    /// Registers the endpoint in the zone that it means: in the place of the one with its ID, or else
-    /// after the others. It is refused as `fault_of` says, and then as `TooMany`, if it is a new one
-    /// and there are as many as there may be. If memory runs out it is `NoMemory`; so it is if each
-    /// of the 4,294,967,295 numbers is in use. After an error nothing has changed.
+    /// Registers the endpoint in the zone that it means: in the place of the one with its ID, or
+    /// else after the others. It is refused as `fault_of` says, and then as `TooMany`, if it is a
+    /// new one and there are as many as there may be. If memory runs out it is `NoMemory`; so it is
+    /// if each of the 4,294,967,295 numbers is in use. After an error nothing has changed.
     pub fn register(&mut self, endpoint: Endpoint, tables: &Tables) -> Result<(), RegistryFault>
         ensures { ChangesUnlessMemory NoMemory self.old self.new
             (registered_in tables.now.commands self.old endpoint) result }
@@ -133,8 +134,8 @@ impl Registry {
         self.register_in(endpoint, zone)
     }
 
-    /// Takes out the endpoint with this ID and gives it. Without one it is `NotRegistered`. Takes no
-    /// memory.
+    /// Takes out the endpoint with this ID and gives it. Without one it is `NotRegistered`. Takes
+    /// no memory.
     pub fn unregister(&mut self, id: &Name) -> Result<Endpoint, RegistryFault>
         ensures changes { Changes self.old self.new (unregistered_in self.old id.now) result }
         ensures given { IfOk result (λ e. endpoint_of self.old.endpoints id.now ≡ Some e) }

@@ -16,8 +16,8 @@ use std::collections::btree_map::Values;
 use std::collections::{BTreeMap, HashMap};
 use std::marker::Model;
 
-/// Endpoints in order of registration, each under a number. An endpoint keeps its number for as long
-/// as its ID is there. A contract sees the endpoints by number, and the next number.
+/// Endpoints in order of registration, each under a number. An endpoint keeps its number for as
+/// long as its ID is there. A contract sees the endpoints by number, and the next number.
 #[derive(Drop)]
 pub struct Roll {
     endpoints: BTreeMap<u32, Endpoint>,
@@ -110,12 +110,13 @@ impl Roll {
         self.endpoints.values()
     }
 
-    /// Puts the endpoint under the number for its ID, in the place of the one that has that ID, which
-    /// it gives. If memory runs out it gives the endpoint itself, and nothing has changed.
+    /// Puts the endpoint under the number for its ID, in the place of the one that has that ID,
+    /// which it gives. If memory runs out it gives the endpoint itself, and nothing has changed.
     pub fn insert(&mut self, number: u32, endpoint: Endpoint) -> Result<Option<Endpoint>, Endpoint>
         requires number { IsNumberFor self.old endpoint.id number }
         requires room { number + 1 < 2 ^ 32 }
-        ensures ok { OnOk result (IsPut (by_id self.old.entries) (by_id self.new.entries) endpoint) }
+        ensures ok { OnOk result
+            (IsPut (by_id self.old.entries) (by_id self.new.entries) endpoint) }
         ensures placed { OnOk result
             (IsSetAt self.old.entries self.new.entries number (Some endpoint)) }
         ensures replaced { IfOk result (λ replaced. replaced ≡ at_number self.old.entries number) }

@@ -39,7 +39,8 @@ impl Served {
     /// The least number, from this one on, of a gateway that serves the zone with the prefix.
     pub fn next_from(&self, zone: &Name, prefix: &TechPrefix, from: u32) -> Option<u32>
         ensures { MatchOption result
-            ((number : _) → from ≤ number → is_among self.now (zone.now, prefix.now, number) ≡ false)
+            ((number : _) → from ≤ number
+            → is_among self.now (zone.now, prefix.now, number) ≡ false)
             (IsNext self.now zone.now prefix.now from) }
     {
         let (found_zone, found_prefix, number) = self

@@ -4,10 +4,10 @@ ghost use Rattle.std.specs.Prelude.{◌≡◌, ◌<◌, ◌≤◌, ◌+◌, ◌^
 ghost use Rattle.std.specs.Option.{option_copied};
 ghost use Rattle.std.specs.List.{list_any};
 ghost use Rattle.std.specs.HashMap.{spare};
+ghost use Rattle.compiler.specs.Priority.{named_priority};
 ghost use Rattle.registry.specs.Registration.{HaveDifferentIds, ShareNoAlias, endpoint_of, by_alias, is_registered, id_is_taken, alias_is_taken, with_endpoint, without_endpoint};
 ghost use Rattle.registry.specs.RegistryIndex.{Forgets, LeadTo, aliases_of, is_another, owner_of};
 ghost use Rattle.registry.specs.Gateway.{gateway_by};
-ghost use Rattle.registry.specs.Chosen.{named_priority};
 ghost use Rattle.registry.specs.Roll.{endpoints_of};
 
 use crate::choosing;

@@ -1,4 +1,4 @@
-use Rattle.gkd.proofs.Rows.{first_run, open_call, full_record, stranger, faults, by_pattern_cost_and_hopoff, greatest_priority, priority_zero, unknown_prefix, alias_or_default, no_default, other_aliases, long_digits}
+use Rattle.gkd.proofs.Rows.{first_run, open_call, full_record, stranger, faults, by_pattern_cost_and_hopoff, prefix_alone, greatest_priority, priority_zero, unknown_prefix, alias_or_default, no_default, other_aliases, long_digits, full_total, session_before_total, between_zones, to_remote_zones, raised_and_lowered, counted_in_target_zone, by_owner_alone}
 use Rattle.std.proofs.Common.{refl}
 use Rattle.gkd.proofs.laws.worked_rows.Goals as goal
 
@@ -11,6 +11,7 @@ returns c = record {
   stranger = stranger;
   faults = faults;
   by_pattern = by_pattern_cost_and_hopoff;
+  prefix_alone = prefix_alone;
   greatest = greatest_priority;
   priority_zero = priority_zero;
   unknown_prefix = unknown_prefix;
@@ -18,4 +19,11 @@ returns c = record {
   no_default = no_default;
   other_aliases = other_aliases;
   long_digits = long_digits;
+  full_total = full_total;
+  session_before_total = session_before_total;
+  between_zones = between_zones;
+  to_remote_zones = to_remote_zones;
+  raised_and_lowered = raised_and_lowered;
+  counted_in_target_zone = counted_in_target_zone;
+  by_owner_alone = by_owner_alone;
 }

@@ -1,5 +1,6 @@
 use Rattle.std.proofs.Common.{◌&&◌, nat_lt, sym, ap, subst, ◌∙◌}
-use Rattle.registry.specs.Chosen.{IsBestAt, is_other_than, first_of, named_priority}
+use Rattle.compiler.specs.Priority.{named_priority}
+use Rattle.registry.specs.Chosen.{IsBestAt, is_other_than, first_of}
 use Rattle.registry.specs.Served.{found_serving}
 use Rattle.registry.proofs.ChosenLemmas.{drop_unknown, drop_failing, looked_at}
 use Rattle.registry.proofs.choosing.with_named.Goals as goal

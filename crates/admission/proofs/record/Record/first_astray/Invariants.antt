@@ -4,4 +4,4 @@ use Rattle.admission.specs.History.{Stands}
 use Rattle.admission.proofs.record.Record.first_astray.Given as goal
 
 abbrev pub invariant-loop-place : goal.invariant-loop-place
-invariant-loop-place l = All (Stands l.self) (take l.place l.receipts)
+invariant-loop-place l = All (Stands l.self.entries) (take l.place l.receipts)

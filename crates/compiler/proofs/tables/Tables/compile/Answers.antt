@@ -33,6 +33,11 @@ technologies_in-requires c =
     few_zones c.as_slice-lines.result.now c.in_ok-zones.zones.entries c.in_ok-zones.ensures
     (subst IsAccepted (sym c.as_slice-lines.ensures.commands) c.as_slice-lines.ensures.accepted)
 
+pub limits_in-requires : goal.limits_in-requires
+limits_in-requires c =
+    few_zones c.as_slice-lines.result.now c.in_ok-zones.zones.entries c.in_ok-zones.ensures
+    (subst IsAccepted (sym c.as_slice-lines.ensures.commands) c.as_slice-lines.ensures.accepted)
+
 pub invariant_of-result : goal.invariant_of-result
 invariant_of-result c =
     let lines = c.as_slice-lines.result.now in
@@ -42,7 +47,8 @@ invariant_of-result c =
     c.in-Some.first_local
     c.in_ok-rows.rows.entries c.in_ok-prefixes.prefixes c.in_ok-priorities.priorities.entries
     c.in_ok-technologies.technologies.entries c.default_technology_in-default_technology.result
-    c.rejects_unknown-rejects_unknown.result)
+    c.rejects_unknown-rejects_unknown.result c.in_ok-limits.limits.items
+    c.remote_limit_in-remote_limit.result)
     c.as_slice-lines.ensures.commands
     (record {
       zones_are = c.in_ok-zones.ensures;
@@ -55,5 +61,7 @@ invariant_of-result c =
       technologies_are = c.in_ok-technologies.ensures;
       default_is = c.default_technology_in-default_technology.ensures;
       rejects_is = c.rejects_unknown-rejects_unknown.ensures;
+      limits_are = c.in_ok-limits.ensures;
+      remote_limit_is = c.remote_limit_in-remote_limit.ensures;
       declared = named_declared lines accepted;
     })

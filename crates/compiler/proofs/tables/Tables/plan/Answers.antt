@@ -12,7 +12,7 @@ plan_by_technology-requires-clause-found c =
     subst (λ (configuration : Configuration). technology_of configuration.commands c.args.digits.now
     ≡ Some c.in-Some.found.0)
     c.self.view_is
-    (index_longest _ _ _ _ _ _ _ _ _ c.self.invariant c.args.digits.now c.in-Some.found.0
+    (index_longest c.self.invariant c.args.digits.now c.in-Some.found.0
     c.in-Some.found.1
     (rw c.as_bytes.ensures.spells at c.in-Some.ensures))
 
@@ -22,7 +22,7 @@ plan_by_technology-requires-clause-hopoff c =
     ≡ best_number (zones_of configuration.commands)
     (hopoffs_of configuration.commands c.in-Some.found.0))
     c.self.view_is
-    (index_hopoff _ _ _ _ _ _ _ _ _ c.self.invariant c.args.digits.now c.in-Some.found.0
+    (index_hopoff c.self.invariant c.args.digits.now c.in-Some.found.0
     c.in-Some.found.1
     (rw c.as_bytes.ensures.spells at c.in-Some.ensures))
 
@@ -34,5 +34,5 @@ returns-in-None c =
     (subst (λ (configuration : Configuration). technology_of configuration.commands
     c.args.digits.now ≡ None)
     c.self.view_is
-    (index_longest_none _ _ _ _ _ _ _ _ _ c.self.invariant c.args.digits.now
+    (index_longest_none c.self.invariant c.args.digits.now
     (rw c.as_bytes.ensures.spells at c.in-None.ensures)))))

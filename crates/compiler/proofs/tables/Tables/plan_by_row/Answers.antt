@@ -14,7 +14,7 @@ returns-in_default c =
     ∙ ap (λ used. Some (by_row c.args.self.now.commands c.args.technology used))
     (sym (subst (λ (configuration : Configuration). row_for configuration.commands text ≡ None)
     c.self.view_is
-    (index_no_hit _ _ _ _ _ _ _ _ _ c.self.invariant text (sym c.best.ensures ∙ c.in_default.is))))
+    (index_no_hit c.self.invariant text (sym c.best.ensures ∙ c.in_default.is))))
 
 pub returns-in-Some-get_index : goal.returns-in-Some-get_index
 returns-in-Some-get_index c =
@@ -29,12 +29,12 @@ returns-in-Some-get_index c =
     (Some c.in-Some.hit.value))
     ≡ Some (by_row configuration.commands c.args.technology (row_for configuration.commands text)))
     c.self.view_is
-    (index_plan_by_hit _ _ _ _ _ _ _ _ _ c.self.invariant text c.in-Some.hit
+    (index_plan_by_hit c.self.invariant text c.in-Some.hit
     c.in-Some-get_index.field-0-0.now zone c.args.technology (sym c.best.ensures ∙ c.in-Some.is)
     (sym c.in-Some-get_index.ensures.entry) c.in-Some-get_index.ensures.value)
 
 pub returns-in-None : goal.returns-in-None
 returns-in-None c =
     let text = drop c.args.from c.args.digits.now in
-    absurd (index_row_at_hit _ _ _ _ _ _ _ _ _ c.self.invariant text c.in-Some.hit
+    absurd (index_row_at_hit c.self.invariant text c.in-Some.hit
     (sym c.best.ensures ∙ c.in-Some.is) (sym c.in-None.ensures.entry))

@@ -1,6 +1,7 @@
 use Rattle.std.proofs.Common.{◌≡◌, ap, sym, subst, ◌∙◌, None}
 use Rattle.command_reader.specs.Configuration.{Configuration}
-use Rattle.compiler.specs.Zones.{view_at, view_of_name, number_of_zone}
+use Rattle.command_reader.specs.Zones.{zones_of}
+use Rattle.compiler.specs.Zones.{view_at, view_of_name, number_in}
 use Rattle.compiler.proofs.TableLemmas.{no_view, number_found}
 use Rattle.compiler.proofs.tables.Tables.zone_of.Goals as goal
 
@@ -18,8 +19,8 @@ returns c =
     c.zone.ensures
     ∙ ap (view_at c.args.self.now.commands)
     (c.new.ensures
-    ∙ sym (subst (λ (configuration : Configuration). number_of_zone configuration.commands
-    c.args.name.now ≡ c.in_ok-place.place)
+    ∙ sym (subst (λ (configuration : Configuration). number_in
+    (zones_of configuration.commands) c.args.name.now ≡ c.in_ok-place.place)
     c.self.view_is
     (number_found c.self.inside.zones.entries c.self.inside.commands.commands c.args.name.now
     c.in_ok-place.place

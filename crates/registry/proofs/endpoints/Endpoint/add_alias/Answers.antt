@@ -13,7 +13,8 @@ invariant_of-self c = elim c.match-push.branch [
       let longer = ap length pushed ∙ length-append c.self.inside.aliases.items _ in
       let room = c.if-len-ge-MOST_ALIASES.false in
       let count = c.len.ensures in
-      let free = ap (λ e. has_alias e c.args.alias) c.self.view_is ∙ sym c.has_alias.ensures ∙ c.if-has_alias.false in
+      let free = ap (λ e. has_alias e c.args.alias) c.self.view_is ∙ sym c.has_alias.ensures
+      ∙ c.if-has_alias.false in
       record {
         aliases = omega (arith, longer, room, count);
         technologies = c.self.invariant.technologies;

@@ -1,7 +1,8 @@
 use Rattle.std.proofs.Common.{ap, subst, ◌∙◌}
 use Rattle.gk_terms.specs.Outcome.{ChangesUnlessMemory}
+use Rattle.compiler.specs.Zones.{local_zone}
 use Rattle.registry.specs.declared.faults.RegistryFault.TheVariants.{NoMemory}
-use Rattle.registry.specs.Registering.{local_zone, registered_among}
+use Rattle.registry.specs.Registering.{registered_among}
 use Rattle.registry.proofs.RegisteringLemmas.{registered_of_local}
 use Rattle.registry.proofs.registry.Registry.register.Goals as goal
 

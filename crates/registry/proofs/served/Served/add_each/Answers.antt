@@ -13,7 +13,8 @@ loop-prefix-preserved c =
 pub returns-in_err-add-clause-err : goal.returns-in_err-add-clause-err
 returns-in_err-add-clause-err c =
     let p = err_from_is_err_and c.from_residual.result c.from_residual.ensures.1 in
-    let before : MayAdd c.args.self.now c.loop-prefix.self c.args.number c.args.zone c.args.prefixes.now =
+    let before :
+    MayAdd c.args.self.now c.loop-prefix.self c.args.number c.args.zone c.args.prefixes.now =
     part_added c.args.self.now c.loop-prefix.self c.args.number c.args.zone c.args.prefixes.now
     c.loop-prefix.prefix-index c.loop-prefix.invariant in
     let now : MayAdd c.args.self.now c.add.new.self c.args.number c.args.zone c.args.prefixes.now =

@@ -16,13 +16,15 @@ loop-prefix-preserved c =
       | then-not-serves w ↦
           subst (λ new. TakesOut old new c.args.number zone (take (index + 1) prefixes) kept)
           (sym w.self-is)
-          (left_more old c.loop-prefix.self w.take_out.new.self c.args.number zone kept prefixes index
+          (left_more old c.loop-prefix.self w.take_out.new.self c.args.number zone kept prefixes
+          index
           c.prefix-item.result c.loop-prefix-test.true c.prefix-item.is c.loop-prefix.invariant
           (sym c.serves.ensures ∙ w.if-not-serves.true) w.take_out.ensures)
       | else-not-serves w ↦
           subst (λ new. TakesOut old new c.args.number zone (take (index + 1) prefixes) kept)
           (sym w.self-is)
-          (kept_more old c.loop-prefix.self c.loop-prefix.self c.args.number zone kept prefixes index
+          (kept_more old c.loop-prefix.self c.loop-prefix.self c.args.number zone kept prefixes
+          index
           c.prefix-item.result c.loop-prefix-test.true c.prefix-item.is c.loop-prefix.invariant
           (sym c.serves.ensures ∙ w.if-not-serves.false))
     ]

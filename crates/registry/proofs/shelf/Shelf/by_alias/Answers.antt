@@ -17,7 +17,8 @@ returns-in_err-get c =
     let nowhere : owner_of owners number ≡ None = sym c.get.ensures.value
     ∙ ap option_copied c.in_err-get.was in
     ap option_copied c.from_residual.ensures
-    ∙ sym (by_alias_nowhere (by_id c.self.inside.listing.entries) owners c.self.invariant zone number
+    ∙ sym (by_alias_nowhere
+    (by_id c.self.inside.listing.entries) owners c.self.invariant zone number
     nowhere)
     ∙ ap (λ endpoints. by_alias endpoints zone number)
     (seen c.self.inside.listing c.args.self.now c.self.view_is)

@@ -42,4 +42,5 @@ loop-endpoint-preserved c =
     (c.in-Some.ensures.steps ∙ ap (λ e. e ∷ c.next.new.self) (sym c.in_ok-copy.ensures))
     (subst HaveDifferentIds of_all (different_ids entries owners c.self.invariant))
     (subst ShareNoAlias of_all (no_shared_alias entries owners c.self.invariant))
-    (endpoints_of c.put_numbered.new.self) c.put_numbered.new.self.next c.in_ok-put_numbered.ensures.ok c.put_numbered.ensures.next
+    (endpoints_of c.put_numbered.new.self) c.put_numbered.new.self.next
+    c.in_ok-put_numbered.ensures.ok c.put_numbered.ensures.next

@@ -1,0 +1,96 @@
+//! Refusals by a count: of endpoints, of calls, or of the entries of the record.
+
+ghost use Rattle.std.specs.Prelude.{◌≡◌};
+ghost use Rattle.admission.specs.State as States;
+ghost use Rattle.admission.specs.Events.{plain};
+ghost use Rattle.admission.specs.Step as Spec;
+
+use crate::events::Event;
+use crate::machine::Machine;
+use crate::replies::{AdmitRefusal, RegisterRefusal, Reply};
+use crate::rulings::{Effect, Ruling};
+use registry::Endpoint;
+
+impl Effect {
+    /// The free places of the record that are needed: to open a call, one more than for other
+    /// entries, for the entry of its release, which then needs none.
+    pub fn places_needed(&self) -> usize
+        ensures { result ≡ Spec.places_needed self.now }
+    {
+        match self {
+            Effect::Open(_) => 2,
+            Effect::Nothing | Effect::Put { .. } | Effect::Remove { .. } | Effect::Resize { .. } =>
+                1,
+            Effect::Close { .. } => 0,
+        }
+    }
+}
+
+impl Machine {
+    #[tactic(auto, unfolding(crate::specs::Step::count_refusal))]
+    /// What replaces a verdict: endpoints-full if a new endpoint would be registered and there are
+    /// as many as the limit allows; calls-full if a call would be opened and as many are open as
+    /// the limit allows; and else record-full if the record lacks the free places: two for a
+    /// granted admission, none for a release, and one for another verdict.
+    pub fn count_refusal(&self, event: &Event, ruling: &Ruling) -> Option<Reply>
+        ensures { result ≡ Spec.count_refusal self.now (plain event.now) ruling.now }
+    {
+        match event {
+            Event::Register(endpoint) => {
+                if self.are_endpoints_full(endpoint, &ruling.verdict) {
+                    let reason = RegisterRefusal::EndpointsFull;
+                    let id = endpoint.id();
+                    return Some(Reply::RegisterRefused { id, reason });
+                }
+            }
+            Event::Admit { call, .. } => {
+                if self.are_calls_full(&ruling.verdict) {
+                    let reason = AdmitRefusal::CallsFull;
+                    return Some(Reply::AdmitRefused {
+                        call: *call,
+                        reason,
+                    });
+                }
+            }
+            Event::Unregister { .. } | Event::Change { .. } | Event::Release { .. } => {}
+        }
+        self.record_refusal(event, &ruling.effect)
+    }
+
+    /// Whether a new endpoint would be registered, and there are as many as the limit allows.
+    fn are_endpoints_full(&self, endpoint: &Endpoint, verdict: &Reply) -> bool
+        ensures { result ≡ Spec.are_endpoints_full self.now endpoint.now verdict.now }
+    {
+        verdict.is_granted()
+            && !self.registry().is_registered(&endpoint.id())
+            && self.limits().endpoints as usize <= self.registry().len()
+    }
+
+    /// Whether a call would be opened, and as many are open as the limit allows.
+    fn are_calls_full(&self, verdict: &Reply) -> bool
+        ensures { result ≡ Spec.are_calls_full self.now verdict.now }
+    {
+        verdict.is_granted() && self.limits().calls as usize <= self.calls().len()
+    }
+
+    /// record-full, if the record lacks the free places that the effect needs.
+    fn record_refusal(&self, event: &Event, effect: &Effect) -> Option<Reply>
+        ensures { result ≡ Spec.record_refusal self.now (plain event.now) effect.now }
+    {
+        if self.free_places() < effect.places_needed() {
+            event.record_full_reply()
+        } else {
+            None
+        }
+    }
+
+    /// The places of the record that are neither taken by an entry nor kept by an open call for the
+    /// entry of its release.
+    fn free_places(&self) -> usize
+        ensures { result ≡ States.free_places self.now }
+    {
+        (self.limits().records as usize)
+            .saturating_sub(self.records() as usize)
+            .saturating_sub(self.calls().len())
+    }
+}

@@ -1,0 +1,53 @@
+use Rattle.std.proofs.Common.{◌≡◌, ◌≤◌, Some, length, ap, sym, subst, ◌∙◌, arith}
+use Rattle.bandwidth.specs.Calls.{call_of}
+use Rattle.bandwidth.specs.Sums.{AreSumsOf}
+use Rattle.bandwidth.proofs.PassLemmas.{changing, may_pass, sums_pass, owner_known, zone_known}
+use Rattle.bandwidth.proofs.OpenLemmas.{length_changed}
+use Rattle.bandwidth.proofs.open_calls.OpenCalls.give.Goals as goal
+use Rattle.bandwidth.proofs.open_calls.OpenCalls.give.Goals.{After-change}
+
+-- the call is open
+there : (c : After-change)
+    → call_of c.self.inside.calls c.args.held.now.number ≡ Some c.args.held.now
+there c = ap (λ o. call_of o.calls c.args.held.now.number) c.self.view_is ∙ c.requires.there
+
+pub pass-requires-clause-sums : goal.pass-requires-clause-sums
+pass-requires-clause-sums c =
+    let held = c.args.held.now in
+    let i = (goal.at.pass-requires-clause-sums c).After-change in
+    let within = c.self.invariant.within in
+    let few : length c.self.inside.calls ≤ 4294967295 = omega (arith, within) in
+    let units = c.value-units.type_inv in
+    let its = c.value-units.ensures in
+    may_pass c.self.inside.calls _ held _
+    (changing c.self.inside.calls held.number c.args.units held c.len-count.ensures.ordered
+    (there i)) _ _ _ c.self.invariant.summed
+    c.len-count.ensures.ordered c.len-count.ensures.small few (omega (arith, units, its))
+
+pub pass-requires-clause-owners_room : goal.pass-requires-clause-owners_room
+pass-requires-clause-owners_room c none =
+    let i = (goal.at.pass-requires-clause-owners_room c).After-change in
+    absurd (owner_known _ _ _ _ c.self.invariant.summed c.args.held.now.number c.args.held.now
+    (there i) none)
+
+pub pass-requires-clause-zones_room : goal.pass-requires-clause-zones_room
+pass-requires-clause-zones_room c zone touched none =
+    let i = (goal.at.pass-requires-clause-zones_room c).After-change in
+    absurd (zone_known _ _ _ _ c.self.invariant.summed c.args.held.now.number c.args.held.now
+    (there i) zone touched none)
+
+pub invariant_of-self : goal.invariant_of-self
+invariant_of-self c =
+    let held = c.args.held.now in
+    let i = (goal.at.invariant_of-self c).After-change in
+    let changed = ap length c.change.ensures in
+    let size = length_changed c.self.inside.calls held.number c.args.units in
+    let within = c.self.invariant.within in
+    record {
+      summed = subst (AreSumsOf _ _ _) (sym c.change.ensures)
+          (sums_pass c.self.inside.calls _ held _
+          (changing c.self.inside.calls held.number c.args.units held
+          c.len-count.ensures.ordered (there i)) _ _ _ c.self.invariant.summed _ _ _
+          c.pass.ensures.owners c.pass.ensures.zones c.pass.ensures.remote);
+      within = omega (arith, changed, size, within);
+    }

@@ -1,0 +1,21 @@
+use Rattle.std.proofs.Common.{◌&&◌, ap, ◌∙◌, arith}
+use Rattle.bandwidth.specs.Use.{touches, is_interzone, interzone_of}
+use Rattle.bandwidth.proofs.SumLemmas.{units_of_some}
+use Rattle.bandwidth.proofs.PassLemmas.{use_is_at}
+use Rattle.bandwidth.proofs.open_calls.OpenCalls.interzone.Goals as goal
+
+pub returns-clause-value : goal.returns-clause-value
+returns-clause-value c =
+    let zone = c.args.zone.now in
+    ap (λ sums. sums.interzone)
+    (c.in_zone.ensures ∙ use_is_at _ _ _ _ c.self.invariant.summed zone)
+    ∙ ap (λ o. interzone_of o.calls zone) c.self.view_is
+
+pub returns-clause-small : goal.returns-clause-small
+returns-clause-small c =
+    let zone = c.args.zone.now in
+    let is = ap (λ sums. sums.interzone)
+    (c.in_zone.ensures ∙ use_is_at _ _ _ _ c.self.invariant.summed zone) in
+    let part = units_of_some (λ call. touches zone call && is_interzone call) c.self.inside.calls in
+    let all = c.len-count.ensures.small in
+    let within = c.self.invariant.within in omega (arith, is, part, all, within)

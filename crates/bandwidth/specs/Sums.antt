@@ -1,0 +1,137 @@
+-- The running sums: what is kept for each owner and each zone, and what a change of one call makes
+-- of it.
+use Rattle.std.specs.Prelude.{◌≡◌, ◌≤◌, ◌<◌, ◌^◌, ℕ, ◌+◌, ◌-◌, ◌==◌, true, List, [], ◌∷◌, count_by, Option, Some, None, bytes_eq, if◌then◌else◌}
+use Rattle.std.specs.Option.{unwrap_or}
+use Rattle.std.specs.Map.{lookup}
+use Rattle.bandwidth.specs.declared.open_call.OpenCall.{OpenCall}
+use Rattle.bandwidth.specs.declared.open_call.ZonesTouched.{ZonesTouched}
+use Rattle.bandwidth.specs.declared.step.Step.{Step}
+use Rattle.bandwidth.specs.declared.zone_uses.ZoneUse.{ZoneUse}
+use Rattle.bandwidth.specs.Calls.{has_owner}
+use Rattle.bandwidth.specs.Use.{is_interzone, touches, total_of, interzone_of, remote_of}
+
+-- ---- the zones of a call
+abbrev pub second_of : Option (List ℕ) → List (List ℕ)
+second_of None = []
+second_of (Some zone) = zone ∷ []
+
+abbrev pub zones_in : ZonesTouched → List (List ℕ)
+zones_in zones = zones.first ∷ second_of zones.second
+
+-- ---- what is kept
+-- how many calls the endpoint with this ID owns
+abbrev pub count_owned : List OpenCall → List ℕ → ℕ
+count_owned calls id = count_by (has_owner id) calls
+
+-- a count as it is kept: no entry if it is 0
+abbrev pub kept_count : ℕ → Option ℕ
+kept_count count = if count == 0 then None else Some count
+
+-- how many calls touch a zone, and their sums
+abbrev pub use_of : List OpenCall → List ℕ → ZoneUse
+use_of calls zone = record {
+  calls = count_by (touches zone) calls;
+  total = total_of calls zone;
+  interzone = interzone_of calls zone;
+}
+
+abbrev pub no_use : ZoneUse
+no_use = record { calls = 0; total = 0; interzone = 0 }
+
+-- the sums of a zone as they are kept: no entry if no call touches it
+abbrev pub kept_use : ZoneUse → Option ZoneUse
+kept_use sums = if sums.calls == 0 then None else Some sums
+
+abbrev pub Counts : Type 0
+Counts = List (List ℕ × ℕ)
+
+abbrev pub Uses : Type 0
+Uses = List (List ℕ × ZoneUse)
+
+-- what the maps have for an ID and for a zone
+abbrev pub count_found : Counts → List ℕ → Option ℕ
+count_found owners id = lookup (bytes_eq id) owners
+
+abbrev pub use_found : Uses → List ℕ → Option ZoneUse
+use_found zones zone = lookup (bytes_eq zone) zones
+
+abbrev pub count_at : Counts → List ℕ → ℕ
+count_at owners id = unwrap_or (count_found owners id) 0
+
+abbrev pub use_at : Uses → List ℕ → ZoneUse
+use_at zones zone = unwrap_or (use_found zones zone) no_use
+
+-- the running sums are those of the calls
+pub record AreSumsOf (owners : Counts) (zones : Uses) (remote : ℕ) (calls : List OpenCall)
+    : Type 0 where
+  pub owned : (id : List ℕ) → count_found owners id ≡ kept_count (count_owned calls id)
+  pub used : (zone : List ℕ) → use_found zones zone ≡ kept_use (use_of calls zone)
+  pub remotely : remote ≡ remote_of calls
+
+-- ---- a change of one call
+-- a call counts once while it is open, and with its bandwidth
+abbrev pub once : Option ℕ → ℕ
+once None = 0
+once (Some units) = 1
+
+abbrev pub units_if_open : Option ℕ → ℕ
+units_if_open None = 0
+units_if_open (Some units) = units
+
+-- a count and a sum after the step
+abbrev pub count_after : Step → ℕ → ℕ
+count_after step count = count - once step.before + once step.after
+
+abbrev pub sum_after : Step → ℕ → ℕ
+sum_after step sum = sum - units_if_open step.before + units_if_open step.after
+
+abbrev pub use_after : OpenCall → Step → ZoneUse → ZoneUse
+use_after call step sums = record {
+  calls = count_after step sums.calls;
+  total = sum_after step sums.total;
+  interzone = if is_interzone call then sum_after step sums.interzone else sums.interzone;
+}
+
+-- what a count and a sum have to hold before the step, and the room that they have
+pub record MayCount (step : Step) (count : ℕ) : Type 0 where
+  pub enough : once step.before ≤ count
+  pub room : count + 1 < 2 ^ 64
+
+pub record MaySum (step : Step) (sum : ℕ) : Type 0 where
+  pub enough : units_if_open step.before ≤ sum
+  pub room : sum + units_if_open step.after < 2 ^ 64
+
+pub record MayUse (call : OpenCall) (step : Step) (sums : ZoneUse) : Type 0 where
+  pub calls : MayCount step sums.calls
+  pub total : MaySum step sums.total
+  pub interzone : is_interzone call ≡ true → MaySum step sums.interzone
+
+-- each running sum in which the call counts may take the step
+pub record MayPass (owners : Counts) (zones : Uses) (remote : ℕ) (call : OpenCall) (step : Step)
+    : Type 0 where
+  pub owner : MayCount step (count_at owners call.owner)
+  pub zone : (zone : List ℕ) → touches zone call ≡ true → MayUse call step (use_at zones zone)
+  pub remotely : call.remote ≡ true → MaySum step remote
+
+-- new has what the step leaves, for the owner and for the zones that the call touches
+abbrev pub CountsPass : OpenCall → Step → Counts → Counts → Type 0
+CountsPass call step old new =
+    (id : List ℕ) → count_found new id
+    ≡ (if has_owner id call then kept_count (count_after step (count_at old id))
+    else count_found old id)
+
+abbrev pub UsesPass : OpenCall → Step → Uses → Uses → Type 0
+UsesPass call step old new =
+    (zone : List ℕ) → use_found new zone
+    ≡ (if touches zone call then kept_use (use_after call step (use_at old zone))
+    else use_found old zone)
+
+abbrev pub remote_after : OpenCall → Step → ℕ → ℕ
+remote_after call step remote = if call.remote then sum_after step remote else remote
+
+-- the same for one zone
+abbrev pub UsesPassAt : List ℕ → OpenCall → Step → Uses → Uses → Type 0
+UsesPassAt at call step old new =
+    (zone : List ℕ) → use_found new zone
+    ≡ (if bytes_eq at zone then kept_use (use_after call step (use_at old zone))
+    else use_found old zone)

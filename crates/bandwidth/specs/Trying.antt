@@ -1,0 +1,66 @@
+-- The sums of a call beside the others, as they are tried.
+use Rattle.std.specs.Prelude.{ℕ, ◌+◌, Bool, List, find, Option, Some, None, option_map, if◌then◌else◌}
+use Rattle.command_reader.specs.declared.commands.Command.{Command}
+use Rattle.command_reader.specs.declared.commands.LimitKind.{LimitKind}
+use Rattle.command_reader.specs.declared.commands.LimitKind.TheVariants.{Session, Total, Interzone}
+use Rattle.bandwidth.specs.declared.open_call.OpenCall.{OpenCall}
+use Rattle.bandwidth.specs.declared.over.Over.{Over}
+use Rattle.bandwidth.specs.declared.over.Over.TheVariants as overs
+use Rattle.compiler.specs.Limit.{limit_of, remote_limit_of}
+use Rattle.bandwidth.specs.Use.{is_interzone, total_of, interzone_of, remote_of}
+use Rattle.bandwidth.specs.Fits.{Try, is_above, fails, tries_of_kind}
+
+-- what the call counts that was found, if it passes the test
+abbrev pub part_found : (OpenCall → Bool) → Option OpenCall → ℕ
+part_found test None = 0
+part_found test (Some call) = if test call then call.units else 0
+
+-- a sum of a zone, with the call beside the others
+abbrev pub sum_beside : LimitKind → List OpenCall → OpenCall → List ℕ → ℕ
+sum_beside Session others call zone = call.units
+sum_beside Total others call zone = total_of others zone + call.units
+sum_beside Interzone others call zone = interzone_of others zone + call.units
+
+-- the same as it is tried
+abbrev pub try_of : List Command → LimitKind → List OpenCall → OpenCall → List ℕ → Try
+try_of commands kind others call zone = record {
+  sum = sum_beside kind others call zone;
+  limit = limit_of commands kind zone;
+  over = overs.Zone kind zone;
+}
+
+-- what is named if a sum is above its limit
+abbrev pub over_if_above : ℕ → Option ℕ → Over → Option Over
+over_if_above sum limit over = if is_above sum limit then Some over else None
+
+-- what the first try names that fails
+abbrev pub first_over : List Try → Option Over
+first_over tries = option_map (λ t. t.over) (find fails tries)
+
+-- the sums of one kind
+abbrev pub over_in : List Command → LimitKind → List OpenCall → OpenCall → Option Over
+over_in commands kind others call =
+    first_over (tries_of_kind commands kind (sum_beside kind others call) call)
+
+-- that of one zone, and of another if there is one
+abbrev pub over_of_zone : List Command → LimitKind → List OpenCall → OpenCall → List ℕ → Option Over
+over_of_zone commands kind others call zone =
+    over_if_above (sum_beside kind others call zone) (limit_of commands kind zone)
+    (overs.Zone kind zone)
+
+abbrev pub over_of_second : List Command → LimitKind → List OpenCall → OpenCall → Option (List ℕ)
+    → Option Over
+over_of_second commands kind others call None = None
+over_of_second commands kind others call (Some zone) = over_of_zone commands kind others call zone
+
+-- the interzone sums, if the call is between two zones
+abbrev pub over_between : List Command → List OpenCall → OpenCall → Option Over
+over_between commands others call =
+    if is_interzone call then over_in commands Interzone others call else None
+
+-- the sum of all calls to remote zones, if the call is marked as one of them
+abbrev pub over_remotely : List Command → List OpenCall → OpenCall → Option Over
+over_remotely commands others call =
+    if call.remote
+    then over_if_above (remote_of others + call.units) (remote_limit_of commands) overs.Remote
+    else None

@@ -1,0 +1,97 @@
+//! The open calls in order of number.
+
+ghost use Rattle.std.specs.Prelude.{◌≡◌, ◌≤◌, ◌<◌, ◌*◌, ◌^◌, [], false, Some, length, OnOk, OnErr};
+ghost use Rattle.std.specs.Option.{option_copied};
+ghost use Rattle.bandwidth.specs.Calls.{AreInOrder, call_of, is_open, with_call, with_changed, without_call};
+ghost use Rattle.bandwidth.specs.Use.{units_of};
+
+use crate::open_call::OpenCall;
+use gk_terms::Units;
+use std::alloc::{AllocError, Global};
+use std::collections::BTreeMap;
+use std::marker::Model;
+
+/// Calls in order of number: a map has each one under its number. A contract sees the list.
+#[derive(Drop)]
+pub struct CallList {
+    calls: BTreeMap<u32, OpenCall>,
+}
+
+impl Model for CallList {
+    ghost use Rattle.std.specs.Prelude.{List};
+    ghost use Rattle.std.specs.Map.{values_of};
+    ghost use Rattle.bandwidth.specs.declared.open_call.OpenCall.{OpenCall};
+    ghost use Rattle.bandwidth.specs.CallList.{IsCallList};
+
+    ghost Value = { List OpenCall };
+
+    ghost view = { λ l. values_of l.calls.entries };
+
+    ghost invariant = { λ l. IsCallList l.calls.entries };
+}
+
+impl CallList {
+    /// No calls. Takes no memory.
+    pub fn new(alloc: Global) -> CallList
+        ensures { result ≡ [] }
+    {
+        CallList {
+            calls: BTreeMap::new(alloc),
+        }
+    }
+
+    /// The number of calls.
+    pub fn len(&self) -> usize
+        ensures value { result ≡ length self.now }
+        ensures ordered { AreInOrder self.now }
+        ensures small { units_of self.now ≤ length self.now * 4294967295 }
+    {
+        self.calls.len()
+    }
+
+    /// The call with this number.
+    pub fn get(&self, number: u32) -> Option<&OpenCall>
+        ensures { option_copied result ≡ call_of self.now number }
+    {
+        self.calls.get(&number)
+    }
+
+    /// Whether a call has this number.
+    pub fn has(&self, number: u32) -> bool
+        ensures { result ≡ is_open self.now number }
+    {
+        self.calls.contains_key(&number)
+    }
+
+    /// Adds a call with a new number. If memory runs out nothing has changed.
+    pub fn insert(&mut self, call: OpenCall) -> Result<(), AllocError>
+        requires fresh { is_open self.old call.number ≡ false }
+        ensures ok { OnOk result (self.new ≡ with_call self.old call) }
+        ensures err { OnErr result (self.new ≡ self.old) }
+    {
+        // So it is known that it fits 32 bits.
+        let _units = call.units.value();
+        match self.calls.insert(call.number, call) {
+            Ok(_) => Ok(()),
+            Err(_) => Err(AllocError),
+        }
+    }
+
+    /// Gives a call that is there another bandwidth. Takes no memory.
+    pub fn change(&mut self, held: OpenCall, units: Units)
+        requires there { call_of self.old held.number ≡ Some held }
+        ensures { self.new ≡ with_changed self.old held.number units }
+    {
+        // So it is known that it fits 32 bits.
+        let _units = units.value();
+        let put: Result<_, _> = self.calls.insert(held.number, OpenCall { units, ..held });
+        let _ = put.unwrap();
+    }
+
+    /// Takes out the call with this number, if there is one. Takes no memory.
+    pub fn remove(&mut self, number: u32)
+        ensures { self.new ≡ without_call self.old number }
+    {
+        let _ = self.calls.remove(&number);
+    }
+}

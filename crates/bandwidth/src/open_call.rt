@@ -1,0 +1,70 @@
+//! A call that is open, and the zones that it touches.
+
+ghost use Rattle.std.specs.Prelude.{◌≡◌, false, IfSome, bytes_eq};
+ghost use Rattle.bandwidth.specs.Use.{zones_touched, is_interzone, touches};
+ghost use Rattle.bandwidth.specs.Sums.{zones_in};
+
+use gk_terms::{Name, Units};
+
+/// A call that was admitted and not yet released.
+#[derive(Clone, Copy, Debug, PartialEq, Eq)]
+pub struct OpenCall {
+    /// The number by which the call's requests name it, 1 to 4294967295. No two open calls share
+    /// it.
+    pub number: u32,
+    /// The ID of the endpoint that was admitted.
+    pub owner: Name,
+    /// The zone of that endpoint, the caller's.
+    pub source: Name,
+    /// The zone to which the call was routed.
+    pub target: Name,
+    /// Whether the target zone was another gatekeeper's when the call was admitted.
+    pub remote: bool,
+    /// The bandwidth of the call, in units of 100 bit/s, 0 to 4294967295.
+    pub units: Units,
+}
+
+/// The zones that a call touches, the source first, each once.
+#[derive(Clone, Copy)]
+pub struct ZonesTouched {
+    pub first: Name,
+    pub second: Option<Name>,
+}
+
+impl OpenCall {
+    /// The zones that the call touches, the source first, each once.
+    pub fn zones_touched(&self) -> ZonesTouched
+        ensures zones { zones_touched self.now ≡ zones_in result }
+        ensures once { IfSome result.second (λ second. bytes_eq result.first second ≡ false) }
+    {
+        if self.source == self.target {
+            ZonesTouched {
+                first: self.source,
+                second: None,
+            }
+        } else {
+            ZonesTouched {
+                first: self.source,
+                second: Some(self.target),
+            }
+        }
+    }
+
+    /// Whether the call is between two zones.
+    pub fn is_interzone(&self) -> bool
+        ensures { result ≡ is_interzone self.now }
+    {
+        self.source != self.target
+    }
+
+    /// Whether the call touches the zone.
+    pub fn touches(&self, zone: &Name) -> bool
+        ensures { result ≡ touches zone.now self.now }
+    {
+        let zones = self.zones_touched();
+        match zones.second {
+            Some(second) => *zone == zones.first || *zone == second,
+            None => *zone == zones.first,
+        }
+    }
+}

@@ -1,0 +1,245 @@
+//! The open calls: who is found, and what opening, changing and closing a call leaves.
+
+ghost use Rattle.std.specs.Prelude.{◌≡◌, ◌<◌, ◌≤◌, ◌+◌, ◌^◌, [], true, false, Some, length, IfOk, MatchResult, OnOk, OnErr};
+ghost use Rattle.std.specs.Option.{option_copied};
+ghost use Rattle.gk_terms.specs.Outcome.{Changes, ChangesUnlessMemory};
+ghost use Rattle.bandwidth.specs.declared.faults.CallsFault.TheVariants as faults;
+ghost use Rattle.bandwidth.specs.Calls.{AreOpenCalls, call_of, changed_in, closed_in, has_owner, is_open, opened_in, owns, with_call, with_changed, without_call};
+ghost use Rattle.bandwidth.specs.OpenCalls.{owned_in};
+ghost use Rattle.bandwidth.specs.Use.{interzone_of, remote_of, total_of};
+
+use crate::call_list::CallList;
+use crate::faults::CallsFault;
+use crate::open_call::OpenCall;
+use crate::step::Step;
+use crate::sums::Sums;
+use gk_terms::{Name, Units};
+use std::alloc::{AllocError, Global};
+use std::marker::Model;
+
+/// The open calls in order of number, and how many there may be. `calls` has each call under its
+/// number. `sums` has what they add up to: how many calls each owner has, how many touch each zone
+/// with their total and their interzone sum, and the sum of those to zones of other gatekeepers.
+/// Each is changed with the calls and stays equal to what they add up to, so that no request goes
+/// over them; an owner and a zone without calls have no entry. There are at most `most` calls, each
+/// of 32 bits of bandwidth, so no sum wraps. A contract sees `OpenCallsParts`: the list of the
+/// calls, and how many there may be.
+#[derive(Drop)]
+pub struct OpenCalls {
+    calls: CallList,
+    sums: Sums,
+    most: u32,
+}
+
+impl Model for OpenCalls {
+    ghost use Rattle.bandwidth.specs.Calls.{OpenCallsParts};
+    ghost use Rattle.bandwidth.specs.OpenCalls.{AreKept};
+
+    ghost Value = { OpenCallsParts };
+
+    ghost view = { λ o. record { calls = o.calls; most = o.most } };
+
+    ghost invariant = { λ o. AreKept o.calls o.most o.sums.owners.entries o.sums.zones.entries
+        o.sums.remote };
+}
+
+impl OpenCalls {
+    /// No calls, and how many there may be. Takes no memory.
+    pub fn new(alloc: Global, most: u32) -> OpenCalls
+        ensures { result ≡ record { calls = []; most = most } }
+    {
+        OpenCalls {
+            calls: CallList::new(alloc),
+            sums: Sums::new(alloc),
+            most,
+        }
+    }
+
+    /// The number of open calls.
+    pub fn len(&self) -> usize
+        ensures value { result ≡ length self.now.calls }
+        ensures sound { AreOpenCalls self.now }
+    {
+        self.calls.len()
+    }
+
+    /// The open call with this number.
+    pub fn get(&self, number: u32) -> Option<&OpenCall>
+        ensures { option_copied result ≡ call_of self.now.calls number }
+    {
+        self.calls.get(number)
+    }
+
+    /// Whether a call with this number is open.
+    pub fn is_open(&self, number: u32) -> bool
+        ensures { result ≡ is_open self.now.calls number }
+    {
+        self.calls.has(number)
+    }
+
+    /// Whether the endpoint with this ID owns an open call.
+    pub fn owns(&self, id: &Name) -> bool
+        ensures { result ≡ owns self.now.calls id.now }
+    {
+        self.sums.owns(id)
+    }
+
+    /// The bandwidth of the open calls that touch the zone, each counted once, in units of
+    /// 100 bit/s.
+    pub fn total(&self, zone: &Name) -> u64
+        ensures value { result ≡ total_of self.now.calls zone.now }
+        ensures small { result + 2 ^ 32 ≤ 2 ^ 64 }
+    {
+        // So it is known how many calls there are at most.
+        let _most = self.most;
+        let _count = self.calls.len();
+        self.sums.in_zone(zone).total
+    }
+
+    /// The bandwidth of those among them that are between two zones, in units of 100 bit/s.
+    pub fn interzone(&self, zone: &Name) -> u64
+        ensures value { result ≡ interzone_of self.now.calls zone.now }
+        ensures small { result + 2 ^ 32 ≤ 2 ^ 64 }
+    {
+        // So it is known how many calls there are at most.
+        let _most = self.most;
+        let _count = self.calls.len();
+        self.sums.in_zone(zone).interzone
+    }
+
+    /// The bandwidth of the open calls whose target was a zone of another gatekeeper when they were
+    /// admitted, in units of 100 bit/s.
+    pub fn remote(&self) -> u64
+        ensures value { result ≡ remote_of self.now.calls }
+        ensures small { result + 2 ^ 32 ≤ 2 ^ 64 }
+    {
+        // So it is known how many calls there are at most.
+        let _most = self.most;
+        let _count = self.calls.len();
+        self.sums.remote
+    }
+
+    /// Opens a call. It is refused as `CallOpen`, if a call of its number is open, and then as
+    /// `Full`, if as many calls are open as there may be. If memory runs out it is `NoMemory`.
+    /// After an error nothing has changed.
+    pub fn open(&mut self, call: OpenCall) -> Result<(), CallsFault>
+        ensures { ChangesUnlessMemory faults.NoMemory self.old self.new (opened_in self.old call)
+            result }
+    {
+        if self.calls.has(call.number) {
+            return Err(CallsFault::CallOpen);
+        }
+        if self.most as usize <= self.calls.len() {
+            return Err(CallsFault::Full);
+        }
+        match self.enter(call) {
+            Ok(()) => Ok(()),
+            Err(_) => Err(CallsFault::NoMemory),
+        }
+    }
+
+    /// Gives the call of this number another bandwidth, if it belongs to this ID. It is refused as
+    /// `NoCall`, if no call of the number is open, and as `NotYours`, if it is another endpoint's.
+    /// After an error nothing has changed. Takes no memory.
+    pub fn change(&mut self, number: u32, id: &Name, units: Units) -> Result<(), CallsFault>
+        ensures { Changes self.old self.new (changed_in self.old number id.now units) result }
+    {
+        match self.owned(number, id) {
+            Ok(held) => {
+                self.give(&held, units);
+                Ok(())
+            }
+            Err(fault) => Err(fault),
+        }
+    }
+
+    /// Closes the call of this number and gives it, if it belongs to this ID. It is refused as
+    /// `NoCall`, if no call of the number is open, and as `NotYours`, if it is another endpoint's.
+    /// After an error nothing has changed. Takes no memory.
+    pub fn close(&mut self, number: u32, id: &Name) -> Result<OpenCall, CallsFault>
+        ensures changes { Changes self.old self.new (closed_in self.old number id.now) result }
+        ensures given { IfOk result (λ call. call_of self.old.calls number ≡ Some call) }
+    {
+        let owned = self.owned(number, id);
+        match owned {
+            Ok(held) => {
+                self.take_out(&held);
+                Ok(held)
+            }
+            Err(fault) => Err(fault),
+        }
+    }
+
+    /// Enters a call that may be opened. If memory runs out nothing has changed.
+    fn enter(&mut self, call: OpenCall) -> Result<(), AllocError>
+        requires fresh { is_open self.old.calls call.number ≡ false }
+        requires room { length self.old.calls < self.old.most }
+        ensures ok { OnOk result
+            (self.new ≡ record self.old { calls = with_call self.old.calls call }) }
+        ensures err { OnErr result (self.new ≡ self.old) }
+    {
+        let step = Step {
+            before: None,
+            after: Some(call.units),
+        };
+        // So it is known that no sum wraps.
+        let _units = call.units.value();
+        let _most = self.most;
+        let _count = self.calls.len();
+        self.sums.reserve()?;
+        self.calls.insert(call)?;
+        self.sums.pass(&call, &step);
+        Ok(())
+    }
+
+    /// Gives a call that is open another bandwidth.
+    fn give(&mut self, held: &OpenCall, units: Units)
+        requires there { call_of self.old.calls held.now.number ≡ Some held.now }
+        ensures { self.new
+            ≡ record self.old { calls = with_changed self.old.calls held.now.number units } }
+    {
+        let step = Step {
+            before: Some(held.units),
+            after: Some(units),
+        };
+        // So it is known that no sum wraps.
+        let _units = units.value();
+        let _most = self.most;
+        let _count = self.calls.len();
+        self.calls.change(*held, units);
+        self.sums.pass(held, &step);
+    }
+
+    /// Takes out a call that is open.
+    fn take_out(&mut self, held: &OpenCall)
+        requires there { call_of self.old.calls held.now.number ≡ Some held.now }
+        ensures { self.new
+            ≡ record self.old { calls = without_call self.old.calls held.now.number } }
+    {
+        let step = Step {
+            before: Some(held.units),
+            after: None,
+        };
+        // So it is known that no sum wraps.
+        let _most = self.most;
+        let _count = self.calls.len();
+        self.calls.remove(held.number);
+        self.sums.pass(held, &step);
+    }
+
+    /// The call of this number, if it belongs to this ID.
+    fn owned(&self, number: u32, id: &Name) -> Result<OpenCall, CallsFault>
+        ensures { result ≡ owned_in self.now.calls number id.now }
+    {
+        match self.calls.get(number) {
+            Some(held) => {
+                if held.owner == *id {
+                    Ok(*held)
+                } else {
+                    Err(CallsFault::NotYours)
+                }
+            }
+            None => Err(CallsFault::NoCall),
+        }
+    }
+}
