@@ -11,8 +11,8 @@ use Rattle.raw_trie.specs.Trie.{Row}
 abbrev pub score_of : PatternParts → ℕ
 score_of p = 66 * length p.literals + 2 * p.dots + cond p.star 0 1
 
--- the hit is of a matching row, whose pattern outranks those of the other matching rows below the bound; if there is
--- none, no matching row is from the lower bound on and below the other
+-- the hit is of a matching row, whose pattern outranks those of the other matching rows below the
+-- bound; if there is none, no matching row is from the lower bound on and below the other
 abbrev pub IsFound : List Row → List ℕ → ℕ → ℕ → Option Hit → Type 0
 IsFound rows text low bound None = (row : Row) → Contains rows row → Matches row.0 text → low ≤ score_of row.0 → score_of row.0 < bound → ⊥
 IsFound rows text low bound (Some hit) =

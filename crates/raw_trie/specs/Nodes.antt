@@ -1,4 +1,5 @@
--- The nodes that patterns take: one for each different beginning of their characters, the star left off.
+-- The nodes that patterns take: one for each different beginning of their characters, the star left
+-- off.
 use Rattle.std.specs.Prelude.{ℕ, List, [], ◌∷◌, ◌++◌, map, replicate}
 use Rattle.std.specs.List.{flat_map}
 use Rattle.std.specs.Set.{distinct_count}

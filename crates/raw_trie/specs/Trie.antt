@@ -1,4 +1,5 @@
--- What the words of a trie mean: which nodes there are, where their links lead, and which rows end at them.
+-- What the words of a trie mean: which nodes there are, where their links lead, and which rows end
+-- at them.
 use Rattle.std.specs.Prelude.{◌≡◌, ℕ, ◌+◌, ◌*◌, ◌/◌, ◌<◌, ◌==◌, Bool, true, false, List, [], ◌∷◌, ◌++◌, length, replicate, slice_index, slice_index_or, slice_set, if◌then◌else◌, fold, Option, Some, None, MatchOption, ◌⊎◌}
 use Rattle.std.specs.List.{list_any, Contains}
 use Rattle.std.specs.Str.{bytes_eq}

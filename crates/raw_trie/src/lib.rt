@@ -1,5 +1,5 @@
-//! A digit trie in one block of memory: a table of patterns whose look-up looks at a bounded number of nodes,
-//! whatever the number of patterns.
+//! A digit trie in one block of memory: a table of patterns whose look-up looks at a bounded number
+//! of nodes, whatever the number of patterns.
 #![tactic(auto)]
 
 mod block;

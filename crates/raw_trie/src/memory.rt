@@ -1,22 +1,24 @@
-//! The block of a trie: the only functions of this crate that have pointers. All others see a list of words, or the
-//! list of rows.
+//! The block of a trie: the only functions of this crate that have pointers. All others see a list
+//! of words, or the list of rows.
 //!
-//! A block is one piece of memory behind one pointer. It holds words of 4 bytes and is aligned to 4. A node is 15 of
-//! them, 60 bytes; the nodes lie one after another from the root, which is node 0, so that node n is the words from
-//! 15 n on. The words of a node are:
+//! A block is one piece of memory behind one pointer. It holds words of 4 bytes and is aligned to
+//! 4. A node is 15 of them, 60 bytes; the nodes lie one after another from the root, which is node
+//! 0, so that node n is the words from 15 n on. The words of a node are:
 //!
-//! - 0 to 9: the links of the digits. A link is the number of the node it leads to. No node leads back to the root,
-//!   so 0 is no link.
+//! - 0 to 9: the links of the digits. A link is the number of the node it leads to. No node leads
+//!   back to the root, so 0 is no link.
 //! - 10: the link of the dot, likewise.
-//! - 11 and 12: the end of the pattern that ends here without a star. Word 11 is 0 if there is none, and else 1 with
-//!   the pattern's value in word 12.
+//! - 11 and 12: the end of the pattern that ends here without a star. Word 11 is 0 if there is
+//!   none, and else 1 with the pattern's value in word 12.
 //! - 13 and 14: the end of the pattern that ends here with a star, likewise.
 //!
-//! The node of a pattern is reached from the root by the links of its digits and then by its dots; a star is no link.
+//! The node of a pattern is reached from the root by the links of its digits and then by its dots;
+//! a star is no link.
 //!
-//! A block is reserved for a number of words, filled word by word to its last, then only read, and freed once.
-//! `Words` is the right to its words and `Lease` is the right to give it back: neither can be dropped or copied, and
-//! `free` takes both. As nothing is written after it is full, threads may read it together.
+//! A block is reserved for a number of words, filled word by word to its last, then only read, and
+//! freed once. `Words` is the right to its words and `Lease` is the right to give it back: neither
+//! can be dropped or copied, and `free` takes both. As nothing is written after it is full, threads
+//! may read it together.
 
 ghost use Rattle.std.specs.Prelude.{◌≡◌, ℕ, ◌+◌, ◌^◌, ◌<◌, List, [], ◌∷◌, ◌++◌, length, slice_index, IfSome};
 ghost use base.Fml.{ftrue};

@@ -40,17 +40,20 @@ impl From<AllocError> for TrieFault {
     }
 }
 
-/// A table of patterns as a trie. Its value is the list of its rows, in the order they were given in.
+/// A table of patterns as a trie. Its value is the list of its rows, in the order they were given
+/// in.
 ///
-/// A trie is one block of memory of exactly 60 bytes for each of its nodes, and of as many nodes as its patterns have
-/// different beginnings. It is reserved and filled by `build`, freed when the trie is dropped, and never written in
-/// between, so that threads may share it in an `Arc`. A look-up takes no memory.
+/// A trie is one block of memory of exactly 60 bytes for each of its nodes, and of as many nodes as
+/// its patterns have different beginnings. It is reserved and filled by `build`, freed when the
+/// trie is dropped, and never written in between, so that threads may share it in an `Arc`. A
+/// look-up takes no memory.
 ///
-/// A node has the numbers of the nodes that the ten digits and a dot lead to, and beside them the values of the
-/// patterns that end at it without and with a star: a step of a look-up reads a link, the dot's link and the ends at
-/// known places of one node, which lies in one or two cache lines. A node of 16 bytes, with the set of its links and
-/// the number of the first of the nodes they lead to, which lie together, takes less memory and is about as fast to
-/// read, but has to be built from sorted beginnings, which takes some thirty times as long.
+/// A node has the numbers of the nodes that the ten digits and a dot lead to, and beside them the
+/// values of the patterns that end at it without and with a star: a step of a look-up reads a link,
+/// the dot's link and the ends at known places of one node, which lies in one or two cache lines. A
+/// node of 16 bytes, with the set of its links and the number of the first of the nodes they lead
+/// to, which lie together, takes less memory and is about as fast to read, but has to be built from
+/// sorted beginnings, which takes many times as long.
 #[derive(Drop)]
 pub struct RawTrie {
     block: Block,
@@ -76,10 +79,11 @@ impl RawTrie {
 
     /// The trie of these rows. `alloc` is what its memory is taken from.
     ///
-    /// `Duplicate` if a row has the pattern of an earlier one, and then it names the first such row, counted from 0.
-    /// `TooManyNodes` if no pattern is there twice and the patterns, their stars left off, have more than `most`
-    /// different beginnings, the empty one included. `NoMemory` may come in place of any other answer. When it
-    /// refuses, it has given back all memory it took.
+    /// `Duplicate` if a row has the pattern of an earlier one, and then it names the first such
+    /// row, counted from 0. `TooManyNodes` if no pattern is there twice and the patterns, their
+    /// stars left off, have more than `most` different beginnings, the empty one included.
+    /// `NoMemory` may come in place of any other answer. When it refuses, it has given back all
+    /// memory it took.
     pub fn build(alloc: Global, rows: &[(Pattern, u32)], most: u32) -> Result<RawTrie, TrieFault>
         ensures built { IfOk result (λ trie. trie ≡ rows.now) }
         ensures distinct { IsOk result → duplicate_of rows.now ≡ None }
@@ -104,9 +108,9 @@ impl RawTrie {
         Ok(RawTrie { block, meaning })
     }
 
-    /// The row with the longest pattern that matches the dialled characters from the place `from` on, counted from 0,
-    /// as `best` finds it, and how many nodes were looked at: for n characters from there on, at most
-    /// (n + 1) (n + 2) / 2. It takes no memory.
+    /// The row with the longest pattern that matches the dialled characters from the place `from`
+    /// on, counted from 0, as `best` finds it, and how many nodes were looked at: for n characters
+    /// from there on, at most (n + 1) (n + 2) / 2. It takes no memory.
     pub fn best_counted(&self, dialled: &Dialled, from: usize) -> (Option<Hit>, u32)
         requires { from ≤ length dialled.now }
         ensures hit { result.0 ≡ best_hit self.now (drop from dialled.now) }

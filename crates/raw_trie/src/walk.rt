@@ -1,4 +1,5 @@
-//! The walk through a trie: down along the digits of the text, then, from the deepest node up, down the dots of each.
+//! The walk through a trie: down along the digits of the text, then, from the deepest node up, down
+//! the dots of each.
 
 ghost use Rattle.std.specs.Prelude.{◌≡◌, ℕ, ◌+◌, ◌-◌, ◌*◌, ◌<◌, ◌≤◌, List, length, slice_get, take, true, None, IfSome};
 ghost use Rattle.std.specs.Char.{is_ascii_digit};
@@ -37,8 +38,8 @@ pub(crate) fn longest(trie: &RawTrie, text: &[u8]) -> (Option<Hit>, u32)
     (best, looks)
 }
 
-/// The best of the patterns that begin with the characters of the text before the place `literals`; `node` is where
-/// these lead. Those with more literals come first.
+/// The best of the patterns that begin with the characters of the text before the place `literals`;
+/// `node` is where these lead. Those with more literals come first.
 fn longest_from(
     trie: &RawTrie,
     node: u32,

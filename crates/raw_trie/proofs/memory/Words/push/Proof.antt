@@ -57,7 +57,8 @@ push_spec 𝓤 𝓛 𝓜 𝓡 wired =
     let spelled = lowers.val_is h us is ∙ ap (λ (p : Ptr). lowers.lowered (record h { at = p }) ∷ []) e in
     let Cell = λ (ws : List Val). ‵ (cell_at full_share R.mir ws rb ro) in
     rewrite ! 3 Cell spelled refl $
-    -- [the room; the other words; what the fields own; the struct's cell; the open borrow, in three entries]
+    -- [the room; the other words; what the fields own; the struct's cell; the open borrow, in three
+    -- entries]
     first ! $ blocks ! $
     sets ! (of_opd ! (load ! (through ! refl (fld ! refl (stop !))) (look_in ! 3 (sub ! 0 refl (whole !))))) refl (tt, tt) $
     sets ! (bin ! (get ! refl) (lit ! tt) (record { fits = far })) refl (tt, record { fits = far }) $
