@@ -4,4 +4,5 @@ pub mod PassLemmas
 pub mod OpenLemmas
 pub mod FitLemmas
 pub mod FitLaws
+pub mod RefusalLaws
 mod ListLemmas

@@ -1,6 +1,6 @@
 //! Laws of the definitions.
 
-ghost use Rattle.bandwidth.specs.FitLaws.{OpeningStaysWithin, RaiseStaysWithin, RaiseWasWithin};
+ghost use Rattle.bandwidth.specs.FitLaws.{OpeningStaysWithin, RaiseStaysWithin, RaiseWasWithin, RefusalNamesASum};
 
 /// What fits stays within: after a call that fits is opened, or gets more bandwidth with which it
 /// fits, no sum in which it counts is above its limit. For more bandwidth none was before either.
@@ -8,4 +8,11 @@ pub fn what_fits_stays_within()
     ensures opening { OpeningStaysWithin }
     ensures raise { RaiseStaysWithin }
     ensures before { RaiseWasWithin }
+{}
+
+/// What does not fit is above a limit: the sum that is named is one in which the call counts, and
+/// with the call beside the others it would be above its limit. The call asks more than the open
+/// call of its number has, if there is one.
+pub fn what_is_refused_is_above()
+    ensures { RefusalNamesASum }
 {}
