@@ -8,6 +8,8 @@ use Rattle.bandwidth.specs.declared.open_call.OpenCall.{OpenCall}
 use Rattle.bandwidth.specs.Calls.{AreInOrder, has_number, call_of, is_open, with_units, with_call, with_changed}
 use Rattle.bandwidth.specs.Fits.{over_of}
 use Rattle.bandwidth.specs.FitLaws.{SumsAreWithin}
+use Rattle.bandwidth.specs.declared.over.Over.{Over}
+use Rattle.bandwidth.proofs.RefusalLaws.{refusal_names_a_sum}
 use Rattle.bandwidth.proofs.FitLaws.{opening_within, raise_within, raised_from_within}
 use Rattle.admission.specs.declared.limits.Limits.{Limits}
 use Rattle.admission.specs.declared.replies.Reply.{Reply}
@@ -19,11 +21,11 @@ use Rattle.admission.specs.Events.{PlainEvent}
 use Rattle.admission.specs.Ruling.{ruling_of, verdict_of}
 use Rattle.admission.specs.Step.{with_effect, with_count, state_after, step}
 use Rattle.admission.specs.History.{PlainEntry, entry_of, IsLegal, replay}
-use Rattle.admission.specs.HistoryLaws.{StandsAfter, IsGrant, ToOpen, ToRaise, IsWithin, RecordedGrantsAreWithin, RecordedRaisesWereWithin}
+use Rattle.admission.specs.HistoryLaws.{StandsAfter, IsGrant, ToOpen, ToRaise, IsWithin, sum_named, IsRefusedRightly, RecordedGrantsAreWithin, RecordedRaisesWereWithin, RecordedLimitsAreAbove}
 use Rattle.admission.proofs.StepLemmas.{step_state}
 use Rattle.admission.proofs.HistoryLaws.{verdict_there}
 use Rattle.admission.proofs.OrderLemmas.{calls_in_order}
-use Rattle.admission.proofs.GrantLemmas.{gives_bandwidth, IsBehind, Other, Opening, Changing_to, behind}
+use Rattle.admission.proofs.GrantLemmas.{gives_bandwidth, IsBehind, Other, Refusing, Opening, Changing_to, behind}
 
 -- ---- who is found after a change
 -- none of a number that is less
@@ -114,10 +116,16 @@ module _ (s : State) (event : PlainEvent) (number units : ℕ) where
       })
 
   -- by what stands behind the ruling
-  granted_within : AreInOrder s.calls → IsBehind s (ruling_of s event)
+  granted_within : AreInOrder s.calls → IsBehind s event (ruling_of s event)
       → IsGrant s number units (verdict_of s event)
       → IsWithin (state_after s event (ruling_of s event)) number units
-  granted_within order (Other gives) grant = absurd (true≢false (sym (given grant) ∙ gives))
+  granted_within order (Other gives none) grant = absurd (true≢false (sym (given grant) ∙ gives))
+    where
+      given : {reply : Reply} → IsGrant s number units reply → gives_bandwidth reply ≡ true
+      given (ToOpen destination) = refl
+      given (ToRaise held found more) = refl
+  granted_within order (Refusing gives over call names asks fits) grant =
+      absurd (true≢false (sym (given grant) ∙ gives))
     where
       given : {reply : Reply} → IsGrant s number units reply → gives_bandwidth reply ≡ true
       given (ToOpen destination) = refl
@@ -205,10 +213,13 @@ recorded_grants_are_within commands limits entries before e number units legal s
 
 -- a raise
 raise_was_within : (s : State) (event : PlainEvent) (number units : ℕ) (held : OpenCall)
-    → AreInOrder s.calls → IsBehind s (ruling_of s event)
+    → AreInOrder s.calls → IsBehind s event (ruling_of s event)
     → verdict_of s event ≡ Changed number units → call_of s.calls number ≡ Some held
     → held.units < units → IsWithin s number held.units
-raise_was_within s event number units held order (Other gives) verdict found more =
+raise_was_within s event number units held order (Other gives none) verdict found more =
+    absurd (true≢false (sym (ap gives_bandwidth verdict) ∙ gives))
+raise_was_within s event number units held order (Refusing gives over call names asks fits) verdict
+    found more =
     absurd (true≢false (sym (ap gives_bandwidth verdict) ∙ gives))
 raise_was_within s event number units held order (Opening destination call is effect closed fits)
     verdict found more =
@@ -246,3 +257,28 @@ recorded_raises_were_within commands limits entries before e number units held l
     raise_was_within s e.event number units held
     (order_there commands limits entries before e legal stands) (behind s e.event)
     (verdict_is commands limits entries before e legal stands ∙ replied) found more
+
+-- a refusal for a limit
+refused_rightly : (s : State) (event : PlainEvent) (over : Over)
+    → IsBehind s event (ruling_of s event) → sum_named (verdict_of s event) ≡ Some over
+    → IsRefusedRightly s event over
+refused_rightly s event over (Other gives none) names =
+    absurd (none-some over (sym none ∙ names))
+refused_rightly s event over (Refusing gives named call is asks fits) names =
+    record {
+      call = call;
+      asks = asks;
+      above =
+          (refusal_names_a_sum s.commands s.calls call over
+          (fits ∙ ap Some (same_Some named over (sym is ∙ names)))).1;
+    }
+refused_rightly s event over (Opening destination call is effect closed fits) names =
+    absurd (none-some over (sym (ap sum_named is) ∙ names))
+refused_rightly s event over (Changing_to call asked id was is effect there fits) names =
+    absurd (none-some over (sym (ap sum_named is) ∙ names))
+
+pub recorded_limits_are_above : RecordedLimitsAreAbove
+recorded_limits_are_above commands limits entries before e over legal stands names =
+    let s = replay (opening_of commands limits) before in
+    refused_rightly s e.event over (behind s e.event)
+    (ap sum_named (verdict_is commands limits entries before e legal stands) ∙ names)

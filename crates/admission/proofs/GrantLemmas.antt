@@ -1,4 +1,4 @@
--- What is ruled if bandwidth is granted: the call fits.
+-- What is ruled if bandwidth is granted or refused: the call fits, or it does not.
 use Rattle.std.proofs.Common.{◌≡◌, Bool, true, false, cond, List, Option, Some, None, refl, sym, ap, ◌∙◌}
 use Rattle.std.specs.Prelude.{ℕ}
 use Rattle.registry.specs.Endpoint.{EndpointParts}
@@ -23,6 +23,7 @@ use Rattle.admission.specs.declared.rulings.Ruling.{Ruling}
 use Rattle.admission.specs.State.{State}
 use Rattle.admission.specs.Events.{PlainEvent, Registering, Unregistering, Admitting, Changing, Releasing}
 use Rattle.admission.specs.Routing.{route_of}
+use Rattle.admission.specs.HistoryLaws.{Asks, ToBeAdmitted, ToBeChanged, sum_named}
 use Rattle.admission.specs.Ruling.{unrouted, register_refusal, registration_unless, unregistration_ruling, admitted_call, admission_unless, admission_to, call_open_ruling, admission_ruling, change_unless, change_ruling, release_refused, release_ruling, ruling_of}
 
 -- the replies that may grant bandwidth
@@ -38,120 +39,139 @@ gives_bandwidth (ChangeRefused call reason) = false
 gives_bandwidth (Released call) = false
 gives_bandwidth (ReleaseRefused call reason) = false
 
--- what stands behind a ruling: none, a call that is not open and fits, or one that fits with more
-pub data IsBehind (s : State) (ruling : Ruling) : Type 0 where
-  Other : gives_bandwidth ruling.verdict ≡ false → IsBehind s ruling
+-- what stands behind a ruling: none, a call that does not fit, one that is not open and fits, or one
+-- that fits with more
+pub data IsBehind (s : State) (event : PlainEvent) (ruling : Ruling) : Type 0 where
+  Other : gives_bandwidth ruling.verdict ≡ false → sum_named ruling.verdict ≡ None
+      → IsBehind s event ruling
+  Refusing : gives_bandwidth ruling.verdict ≡ false → (over : Over) (call : OpenCall)
+      → sum_named ruling.verdict ≡ Some over → Asks s event call
+      → over_of s.commands s.calls call ≡ Some over → IsBehind s event ruling
   Opening : (destination : Destination) (call : OpenCall)
       → ruling.verdict ≡ Admitted call.number destination call.units
       → ruling.effect ≡ Open call → is_open s.calls call.number ≡ false
-      → over_of s.commands s.calls call ≡ None → IsBehind s ruling
+      → over_of s.commands s.calls call ≡ None → IsBehind s event ruling
   Changing_to : (number units : ℕ) (id : List ℕ) (held : OpenCall)
       → ruling.verdict ≡ Changed number units → ruling.effect ≡ Resize number id units
       → call_of s.calls number ≡ Some held
-      → over_of s.commands s.calls (record held { units = units }) ≡ None → IsBehind s ruling
+      → over_of s.commands s.calls (record held { units = units }) ≡ None → IsBehind s event ruling
 
 module _ (s : State) where
   registration_behind : (e : EndpointParts) (refusal : Option RegisterRefusal)
-      → IsBehind s (registration_unless s e refusal)
-  registration_behind e (Some refusal) = Other refl
-  registration_behind e None = Other refl
+      → IsBehind s (Registering e) (registration_unless s e refusal)
+  registration_behind e (Some refusal) = Other refl refl
+  registration_behind e None = Other refl refl
 
-  unregistration_behind : (id : List ℕ) → IsBehind s (unregistration_ruling s id)
+  unregistration_behind : (id : List ℕ)
+      → IsBehind s (Unregistering id) (unregistration_ruling s id)
   unregistration_behind id = by (is_registered s.endpoints id) (owns s.calls id)
     where
       by : (registered owning : Bool)
-          → IsBehind s
+          → IsBehind s (Unregistering id)
           (cond registered
           (cond owning (unrouted (UnregisterRefused id unregister.CallInProgress) Nothing)
           (unrouted (Unregistered id) (Remove id)))
           (unrouted (UnregisterRefused id unregister.NotRegistered) Nothing))
-      by false owning = Other refl
-      by true true = Other refl
-      by true false = Other refl
+      by false owning = Other refl refl
+      by true true = Other refl refl
+      by true false = Other refl refl
 
-  within_behind : (zone : List ℕ) (destination : Destination) (admitted : OpenCall)
-      (over : Option Over) → over_of s.commands s.calls admitted ≡ over
-      → is_open s.calls admitted.number ≡ false
-      → IsBehind s (admission_unless zone destination admitted over)
-  within_behind zone destination admitted (Some over) fits closed = Other refl
-  within_behind zone destination admitted None fits closed =
-      Opening destination admitted refl refl closed fits
+  module _ (id digits : List ℕ) (call units : ℕ) where
+    within_behind : (caller : EndpointParts) (destination : Destination) (over : Option Over)
+        → endpoint_of s.endpoints id ≡ Some caller
+        → over_of s.commands s.calls
+        (admitted_call caller call units (plan_of s.commands digits)) ≡ over
+        → is_open s.calls call ≡ false
+        → IsBehind s (Admitting id call digits units)
+        (admission_unless caller.zone destination
+        (admitted_call caller call units (plan_of s.commands digits)) over)
+    within_behind caller destination (Some over) there fits closed =
+        Refusing refl over (admitted_call caller call units (plan_of s.commands digits)) refl
+        (ToBeAdmitted id digits call units caller there) fits
+    within_behind caller destination None there fits closed =
+        Opening destination (admitted_call caller call units (plan_of s.commands digits)) refl refl
+        closed fits
 
-  module _ (call units : ℕ) (digits : List ℕ) where
-    to_behind : (caller : EndpointParts) (route : Route) → is_open s.calls call ≡ false
-        → IsBehind s (admission_to s caller call units (plan_of s.commands digits) route)
-    to_behind caller (Refused refusal) closed = Other refl
-    to_behind caller (To destination) closed =
-        let admitted = admitted_call caller call units (plan_of s.commands digits) in
-        within_behind caller.zone destination admitted (over_of s.commands s.calls admitted) refl
-        closed
+    to_behind : (caller : EndpointParts) (route : Route)
+        → endpoint_of s.endpoints id ≡ Some caller → is_open s.calls call ≡ false
+        → IsBehind s (Admitting id call digits units)
+        (admission_to s caller call units (plan_of s.commands digits) route)
+    to_behind caller (Refused refusal) there closed = Other refl refl
+    to_behind caller (To destination) there closed =
+        within_behind caller destination
+        (over_of s.commands s.calls
+        (admitted_call caller call units (plan_of s.commands digits))) there refl closed
 
-    admission_behind : (caller : Option EndpointParts)
-        → IsBehind s (admission_ruling s call digits units caller)
-    admission_behind None = Other refl
-    admission_behind (Some caller) = by (is_open s.calls call) refl
+    admission_behind : (caller : Option EndpointParts) → endpoint_of s.endpoints id ≡ caller
+        → IsBehind s (Admitting id call digits units) (admission_ruling s call digits units caller)
+    admission_behind None there = Other refl refl
+    admission_behind (Some caller) there = by (is_open s.calls call) refl
       where
-        by : (there : Bool) → is_open s.calls call ≡ there
-            → IsBehind s
-            (cond there (call_open_ruling caller call)
+        by : (open_already : Bool) → is_open s.calls call ≡ open_already
+            → IsBehind s (Admitting id call digits units)
+            (cond open_already (call_open_ruling caller call)
             (admission_to s caller call units (plan_of s.commands digits)
             (route_of s.commands s.endpoints caller.zone digits)))
-        by true same = Other refl
+        by true same = Other refl refl
         by false same =
-            to_behind caller (route_of s.commands s.endpoints caller.zone digits) same
+            to_behind caller (route_of s.commands s.endpoints caller.zone digits) there same
 
   module _ (id : List ℕ) (call : ℕ) where
     change_unless_behind : (units : ℕ) (held : OpenCall) (over : Option Over)
         → call_of s.calls call ≡ Some held
         → over_of s.commands s.calls (record held { units = units }) ≡ over
-        → IsBehind s (change_unless id call units over)
-    change_unless_behind units held (Some over) found fits = Other refl
+        → IsBehind s (Changing id call units) (change_unless id call units over)
+    change_unless_behind units held (Some over) found fits =
+        Refusing refl over (record held { units = units }) refl (ToBeChanged id call units held found)
+        fits
     change_unless_behind units held None found fits =
         Changing_to call units id held refl refl found fits
 
     change_behind : (units : ℕ) (held : Option OpenCall) → call_of s.calls call ≡ held
-        → IsBehind s (change_ruling s id call units held)
-    change_behind units None found = Other refl
+        → IsBehind s (Changing id call units) (change_ruling s id call units held)
+    change_behind units None found = Other refl refl
     change_behind units (Some held) found = by (has_owner id held)
       where
         by : (own : Bool)
-            → IsBehind s
+            → IsBehind s (Changing id call units)
             (cond own
             (change_unless id call units
             (over_of s.commands s.calls (record held { units = units })))
             (unrouted (ChangeRefused call change.NotYours) Nothing))
-        by false = Other refl
+        by false = Other refl refl
         by true =
             change_unless_behind units held
             (over_of s.commands s.calls (record held { units = units })) found refl
 
-    refused_behind : (reason : ReleaseRefusal) → IsBehind s (release_refused s id call reason)
+    refused_behind : (reason : ReleaseRefusal)
+        → IsBehind s (Releasing id call) (release_refused s id call reason)
     refused_behind reason = by (is_registered s.endpoints id)
       where
         by : (registered : Bool)
-            → IsBehind s
+            → IsBehind s (Releasing id call)
             (cond registered (unrouted (ReleaseRefused call reason) Nothing)
             (unrouted (ReleaseRefused call release.NotRegistered) Nothing))
-        by true = Other refl
-        by false = Other refl
+        by true = Other refl refl
+        by false = Other refl refl
 
-    release_behind : (held : Option OpenCall) → IsBehind s (release_ruling s id call held)
+    release_behind : (held : Option OpenCall)
+        → IsBehind s (Releasing id call) (release_ruling s id call held)
     release_behind None = refused_behind release.NoCall
     release_behind (Some held) = by (has_owner id held)
       where
         by : (own : Bool)
-            → IsBehind s
+            → IsBehind s (Releasing id call)
             (cond own (unrouted (Released call) (Close call id))
             (release_refused s id call release.NotYours))
         by false = refused_behind release.NotYours
-        by true = Other refl
+        by true = Other refl refl
 
 -- of each event
-pub behind : (s : State) (event : PlainEvent) → IsBehind s (ruling_of s event)
+pub behind : (s : State) (event : PlainEvent) → IsBehind s event (ruling_of s event)
 unfolding ruling_of
 behind s (Registering e) = registration_behind s e (register_refusal s e)
 behind s (Unregistering id) = unregistration_behind s id
 behind s (Admitting id call digits units) =
-    admission_behind s call units digits (endpoint_of s.endpoints id)
+    admission_behind s id digits call units (endpoint_of s.endpoints id) refl
 behind s (Changing id call units) = change_behind s id call units (call_of s.calls call) refl
 behind s (Releasing id call) = release_behind s id call (call_of s.calls call)

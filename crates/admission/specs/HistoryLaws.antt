@@ -7,17 +7,25 @@ use Rattle.command_reader.specs.declared.commands.Command.{Command}
 use Rattle.command_reader.specs.Configuration.{Configuration}
 use Rattle.command_reader.specs.Reading.{reading_in}
 use Rattle.compiler.specs.Last.{last_in}
+use Rattle.compiler.specs.Plan.{plan_of}
+use Rattle.registry.specs.Endpoint.{EndpointParts}
+use Rattle.registry.specs.Registration.{endpoint_of}
 use Rattle.bandwidth.specs.declared.open_call.OpenCall.{OpenCall}
-use Rattle.bandwidth.specs.Calls.{call_of}
-use Rattle.bandwidth.specs.FitLaws.{SumsAreWithin}
+use Rattle.bandwidth.specs.declared.over.Over.{Over}
+use Rattle.bandwidth.specs.Calls.{call_of, without_call}
+use Rattle.bandwidth.specs.FitLaws.{SumsAreWithin, IsAbove}
 use Rattle.admission.specs.declared.limits.Limits.{Limits}
 use Rattle.admission.specs.declared.routes.Destination.{Destination}
 use Rattle.admission.specs.declared.routes.RouteRefusal.{RouteRefusal}
-use Rattle.admission.specs.declared.replies.AdmitRefusal.TheVariants.{NoRoute}
+use Rattle.admission.specs.declared.replies.AdmitRefusal.{AdmitRefusal}
+use Rattle.admission.specs.declared.replies.AdmitRefusal.TheVariants as admit
+use Rattle.admission.specs.declared.replies.ChangeRefusal.{ChangeRefusal}
+use Rattle.admission.specs.declared.replies.ChangeRefusal.TheVariants as change
 use Rattle.admission.specs.declared.replies.Reply.{Reply}
-use Rattle.admission.specs.declared.replies.Reply.TheVariants.{Admitted, AdmitRefused, Changed}
+use Rattle.admission.specs.declared.replies.Reply.TheVariants.{Registered, RegisterRefused, Unregistered, UnregisterRefused, Admitted, AdmitRefused, Changed, ChangeRefused, Released, ReleaseRefused}
 use Rattle.admission.specs.State.{State, opening_of}
 use Rattle.admission.specs.Events.{PlainEvent, Registering, Unregistering, Admitting, Changing, Releasing}
+use Rattle.admission.specs.Ruling.{admitted_call}
 use Rattle.admission.specs.History.{PlainEntry, IsLegal, replay}
 use Rattle.admission.specs.RouteLaws.{IsRouted, IsUnrouted}
 
@@ -52,7 +60,7 @@ RecordedRefusalsAreUnrouted =
     → StandsAfter entries before e
     → (call units : ℕ) (id digits : List ℕ) (replied_call : ℕ) (refusal : RouteRefusal)
     → e.event ≡ Admitting id call digits units
-    → e.reply ≡ AdmitRefused replied_call (NoRoute refusal)
+    → e.reply ≡ AdmitRefused replied_call (admit.NoRoute refusal)
     → (replied_call ≡ call)
     × IsUnrouted (replay (opening_of configuration.commands limits) before) id digits refusal
 
@@ -92,6 +100,62 @@ RecordedRaisesWereWithin =
     → call_of (replay (opening_of commands limits) before).calls number ≡ Some held
     → held.units < units
     → IsWithin (replay (opening_of commands limits) before) number held.units
+
+-- the call for which an event asks bandwidth, as it would be: that of a registered caller, or an open
+-- one
+pub data Asks (s : State) : PlainEvent → OpenCall → Type 0 where
+  ToBeAdmitted : (id digits : List ℕ) (call units : ℕ) (caller : EndpointParts)
+      → endpoint_of s.endpoints id ≡ Some caller
+      → Asks s (Admitting id call digits units)
+      (admitted_call caller call units (plan_of s.commands digits))
+  ToBeChanged : (id : List ℕ) (call units : ℕ) (held : OpenCall)
+      → call_of s.calls call ≡ Some held
+      → Asks s (Changing id call units) (record held { units = units })
+
+-- the sum that a refusal names, if it is one for a limit
+abbrev pub sum_of_admission : AdmitRefusal → Option Over
+sum_of_admission admit.CallerNotRegistered = None
+sum_of_admission admit.CallOpen = None
+sum_of_admission (admit.NoRoute refusal) = None
+sum_of_admission (admit.OverLimit over) = Some over
+sum_of_admission admit.CallsFull = None
+sum_of_admission admit.RecordFull = None
+sum_of_admission admit.NoMemory = None
+
+abbrev pub sum_of_change : ChangeRefusal → Option Over
+sum_of_change change.NoCall = None
+sum_of_change change.NotYours = None
+sum_of_change (change.OverLimit over) = Some over
+sum_of_change change.RecordFull = None
+sum_of_change change.NoMemory = None
+
+abbrev pub sum_named : Reply → Option Over
+sum_named (Registered id zone) = None
+sum_named (RegisterRefused id reason) = None
+sum_named (Unregistered id) = None
+sum_named (UnregisterRefused id reason) = None
+sum_named (Admitted call destination units) = None
+sum_named (AdmitRefused call reason) = sum_of_admission reason
+sum_named (Changed call units) = None
+sum_named (ChangeRefused call reason) = sum_of_change reason
+sum_named (Released call) = None
+sum_named (ReleaseRefused call reason) = None
+
+-- the sum that is named would be above its limit, with the call that asks beside the others
+pub record IsRefusedRightly (s : State) (event : PlainEvent) (over : Over) : Type 0 where
+  pub call : OpenCall
+  pub asks : Asks s event call
+  pub above : IsAbove s.commands (without_call s.calls call.number) call over
+
+-- each refusal of a record for a limit names a sum that would be above it
+abbrev pub RecordedLimitsAreAbove : Type 0
+RecordedLimitsAreAbove =
+    (commands : List Command) (limits : Limits) (entries before : List PlainEntry) (e : PlainEntry)
+    (over : Over)
+    → IsLegal (opening_of commands limits) entries
+    → StandsAfter entries before e
+    → sum_named e.reply ≡ Some over
+    → IsRefusedRightly (replay (opening_of commands limits) before) e.event over
 
 -- ---- limits
 -- endpoints and calls are within their limits, and the record has room for its entries and for one

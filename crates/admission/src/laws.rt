@@ -1,7 +1,7 @@
 //! Theorems on how calls are routed, and on what every record keeps. Each is the contract of a
 //! function that does nothing.
 
-ghost use Rattle.admission.specs.HistoryLaws.{RecordedAdmissionsAreRouted, RecordedRefusalsAreUnrouted, RecordedGrantsAreWithin, RecordedRaisesWereWithin, RecordsAreSound};
+ghost use Rattle.admission.specs.HistoryLaws.{RecordedAdmissionsAreRouted, RecordedRefusalsAreUnrouted, RecordedGrantsAreWithin, RecordedRaisesWereWithin, RecordedLimitsAreAbove, RecordsAreSound};
 ghost use Rattle.admission.specs.RouteLaws.{AdmissionsAreRouted, RefusalsAreUnrouted, StrangersAreRefused, OpenNumbersAreRefused};
 
 /// Under an accepted configuration, in any state: if the verdict on an admission is a remote zone
@@ -51,6 +51,12 @@ pub fn recorded_grants_are_within()
 /// force.
 pub fn recorded_raises_were_within()
     ensures { RecordedRaisesWereWithin }
+{}
+
+/// In every legal history: each refusal for a limit, of an admission or of a bandwidth change, names
+/// a sum in which the call that asks counts, and that would be above its limit in force with it.
+pub fn recorded_limits_are_above()
+    ensures { RecordedLimitsAreAbove }
 {}
 
 /// Every legal history has the commands in force that were put in force last, as its version says,

@@ -12,5 +12,6 @@ fn laws_can_be_called(_rt: HostRuntime) {
     laws::recorded_refusals_are_unrouted();
     laws::recorded_grants_are_within();
     laws::recorded_raises_were_within();
+    laws::recorded_limits_are_above();
     laws::records_are_sound();
 }
