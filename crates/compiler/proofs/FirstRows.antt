@@ -1,6 +1,6 @@
 -- Rows without those whose pattern an earlier row has: the best one stays, and no pattern occurs
 -- twice.
-use Rattle.std.proofs.Common.{◌≡◌, ℕ, ◌+◌, ◌<◌, Bool, true, false, cond, nat_eq, ◌&&◌, ◌||◌, ◌⊎◌, inl, inr, List, [], ◌∷◌, ◌++◌, length, length-append, length-take-le, get_or, take, map, filter, fold, slice_get, refl, sym, ap, subst, ◌∙◌, arith, append_assoc, append-nil}
+use Rattle.std.proofs.Common.{◌≡◌, ℕ, suc, ◌+◌, ◌<◌, Bool, true, false, cond, nat_eq, ◌&&◌, ◌||◌, ◌⊎◌, inl, inr, List, [], ◌∷◌, ◌++◌, length, length-append, length-take-le, get_or, take, map, filter, fold, slice_get, refl, sym, ap, subst, ◌∙◌, arith, append_assoc, append-nil}
 use Rattle.std.specs.Prelude.{Option, Some, None, option_map}
 use Rattle.std.specs.List.{All}
 use Rattle.std.specs.Str.{bytes_eq}
@@ -301,6 +301,14 @@ module _ {V : Type 0} where
       sym (duplicate_of-beside (at_place rows) (places_of rows))
       ∙ ap duplicate_of (places [] rows 0 refl)
       ∙ duplicate_of-beside (λ row. Some row) rows
+
+  length-places_from : (place : ℕ) (rows : List (PatternParts × V))
+      → length (places_from place rows) ≡ length rows
+  length-places_from place [] = refl
+  length-places_from place (row ∷ rows) = ap suc (length-places_from (place + 1) rows)
+
+  pub length-places_of : (rows : List (PatternParts × V)) → length (places_of rows) ≡ length rows
+  length-places_of rows = length-places_from 0 rows
 
   places_from-one_more : (place : ℕ) (rows : List (PatternParts × V)) (row : PatternParts × V)
       → places_from place (rows ++ row ∷ []) ≡ places_from place rows

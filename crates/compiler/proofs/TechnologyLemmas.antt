@@ -1,5 +1,5 @@
 -- The longest technology prefix: by trying lengths, and as it is defined.
-use Rattle.std.proofs.Common.{◌≡◌, ℕ, zero, suc, ◌||◌, ◌&&◌, ◌+◌, ◌<◌, ◌≤◌, Bool, true, false, cond, nat_lt, nat_le, List, [], ◌∷◌, length, take, filter, slice_get, refl, sym, ap, ◌∙◌, arith, true≢false}
+use Rattle.std.proofs.Common.{◌≡◌, ℕ, zero, suc, ◌||◌, ◌&&◌, ◌+◌, ◌<◌, ◌≤◌, Bool, true, false, cond, nat_lt, nat_le, List, [], ◌∷◌, length, take, filter, slice_get, refl, sym, ap, subst, ◌∙◌, arith, true≢false}
 use Rattle.std.specs.Prelude.{min, Option, Some, None, option_map, is_some, bytes_eq}
 use Rattle.std.specs.Option.{option_map_or}
 use Rattle.std.specs.List.{list_all, prefix_len}
@@ -13,7 +13,7 @@ use Rattle.gk_terms.specs.TechPrefix.{is_technology_byte, is_tech_prefix}
 use Rattle.gk_terms.proofs.ChoiceLemmas.{first_unbeaten-IsFirstUnbeaten, first_unbeaten-none, IsRankOrder-by}
 use Rattle.command_reader.specs.declared.commands.Command.{Command}
 use Rattle.compiler.specs.Technology.{prefixes_of, begins_with, is_longer, technology_of}
-use Rattle.compiler.specs.TablesIndex.{Zones, Technologies, technology_at, is_among, AreTechnologies, IsFound, IsLongest}
+use Rattle.compiler.specs.TablesIndex.{Zones, Technologies, technology_at, is_among, AreTechnologies, AreWithin, IsFound, IsLongest}
 
 -- ---- texts that may be prefixes
 pub front_passes : (p : ℕ → Bool) (count : ℕ) (text : List ℕ) → count ≤ prefix_len p text
@@ -190,6 +190,25 @@ module _ (technologies : Technologies) (text : List ℕ) (most : ℕ) (h : IsMos
             longest = λ longer past all. up_to longer all
                 (λ below. tried longer (omega arith) below);
           }
+
+-- ---- how long a prefix is
+pub within_more : (old new : Technologies) (prefix : List ℕ) (hopoff : Option ℕ)
+    (longest longer : ℕ)
+    → AreWithin longest old
+    → ((other : List ℕ) → technology_at new other
+    ≡ cond (bytes_eq prefix other) (Some hopoff) (technology_at old other))
+    → longest ≤ longer → length prefix ≤ longer → AreWithin longer new
+within_more old new prefix hopoff longest longer within changed more fits other there =
+    by (bytes_eq prefix other) refl
+  where
+    by : (same : Bool) → bytes_eq prefix other ≡ same → length other ≤ longer
+    by true e = subst (λ text. length text ≤ longer) (same_text prefix other (sym e)) fits
+    by false e =
+        let before : is_some (technology_at old other) ≡ true =
+        ap is_some (sym (changed other
+        ∙ ap (λ t. cond t (Some hopoff) (technology_at old other)) e)) ∙ there in
+        let short = within other before in
+        omega (arith, short, more)
 
 -- ---- the longest of the declared prefixes
 -- what a filter keeps passes, and is among all

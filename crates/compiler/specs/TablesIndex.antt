@@ -81,6 +81,12 @@ Technologies = List (List ℕ × Option ℕ)
 abbrev pub technology_at : Technologies → List ℕ → Option (Option ℕ)
 technology_at technologies prefix = lookup (bytes_eq prefix) technologies
 
+-- each declared prefix is at most this long
+abbrev pub AreWithin : ℕ → Technologies → Type 0
+AreWithin longest technologies =
+    (prefix : List ℕ) → is_some (technology_at technologies prefix) ≡ true
+    → length prefix ≤ longest
+
 -- the hop-off zone of a prefix; none either if the prefix is not declared
 abbrev pub hopoff_at : Technologies → List ℕ → Option ℕ
 hopoff_at technologies prefix =

@@ -11,6 +11,7 @@ mod priorities;
 mod rows;
 pub mod tables;
 mod technologies;
+mod technology_map;
 #[cfg(test)]
 mod tests;
 mod zone_table;

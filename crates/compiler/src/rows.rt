@@ -15,11 +15,16 @@ use crate::picking::better;
 use crate::plans::ZoneNo;
 use crate::zone_table::number_of;
 use command_reader::{Command, ZoneKind};
-use digit_patterns::{Pattern, PlainTable, TableFault};
+use digit_patterns::Pattern;
 use gk_terms::Name;
 use gk_terms::limits::MOST_LINES;
 use indexmap::IndexMap;
+use raw_trie::{RawTrie, TrieFault};
 use std::alloc::{AllocError, Global};
+
+/// How many nodes the trie of the patterns may have. It is enough: at most 20,000 patterns of at
+/// most 32 characters have at most 640,001 different beginnings, the empty one included.
+const MOST_NODES: u32 = 1_048_576;
 
 /// The different patterns, in the order of their first lines, each with the number of the zone that
 /// is picked for it from those of all its lines.
@@ -75,20 +80,21 @@ fn add_row(
     Ok(())
 }
 
-/// The table of the patterns, each with the place of its row.
+/// The trie of the patterns, each with the place of its row.
 pub(crate) fn prefixes_in(
     alloc: Global,
     rows: &IndexMap<Pattern, ZoneNo>,
-) -> Result<PlainTable, AllocError>
+) -> Result<RawTrie, AllocError>
     requires few { length rows.now.entries ≤ MOST_LINES }
     requires distinct { duplicate_of rows.now.entries ≡ None }
     ensures { IfOk result (λ prefixes. prefixes ≡ places_of rows.now.entries) }
 {
     let places = places_of(alloc, rows)?;
-    match PlainTable::build(alloc, &places) {
+    match RawTrie::build(alloc, &places, MOST_NODES) {
         Ok(prefixes) => Ok(prefixes),
-        Err(TableFault::NoMemory) => Err(AllocError),
-        Err(TableFault::Duplicate(_)) => unreachable!(),
+        Err(TrieFault::Duplicate(_)) => unreachable!(),
+        Err(TrieFault::TooManyNodes) => unreachable!(),
+        Err(TrieFault::NoMemory) => Err(AllocError),
     }
 }
 

@@ -18,19 +18,22 @@ use crate::plans::{Plan, Routed, RowNo, USUAL_GATEWAY_PRIORITY, ZoneNo};
 use crate::priorities::priorities_in;
 use crate::rows::{prefixes_in, rows_in};
 use crate::technologies::{default_technology_in, technologies_in, technology_of};
+use crate::technology_map::TechnologyMap;
 use crate::zone_table::{first_local_in, kind_at, view_of, zones_in};
 use crate::zones::ZoneView;
 use command_reader::{Command, Commands, LimitKind, ZoneKind};
-use digit_patterns::{Pattern, PlainTable, PrefixTable};
+use digit_patterns::{Pattern, PrefixTable};
 use gk_terms::{Dialled, Name, TechPrefix, Version};
 use indexmap::IndexMap;
+use raw_trie::RawTrie;
 use std::alloc::{AllocError, Global};
 use std::marker::Model;
 
 /// A configuration made ready for look-ups. `zones` has the declared zones in line order, so that
 /// the number of a zone is its place. `rows` has the different patterns of the `zone prefix` lines
 /// in the order of their first lines, each with the number of the zone that is picked for it, so
-/// that the number of a row is its place; `prefixes` has the same patterns, each with that number.
+/// that the number of a row is its place; `prefixes` is a trie of the same patterns, each with that
+/// number, so that a look-up reads a bounded number of its nodes, however many patterns there are.
 /// `priorities` has, by the number of a row, the gateways that are named for it; a row for which
 /// none is named is not there. `technologies` has each declared technology prefix with the number
 /// of its picked hop-off zone. `limits` has the limits of each zone, at the place that is its
@@ -41,9 +44,9 @@ pub struct Tables {
     zones: IndexMap<Name, ZoneKind>,
     first_local: Name,
     rows: IndexMap<Pattern, ZoneNo>,
-    prefixes: PlainTable,
+    prefixes: RawTrie,
     priorities: IndexMap<u32, IndexMap<Name, u8>>,
-    technologies: IndexMap<TechPrefix, Option<ZoneNo>>,
+    technologies: TechnologyMap,
     default_technology: Option<TechPrefix>,
     rejects_unknown: bool,
     limits: Vec<ZoneLimits>,
@@ -59,7 +62,7 @@ impl Model for Tables {
     ghost view = { λ t. t.commands };
 
     ghost invariant = { λ t. IsIndex t.commands.commands t.zones.entries t.first_local
-        t.rows.entries t.prefixes t.priorities.entries t.technologies.entries
+        t.rows.entries t.prefixes t.priorities.entries t.technologies
         t.default_technology t.rejects_unknown t.limits.items t.remote_limit };
 }
 

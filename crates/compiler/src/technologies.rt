@@ -1,6 +1,6 @@
 //! Technology prefixes and their hop-off zones. From Cisco's `gw-type-prefix`.
 
-ghost use Rattle.std.specs.Prelude.{◌≡◌, ◌≤◌, ◌<◌, ℕ, ◌-◌, List, length, take, true, IfOk, OnOk, Some, None, option_map, is_some, bytes_eq, if◌then◌else◌};
+ghost use Rattle.std.specs.Prelude.{◌≡◌, ◌≤◌, ◌<◌, ℕ, ◌-◌, List, length, take, true, IfOk, OnOk, Some, None, is_some, bytes_eq, if◌then◌else◌};
 ghost use Rattle.std.specs.List.{list_all, prefix_len};
 ghost use Rattle.gk_terms.specs.declared.limits.TheConstants.{MOST_ZONES, MOST_TECHNOLOGY};
 ghost use Rattle.gk_terms.specs.TechPrefix.{is_technology_byte, is_tech_prefix};
@@ -9,6 +9,7 @@ ghost use Rattle.compiler.specs.TablesIndex.{best_after, technology_at, hopoff_a
 
 use crate::picking::best_after;
 use crate::plans::ZoneNo;
+use crate::technology_map::TechnologyMap;
 use command_reader::{Command, ZoneKind};
 use gk_terms::limits::MOST_TECHNOLOGY;
 use gk_terms::{Name, TechPrefix};
@@ -21,12 +22,12 @@ pub(crate) fn technologies_in(
     alloc: Global,
     commands: &[Command],
     zones: &IndexMap<Name, ZoneKind>,
-) -> Result<IndexMap<TechPrefix, Option<ZoneNo>>, AllocError>
+) -> Result<TechnologyMap, AllocError>
     requires { length zones.now.entries ≤ MOST_ZONES }
     ensures { IfOk result (λ technologies.
-        AreTechnologies zones.now.entries commands.now technologies.entries) }
+        AreTechnologies zones.now.entries commands.now technologies) }
 {
-    let mut technologies = IndexMap::new(alloc);
+    let mut technologies = TechnologyMap::new(alloc);
     for command in commands {
         if let Some(prefix) = prefix_in(command) {
             add_hopoffs(&mut technologies, zones, &prefix, hopoffs_named(command))?;
@@ -71,25 +72,24 @@ fn default_in(command: &Command) -> Option<TechPrefix>
 
 /// Adds a prefix, if it is new, and the hop-off zones that one more command names for it.
 fn add_hopoffs(
-    technologies: &mut IndexMap<TechPrefix, Option<ZoneNo>>,
+    technologies: &mut TechnologyMap,
     zones: &IndexMap<Name, ZoneKind>,
     prefix: &TechPrefix,
     hopoffs: &[Name],
 ) -> Result<(), AllocError>
     requires { length zones.now.entries ≤ MOST_ZONES }
     ensures added { OnOk result ((other : List ℕ)
-        → technology_at technologies.new.entries other ≡ (if bytes_eq prefix.now other
+        → technology_at technologies.new other ≡ (if bytes_eq prefix.now other
         then Some (best_after zones.now.entries
-        (hopoff_at technologies.old.entries prefix.now) hopoffs.now)
-        else technology_at technologies.old.entries other)) }
+        (hopoff_at technologies.old prefix.now) hopoffs.now)
+        else technology_at technologies.old other)) }
     ensures text { is_tech_prefix prefix.now ≡ true }
 {
     // So it is known what the text of a prefix is made of.
     let _text = prefix.as_bytes();
-    let before = technologies.get(prefix).copied().flatten();
+    let before = technologies.get(prefix).flatten();
     let best = best_after(zones, before, hopoffs);
-    technologies.insert(*prefix, best)?;
-    Ok(())
+    technologies.insert(prefix, best)
 }
 
 /// The default technology: the last command that sets one counts.
@@ -107,17 +107,17 @@ pub(crate) fn default_technology_in(commands: &[Command]) -> Option<TechPrefix>
 
 /// The longest declared prefix with which the text begins, with its hop-off zone if it has one.
 pub(crate) fn technology_of(
-    technologies: &IndexMap<TechPrefix, Option<ZoneNo>>,
+    technologies: &TechnologyMap,
     text: &[u8],
 ) -> Option<(TechPrefix, Option<ZoneNo>)>
     requires { (prefix : List ℕ)
-        → is_some (technology_at technologies.now.entries prefix) ≡ true
+        → is_some (technology_at technologies.now prefix) ≡ true
         → is_tech_prefix prefix ≡ true }
-    ensures { IsLongest technologies.now.entries text.now result }
+    ensures { IsLongest technologies.now text.now result }
 {
     let most = technology_bytes(text).min(MOST_TECHNOLOGY);
     for shorter in 0..most {
-        if let Some(found) = declared(technologies, &text[..most - shorter]) {
+        if let Some(found) = technologies.declared(&text[..most - shorter]) {
             return Some(found);
         }
     }
@@ -132,18 +132,4 @@ fn technology_bytes(text: &[u8]) -> usize
     text.iter()
         .take_while(|byte| byte.is_ascii_digit() || **byte == b'#')
         .count()
-}
-
-/// What is declared of a text as a prefix.
-fn declared(
-    technologies: &IndexMap<TechPrefix, Option<ZoneNo>>,
-    text: &[u8],
-) -> Option<(TechPrefix, Option<ZoneNo>)>
-    requires { is_tech_prefix text.now ≡ true }
-    ensures { result ≡ option_map (λ hopoff. (text.now, hopoff))
-        (technology_at technologies.now.entries text.now) }
-{
-    let prefix = TechPrefix::read(text).ok()?;
-    let hopoff = technologies.get(&prefix)?;
-    Some((prefix, *hopoff))
 }

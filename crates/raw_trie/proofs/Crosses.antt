@@ -26,7 +26,8 @@ u32-sync = search sendable
 
 words_from-Keyless : (b o room : ℕ) (xs : List ℕ) → Keyless (words_from b o room xs)
 words_from-Keyless b o room [] = tt
-words_from-Keyless b o room (x ∷ xs) = (part_keyless u32 u32-send full_share x b o, words_from-Keyless b (o + 4) (room - 1) xs)
+words_from-Keyless b o room (x ∷ xs) =
+    (part_keyless u32 u32-send full_share x b o, words_from-Keyless b (o + 4) (room - 1) xs)
 
 words_owned-Keyless : (p : Ptr) (room : ℕ) (xs : List ℕ) → Keyless (words_owned p room xs)
 words_owned-Keyless (block_ptr b o) room xs = words_from-Keyless b o room xs
@@ -43,16 +44,34 @@ words_lent-Common null_ptr xs κ = tt
 pub Words-send : IsSend words.the_row
 Words-send =
     let all : AllSend (fields words.the_type) = (search sendable, tt) in
-    owning_send words.the_type all (λ d. words_owned-Keyless d.at d.room d.words) (λ k. quiet (to words.the_type) (exits_of k (fields words.the_type)) ((struct_send (shape words.the_type) all).leaving k))
+    owning_send words.the_type all (λ d. words_owned-Keyless d.at d.room d.words)
+    (λ k. quiet (to words.the_type) (exits_of k (fields words.the_type))
+    ((struct_send (shape words.the_type) all).leaving k))
 
 pub Words-sync : IsSync words.the_row
-Words-sync = record { shared = λ d b o κ. ((struct_sync (shape words.the_type) (search sendable, tt)).shared (to words.the_type d) b o κ, words_lent-Common d.at d.words κ) }
+Words-sync = record {
+  shared =
+      λ d b o κ. (
+        (struct_sync (shape words.the_type) (search sendable, tt)).shared
+            (to words.the_type d) b o κ,
+        words_lent-Common d.at d.words κ,
+      );
+}
 
 module _ (A : RattleType) (g : Ghosts A.Denot) where
   pub Lease-send : Frees g g.dealloc_token → IsSend (lease.the_row A g)
   Lease-send f =
       let all : AllSend (fields (lease.the_type A g)) = (search sendable, tt) in
-      owning_send (lease.the_type A g) all (λ d. f.frees d.alloc _ d.at) (λ k. quiet (to (lease.the_type A g)) (exits_of k (fields (lease.the_type A g))) ((struct_send (shape (lease.the_type A g)) all).leaving k))
+      owning_send (lease.the_type A g) all (λ d. f.frees d.alloc _ d.at)
+      (λ k. quiet (to (lease.the_type A g)) (exits_of k (fields (lease.the_type A g)))
+      ((struct_send (shape (lease.the_type A g)) all).leaving k))
 
   pub Lease-sync : IsSync (lease.the_row A g)
-  Lease-sync = record { shared = λ d b o κ. ((struct_sync (shape (lease.the_type A g)) (search sendable, tt)).shared (to (lease.the_type A g) d) b o κ, tt) }
+  Lease-sync = record {
+    shared =
+        λ d b o κ. (
+          (struct_sync (shape (lease.the_type A g)) (search sendable, tt)).shared
+              (to (lease.the_type A g) d) b o κ,
+          tt,
+        );
+  }

@@ -16,7 +16,9 @@ abbrev pub Fieldless : RattleType
 Fieldless = Struct (record { name = []; args = []; types = []; fields = [] })
 
 -- one is made of nothing
-pub makes_empty : {M : Type 1} {𝓤 : Ura M} {𝓛 : Logic 𝓤} {K : Type 0} {Γ : List (Item 𝓤)} {G : Goal 𝓤 𝓛.H} → K → Step K 𝓛 (‵ (Fieldless.own_val tt (empty ∷ [])) ∷ Γ) G Γ G
+pub makes_empty : {M : Type 1} {𝓤 : Ura M} {𝓛 : Logic 𝓤} {K : Type 0} {Γ : List (Item 𝓤)}
+    {G : Goal 𝓤 𝓛.H} → K → Step K 𝓛 (‵ (Fieldless.own_val tt (empty ∷ [])) ∷ Γ) G Γ G
 makes_empty k = step (λ rest.
     nothing k $ feq_i k (List Val) (empty ∷ []) (empty ∷ []) refl $ fjoin k $
-    fpack k (Valss []) (within (record { name = []; args = []; types = []; fields = [] }) tt (empty ∷ [])) tt $ rest)
+    fpack k (Valss []) (within (record { name = []; args = []; types = []; fields = [] }) tt
+    (empty ∷ [])) tt $ rest)

@@ -7,6 +7,7 @@ pub mod Ends
 pub mod Fieldless
 pub mod Growth
 pub mod Insertion
+pub mod NodeBound
 pub mod Paths
 pub mod Same
 pub mod Search

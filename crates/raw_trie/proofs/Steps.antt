@@ -37,7 +37,8 @@ root_of rows = stays (all_rest rows) ([] ∷ []) (omega arith, refl)
     stays (t ∷ ts) paths at = stays ts (with_path paths t) (one paths t at)
 
 -- the digit at a place of the text
-digit_there : (text : List ℕ) (k : ℕ) → k < length text → option_and_then digit_of (slice_get text k) ≡ digit_of (get_or text k 0)
+digit_there : (text : List ℕ) (k : ℕ) → k < length text
+    → option_and_then digit_of (slice_get text k) ≡ digit_of (get_or text k 0)
 digit_there text k within = ap (option_and_then digit_of) (slice_get-get_or text k 0 within)
 
 -- one character more was walked
@@ -46,34 +47,53 @@ pub record Goes (rows : List Row) (text : List ℕ) (k next : ℕ) : Type 0 wher
   pub at : At (paths_of rows) next (take (k + 1) text)
   pub digit : is_ascii_digit (get_or text k 0) ≡ true
 
-pub goes_on : (rows : List Row) (text : List ℕ) (k next : ℕ) (digit : Option ℕ) → digit ≡ option_and_then digit_of (slice_get text k) → LeadsOn rows (take k text) digit next → next ≢ 0 → Goes rows text k next
+pub goes_on : (rows : List Row) (text : List ℕ) (k next : ℕ) (digit : Option ℕ)
+    → digit ≡ option_and_then digit_of (slice_get text k) → LeadsOn rows (take k text) digit next
+    → next ≢ 0 → Goes rows text k next
 goes_on rows text k next None is leads some = absurd (some leads)
 goes_on rows text k next (Some d) is leads some = by_place (cases_lt k (length text))
   where
     by_place : (k < length text) ⊎ (length text ≤ k) → Goes rows text k next
-    by_place (inr past) = absurd (let f : Some d ≡ None = is ∙ ap (option_and_then digit_of) (slice_get_past text k past) in cc)
-    by_place (inl early) = by_digit (is_ascii_digit (get_or text k 0)) refl (is ∙ digit_there text k early) leads
+    by_place (inr past) =
+        absurd (let f : Some d ≡ None = is
+        ∙ ap (option_and_then digit_of) (slice_get_past text k past) in cc)
+    by_place (inl early) =
+        by_digit (is_ascii_digit (get_or text k 0)) refl (is ∙ digit_there text k early) leads
       where
-        by_digit : (t : Bool) → is_ascii_digit (get_or text k 0) ≡ t → Some d ≡ digit_of (get_or text k 0) → LeadsTo (paths_of rows) (take k text ++ (d + 48) ∷ []) next → Goes rows text k next
-        by_digit false e f g = absurd (let h : Some d ≡ None = f ∙ ap (λ t. cond t (Some (get_or text k 0 - 48)) None) e in cc)
+        by_digit : (t : Bool) → is_ascii_digit (get_or text k 0) ≡ t
+            → Some d ≡ digit_of (get_or text k 0)
+            → LeadsTo (paths_of rows) (take k text ++ (d + 48) ∷ []) next → Goes rows text k next
+        by_digit false e f g =
+            absurd (let h : Some d ≡ None = f
+            ∙ ap (λ t. cond t (Some (get_or text k 0 - 48)) None) e in cc)
         by_digit true e f (inl none) = absurd (some none.0)
         by_digit true e f (inr there) =
-            let number : d ≡ get_or text k 0 - 48 = (let h : Some d ≡ Some (get_or text k 0 - 48) = f ∙ ap (λ t. cond t (Some (get_or text k 0 - 48)) None) e in cc) in
+            let number : d ≡ get_or text k 0 - 48 =
+            (let h : Some d ≡ Some (get_or text k 0 - 48) = f
+            ∙ ap (λ t. cond t (Some (get_or text k 0 - 48)) None) e in cc) in
             let range = digit_range (get_or text k 0) e in
             let character : d + 48 ≡ get_or text k 0 = omega arith in
             record {
               early = early;
-              at = subst (At (paths_of rows) next) (ap (λ c. take k text ++ c ∷ []) character ∙ sym (take_more text k 0 early)) there.1;
+              at = subst (At (paths_of rows) next)
+                  (ap (λ c. take k text ++ c ∷ []) character ∙ sym (take_more text k 0 early))
+                  there.1;
               digit = e;
             }
 
-pub digits_more : (text : List ℕ) (k : ℕ) → k < length text → list_all is_ascii_digit (take k text) ≡ true → is_ascii_digit (get_or text k 0) ≡ true → list_all is_ascii_digit (take (k + 1) text) ≡ true
-digits_more text k early all digit = list_all_more is_ascii_digit text k 0 early ∙ and_from _ _ all digit
+pub digits_more : (text : List ℕ) (k : ℕ) → k < length text
+    → list_all is_ascii_digit (take k text) ≡ true → is_ascii_digit (get_or text k 0) ≡ true
+    → list_all is_ascii_digit (take (k + 1) text) ≡ true
+digits_more text k early all digit =
+    list_all_more is_ascii_digit text k 0 early ∙ and_from _ _ all digit
 
 -- no matching row has more literals than were walked
-pub no_more_literals : (rows : List Row) (words text : List ℕ) (k next : ℕ) (digit : Option ℕ) → IsTrie rows (paths_of rows) words → digit ≡ option_and_then digit_of (slice_get text k) → LeadsOn rows (take k text) digit next → next ≡ 0
+pub no_more_literals : (rows : List Row) (words text : List ℕ) (k next : ℕ) (digit : Option ℕ)
+    → IsTrie rows (paths_of rows) words → digit ≡ option_and_then digit_of (slice_get text k)
+    → LeadsOn rows (take k text) digit next → next ≡ 0
     → (row : Row) → Contains rows row → Matches row.0 text → score_of row.0 < 66 * (k + 1)
-no_more_literals rows words text k next digit trie is leads stop row in' match = by (cases_lt (score_of row.0) (66 * (k + 1)))
+no_more_literals rows words text k next digit trie is leads stop row in' match =
+    by (cases_lt (score_of row.0) (66 * (k + 1)))
   where
     c : Counts row.0 (length text)
     c = counts_of row.0 text (trie.patterns row in') match
@@ -81,7 +101,8 @@ no_more_literals rows words text k next digit trie is leads stop row in' match =
     count : ℕ
     count = length row.0.literals
 
-    by : (score_of row.0 < 66 * (k + 1)) ⊎ (66 * (k + 1) ≤ score_of row.0) → score_of row.0 < 66 * (k + 1)
+    by : (score_of row.0 < 66 * (k + 1)) ⊎ (66 * (k + 1) ≤ score_of row.0)
+        → score_of row.0 < 66 * (k + 1)
     by (inl less) = less
     by (inr more) = absurd (clash digit is leads)
       where
@@ -103,33 +124,49 @@ no_more_literals rows words text k next digit trie is leads stop row in' match =
         literals = literals_in_front row.0 text match
 
         same_character : get_or row.0.literals k 0 ≡ get_or text k 0
-        same_character = ap (λ l. get_or l k 0) literals ∙ get_or-take (length row.0.literals) text k 0 longer
+        same_character = ap (λ l. get_or l k 0) literals
+            ∙ get_or-take (length row.0.literals) text k 0 longer
 
         is_digit : is_ascii_digit (get_or text k 0) ≡ true
-        is_digit = sym (ap is_ascii_digit same_character) ∙ is_digit_at row.0.literals k (digits_of row.0 (trie.patterns row in')) longer
+        is_digit = sym (ap is_ascii_digit same_character)
+            ∙ is_digit_at row.0.literals k (digits_of row.0 (trie.patterns row in')) longer
 
         front : take (k + 1) row.0.literals ≡ take k text ++ get_or text k 0 ∷ []
-        front = ap (take (k + 1)) literals ∙ take-take (k + 1) (length row.0.literals) text (omega (arith, longer)) ∙ take_more text k 0 early
+        front = ap (take (k + 1)) literals
+            ∙ take-take (k + 1) (length row.0.literals) text (omega (arith, longer))
+            ∙ take_more text k 0 early
 
-        spelled : path_of row.0 ≡ (take k text ++ get_or text k 0 ∷ []) ++ (drop (k + 1) row.0.literals ++ replicate row.0.dots 46)
+        spelled : path_of row.0 ≡ (take k text ++ get_or text k 0 ∷ []) ++ (drop (k + 1)
+            row.0.literals ++ replicate row.0.dots 46)
         spelled =
-            ap (λ l. l ++ replicate row.0.dots 46) (sym (take-append-drop (k + 1) row.0.literals) ∙ ap (λ l. l ++ drop (k + 1) row.0.literals) front)
-            ∙ append_assoc (take k text ++ get_or text k 0 ∷ []) (drop (k + 1) row.0.literals) (replicate row.0.dots 46)
+            ap (λ l. l ++ replicate row.0.dots 46)
+            (sym (take-append-drop (k + 1) row.0.literals)
+            ∙ ap (λ l. l ++ drop (k + 1) row.0.literals) front)
+            ∙ append_assoc (take k text ++ get_or text k 0 ∷ []) (drop (k + 1) row.0.literals)
+            (replicate row.0.dots 46)
 
         there : (m : ℕ) × At (paths_of rows) m (take k text ++ get_or text k 0 ∷ [])
-        there = let held = trie.held row in' in front_at rows (paths_of rows) words trie (drop (k + 1) row.0.literals ++ replicate row.0.dots 46) (take k text ++ get_or text k 0 ∷ []) held.0 (held.1.0, held.1.1 ∙ spelled)
+        there =
+            let held = trie.held row in' in
+            front_at rows (paths_of rows) words trie
+            (drop (k + 1) row.0.literals ++ replicate row.0.dots 46)
+            (take k text ++ get_or text k 0 ∷ []) held.0 (held.1.0, held.1.1 ∙ spelled)
 
         number : option_and_then digit_of (slice_get text k) ≡ Some (get_or text k 0 - 48)
-        number = digit_there text k early ∙ ap (λ t. cond t (Some (get_or text k 0 - 48)) None) is_digit
+        number = digit_there text k early
+            ∙ ap (λ t. cond t (Some (get_or text k 0 - 48)) None) is_digit
 
         character : get_or text k 0 - 48 + 48 ≡ get_or text k 0
         character = let range = digit_range (get_or text k 0) is_digit in omega arith
 
-        clash : (o : Option ℕ) → o ≡ option_and_then digit_of (slice_get text k) → LeadsOn rows (take k text) o next → ⊥
+        clash : (o : Option ℕ) → o ≡ option_and_then digit_of (slice_get text k)
+            → LeadsOn rows (take k text) o next → ⊥
         clash None e l = let f : None ≡ Some (get_or text k 0 - 48) = e ∙ number in cc
         clash (Some d) e l =
-            let same : d ≡ get_or text k 0 - 48 = (let f : Some d ≡ Some (get_or text k 0 - 48) = e ∙ number in cc) in
-            no_link (subst (λ x. LeadsTo (paths_of rows) (take k text ++ x ∷ []) next) (ap (λ x. x + 48) same ∙ character) l)
+            let same : d ≡ get_or text k 0 - 48 =
+            (let f : Some d ≡ Some (get_or text k 0 - 48) = e ∙ number in cc) in
+            no_link (subst (λ x. LeadsTo (paths_of rows) (take k text ++ x ∷ []) next)
+            (ap (λ x. x + 48) same ∙ character) l)
           where
             no_link : LeadsTo (paths_of rows) (take k text ++ get_or text k 0 ∷ []) next → ⊥
             no_link (inl none) = none.1 there.0 there.1
@@ -147,19 +184,26 @@ looks_split n k early = by (n - (k + 1)) (n - k) (omega arith)
     by m l e = ap most_looks e ∙ most_looks-suc m ∙ omega arith
 
 -- so many looks are left for what comes after, and its looks and those at the dots are not too many
-pub looks_on : (n k looks : ℕ) → k < n → (start : ℕ) → looks ≡ start + 1 → looks + most_looks (n - (k + 1)) + (n - k) ≤ start + most_looks (n - k)
-looks_on n k looks early start e = by (most_looks (n - k)) (most_looks (n - (k + 1))) (looks_split n k early)
+pub looks_on : (n k looks : ℕ) → k < n → (start : ℕ) → looks ≡ start + 1
+    → looks + most_looks (n - (k + 1)) + (n - k) ≤ start + most_looks (n - k)
+looks_on n k looks early start e =
+    by (most_looks (n - k)) (most_looks (n - (k + 1))) (looks_split n k early)
   where
     by : (a b : ℕ) → a ≡ b + (n - k + 1) → looks + b + (n - k) ≤ start + a
     by a b f = omega arith
 
 -- a node and its dots alone
-pub looks_end : (n k looks : ℕ) (start : ℕ) → looks ≡ start + 1 → looks + (n - k) ≤ start + most_looks (n - k)
+pub looks_end : (n k looks : ℕ) (start : ℕ) → looks ≡ start + 1
+    → looks + (n - k) ≤ start + most_looks (n - k)
 looks_end n k looks start e = by (n - k)
   where
     at_least : (m : ℕ) → m + 1 ≤ most_looks m
     at_least zero = omega arith
-    at_least (suc m) = let h = at_least m in let e : most_looks (m + 1) ≡ most_looks m + (m + 2) = most_looks-suc m in let f : most_looks (suc m) ≡ most_looks (m + 1) = ap most_looks (omega arith) in by_sum (most_looks (suc m)) (most_looks m) (f ∙ e) h
+    at_least (suc m) =
+        let h = at_least m in
+        let e : most_looks (m + 1) ≡ most_looks m + (m + 2) = most_looks-suc m in
+        let f : most_looks (suc m) ≡ most_looks (m + 1) = ap most_looks (omega arith) in
+        by_sum (most_looks (suc m)) (most_looks m) (f ∙ e) h
       where
         by_sum : (a b : ℕ) → a ≡ b + (m + 2) → m + 1 ≤ b → suc m + 1 ≤ a
         by_sum a b g h = omega arith

@@ -34,8 +34,11 @@ words_own p = (fields_of (RawPtr ∷ [])).own_val (p, tt)
 pub words_told : (p : Ptr) (vs : List Val) → shadow (words_own p vs) → vs ≡ words_val p ∷ []
 words_told p vs s = s.1.0 ∙ (λ i. vstruct (of_list (s.1.1.0 i ++ [])) ∷ [])
 
-pub words_made : {M : Type 1} {𝓤 : Ura M} (𝓛 : Logic 𝓤) (p : Ptr) → ent 𝓤 (emp 𝓤) (sem 𝓛 (words_own p (words_val p ∷ [])))
-words_made 𝓛 p = makes_shadow 𝓛 (words_own p (words_val p ∷ [])) (λ _. (tt, (tt, tt))) ((ptr_val p ∷ [], tt), (refl, (refl, tt)))
+pub words_made : {M : Type 1} {𝓤 : Ura M} (𝓛 : Logic 𝓤) (p : Ptr)
+    → ent 𝓤 (emp 𝓤) (sem 𝓛 (words_own p (words_val p ∷ [])))
+words_made 𝓛 p =
+    makes_shadow 𝓛 (words_own p (words_val p ∷ [])) (λ _. (tt, (tt, tt)))
+    ((ptr_val p ∷ [], tt), (refl, (refl, tt)))
 
 abbrev pub lease_val : Val
 lease_val = vstruct (vcons (vstruct vnil) vnil)
@@ -46,18 +49,25 @@ lease_own = (fields_of (fields_of [] ∷ [])).own_val (tt, tt)
 pub lease_told : (vs : List Val) → shadow (lease_own vs) → vs ≡ lease_val ∷ []
 lease_told vs s = s.1.0 ∙ (λ i. vstruct (of_list (s.1.1.0.1.0 i ++ [])) ∷ [])
 
-pub lease_made : {M : Type 1} {𝓤 : Ura M} (𝓛 : Logic 𝓤) → ent 𝓤 (emp 𝓤) (sem 𝓛 (lease_own (lease_val ∷ [])))
-lease_made 𝓛 = makes_shadow 𝓛 (lease_own (lease_val ∷ [])) (λ _. (tt, ((λ _. (tt, tt)), tt))) ((vstruct vnil ∷ [], tt), (refl, ((tt, (refl, tt)), tt)))
+pub lease_made : {M : Type 1} {𝓤 : Ura M} (𝓛 : Logic 𝓤)
+    → ent 𝓤 (emp 𝓤) (sem 𝓛 (lease_own (lease_val ∷ [])))
+lease_made 𝓛 =
+    makes_shadow 𝓛 (lease_own (lease_val ∷ [])) (λ _. (tt, ((λ _. (tt, tt)), tt)))
+    ((vstruct vnil ∷ [], tt), (refl, ((tt, (refl, tt)), tt)))
 
 abbrev pub pair_val : Val → Val → Val
 pair_val u v = vstruct (vcons u (vcons v vnil))
 
-pub pair_made : {M : Type 1} {𝓤 : Ura M} (𝓛 : Logic 𝓤) (R S : RattleType) (x : R.Denot) (y : S.Denot) (u v : Val)
-    → ent 𝓤 (sep 𝓤 (sem 𝓛 (R.own_val x (u ∷ []))) (sem 𝓛 (S.own_val y (v ∷ [])))) (sem 𝓛 ((Tuple (R ∷ S ∷ [])).own_val (x, y) (pair_val u v ∷ [])))
+pub pair_made : {M : Type 1} {𝓤 : Ura M} (𝓛 : Logic 𝓤) (R S : RattleType) (x : R.Denot)
+    (y : S.Denot) (u v : Val)
+    → ent 𝓤 (sep 𝓤 (sem 𝓛 (R.own_val x (u ∷ []))) (sem 𝓛 (S.own_val y (v ∷ []))))
+    (sem 𝓛 ((Tuple (R ∷ S ∷ [])).own_val (x, y) (pair_val u v ∷ [])))
 pair_made 𝓛 R S x y u v =
     qed 𝓛 (‵ (R.own_val x (u ∷ [])) ∷ ‵ (S.own_val y (v ∷ [])) ∷ []) ∵
-    nothing ! $ move ! (2 ∷ 0 ∷ []) $ fjoin ! $ move ! (1 ∷ 0 ∷ []) $ fjoin ! $ feq_i ! (List Val) (pair_val u v ∷ []) (pair_val u v ∷ []) refl $ fjoin ! $
-    fpack ! (Valss (R ∷ S ∷ [])) (within (Declared.shape (tuple_type (R ∷ S ∷ []))) (x, (y, tt)) (pair_val u v ∷ [])) (u ∷ [], (v ∷ [], tt)) $ done !
+    nothing ! $ move ! (2 ∷ 0 ∷ []) $ fjoin ! $ move ! (1 ∷ 0 ∷ []) $ fjoin ! $
+    feq_i ! (List Val) (pair_val u v ∷ []) (pair_val u v ∷ []) refl $ fjoin ! $
+    fpack ! (Valss (R ∷ S ∷ [])) (within (Declared.shape (tuple_type (R ∷ S ∷ []))) (x, (y, tt))
+    (pair_val u v ∷ [])) (u ∷ [], (v ∷ [], tt)) $ done !
 
 -- the first to the fourth parameter of a function
 abbrev pub nth_slot : {n : ℕ} → ℕ → List (Slot n) → Slot n

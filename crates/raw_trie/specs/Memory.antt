@@ -16,7 +16,8 @@ block_type room = raw (ty_array (ty_int w32) room)
 -- the words that were written, from the offset o of the block b on, and room for the others
 abbrev pub words_from : ℕ → ℕ → ℕ → List ℕ → Fml
 words_from b o room [] = froom (ty_array (ty_int w32) room) b o
-words_from b o room (x ∷ xs) = fsep (part_at u32 full_share x b o) (words_from b (o + 4) (room - 1) xs)
+words_from b o room (x ∷ xs) =
+    fsep (part_at u32 full_share x b o) (words_from b (o + 4) (room - 1) xs)
 
 abbrev pub words_owned : Ptr → ℕ → List ℕ → Fml
 words_owned (block_ptr b o) room xs = words_from b o room xs

@@ -90,7 +90,8 @@ impl Draft {
     /// Adds a node with no link and no end.
     fn add_node(&mut self) -> Result<u32, AllocError>
         ensures number { IfOk result (λ node. node ≡ length self.old.words.items / 15) }
-        ensures words { IfOk result (λ _. self.new.words.items ≡ self.old.words.items ++ replicate 15 0) }
+        ensures words { IfOk result (λ _.
+            self.new.words.items ≡ self.old.words.items ++ replicate 15 0) }
     {
         let nodes = self.nodes();
         if nodes > u32::MAX as usize {

@@ -62,8 +62,8 @@ impl Words {
     /// Room for so many words, none of them written yet, if there is memory.
     pub(crate) fn reserve<A: Allocator>(alloc: &A, room: usize) -> Option<(Words, Lease<A>)>
         requires { room < 2 ^ 40 }
-        ensures { IfSome result (λ b. (b.0.words ≡ []) × (b.0.room ≡ room) × (b.1.alloc ≡ alloc.now) ×
-            (b.1.at ≡ b.0.at) × (b.1.room ≡ room)) }
+        ensures { IfSome result (λ b. (b.0.words ≡ []) × (b.0.room ≡ room) ×
+            (b.1.alloc ≡ alloc.now) × (b.1.at ≡ b.0.at) × (b.1.room ≡ room)) }
     {
         match alloc.allocate(room * WORD_BYTES, WORD_BYTES) {
             Ok(block) => {

@@ -81,9 +81,10 @@ impl RawTrie {
     ///
     /// `Duplicate` if a row has the pattern of an earlier one, and then it names the first such
     /// row, counted from 0. `TooManyNodes` if no pattern is there twice and the patterns, their
-    /// stars left off, have more than `most` different beginnings, the empty one included.
-    /// `NoMemory` may come in place of any other answer. When it refuses, it has given back all
-    /// memory it took.
+    /// stars left off, have more than `most` different beginnings, the empty one included; since a
+    /// pattern has at most 32 characters, it never comes if `most` is more than 32 times the number
+    /// of rows. `NoMemory` may come in place of any other answer. When it refuses, it has given
+    /// back all memory it took.
     pub fn build(alloc: Global, rows: &[(Pattern, u32)], most: u32) -> Result<RawTrie, TrieFault>
         ensures built { IfOk result (λ trie. trie ≡ rows.now) }
         ensures distinct { IsOk result → duplicate_of rows.now ≡ None }
@@ -92,6 +93,7 @@ impl RawTrie {
         ensures few { IsOk result → node_count (patterns_of rows.now) ≤ most }
         ensures too_many { result ≡ Err TrieFault.TooManyNodes →
             (duplicate_of rows.now ≡ None) × (most < node_count (patterns_of rows.now)) }
+        ensures enough { result ≡ Err TrieFault.TooManyNodes → most ≤ 32 * length rows.now }
     {
         let mut draft = Draft::new(alloc)?;
         let mut meaning = Meaning::new();
@@ -125,7 +127,8 @@ impl RawTrie {
         requires digit { IfSome digit (λ d. d < 10) }
         requires few { looks.old < 2000 }
         ensures shown { Shows self.now (slice_index_or (paths_of self.now) node []) result }
-        ensures next { LeadsOn self.now (slice_index_or (paths_of self.now) node []) digit result.next }
+        ensures next { LeadsOn self.now (slice_index_or (paths_of self.now) node []) digit
+            result.next }
         ensures counted { looks.new ≡ looks.old + 1 }
     {
         *looks += 1;

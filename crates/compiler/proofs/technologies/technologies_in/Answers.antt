@@ -14,13 +14,13 @@ loop-command-preserved c =
       | in-Some+in_ok-add_hopoffs w ↦
           rw (more, w.technologies-is)
           (technologies_more zones (take place commands) c.command-item.result w.in-Some.prefix
-          c.loop-command.technologies.entries w.add_hopoffs.new.technologies.entries
+          c.loop-command.technologies w.add_hopoffs.new.technologies
           c.loop-command.invariant (sym c.prefix_in.ensures ∙ w.in-Some.is)
           (rw w.hopoffs_named.ensures at w.in_ok-add_hopoffs.ensures.added)
           w.in_ok-add_hopoffs.ensures.text)
       | in_default w ↦
           rw (more, w.technologies-is)
           (technologies_same zones (take place commands) c.command-item.result
-          c.loop-command.technologies.entries c.loop-command.invariant
+          c.loop-command.technologies c.loop-command.invariant
           (sym c.prefix_in.ensures ∙ w.in_default.is))
     ]

@@ -13,7 +13,7 @@ declared-requires c =
 pub returns-in-Some : goal.returns-in-Some
 returns-in-Some c =
     let within : c.loop-shorter.shorter < c.min-most.result = c.loop-shorter-test.true in
-    found_longest c.args.technologies.now.entries c.args.text.now c.min-most.result
+    found_longest c.args.technologies.now c.args.text.now c.min-most.result
     (most_is _ _ _ c.technology_bytes.ensures.counted c.technology_bytes.ensures.within
     c.min-most.ensures) c.requires
     (c.min-most.result - c.loop-shorter.shorter) c.in-Some.found.0 c.in-Some.found.1
@@ -22,7 +22,7 @@ returns-in-Some c =
 
 pub returns : goal.returns
 returns c =
-    found_none c.args.technologies.now.entries c.args.text.now c.min-most.result
+    found_none c.args.technologies.now c.args.text.now c.min-most.result
     (most_is _ _ _ c.technology_bytes.ensures.counted c.technology_bytes.ensures.within
     c.min-most.ensures) c.requires
     (λ count some most. c.loop-shorter.invariant count

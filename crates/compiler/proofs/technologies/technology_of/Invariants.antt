@@ -5,4 +5,4 @@ use Rattle.compiler.proofs.technologies.technology_of.Given as goal
 abbrev pub invariant-loop-shorter : goal.invariant-loop-shorter
 invariant-loop-shorter l =
     (length : ℕ) → l.most < length + l.shorter → length ≤ l.most
-    → technology_at l.technologies.entries (take length l.text) ≡ None
+    → technology_at l.technologies (take length l.text) ≡ None

@@ -6,4 +6,6 @@ pub longest_from-best-requires-clause-at : goal.longest_from-best-requires-claus
 longest_from-best-requires-clause-at c = root_of c.args.trie.now
 
 pub returns-clause-hit : goal.returns-clause-hit
-returns-clause-hit c = best_at_end c.args.trie.now c.args.text.now c.longest_from-best.result c.longest_from-best.ensures.once c.longest_from-best.ensures.top
+returns-clause-hit c =
+    best_at_end c.args.trie.now c.args.text.now c.longest_from-best.result
+    c.longest_from-best.ensures.once c.longest_from-best.ensures.top

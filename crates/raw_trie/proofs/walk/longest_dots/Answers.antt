@@ -6,35 +6,61 @@ use Rattle.raw_trie.proofs.walk.longest_dots.Goals as goal
 
 pub loop-dots-preserved : goal.loop-dots-preserved
 loop-dots-preserved c =
-    let rows = c.args.trie.now in let text = c.args.text.now in let k = c.args.literals in let j = c.loop-dots.dots in
+    let rows = c.args.trie.now in
+    let text = c.args.text.now in
+    let k = c.args.literals in
+    let j = c.loop-dots.dots in
     let early : k + j < length text = omega (arith, c.requires.within, c.loop-dots-test.true) in
     let inside : k + j ≤ length text = omega arith in
     let shown = c.loop-dots.invariant.shown in let seen = c.loop-dots.seen in
-    let starred = starred_step rows text c.requires.short k j inside c.requires.digits seen shown (66 * k) c.loop-dots.best c.loop-dots.invariant.found in
-    let next = next_step rows text c.requires.short k j inside c.requires.digits seen shown early (66 * k) _ starred in
-    let on = dot_on rows text c.requires.short k j inside c.requires.digits seen shown c.if-seen-eq0.false in
+    let starred =
+    starred_step rows text c.requires.short k j inside c.requires.digits seen shown (66 * k)
+    c.loop-dots.best c.loop-dots.invariant.found in
+    let next =
+    next_step rows text c.requires.short k j inside c.requires.digits seen shown early (66 * k) _
+    starred in
+    let on =
+    dot_on rows text c.requires.short k j inside c.requires.digits seen shown c.if-seen-eq0.false in
     record {
       shown = subst (λ p. Shows rows p c.look_at-seen.result) on.1 c.look_at-seen.ensures.shown;
-      found = subst (IsFound rows text (66 * k) (66 * k + 2 * (j + 1))) (sym c.with_hit-best.ensures) next;
+      found = subst (IsFound rows text (66 * k) (66 * k + 2 * (j + 1)))
+          (sym c.with_hit-best.ensures) next;
       within = omega arith;
       counted = omega (arith, c.look_at-seen.ensures.counted, c.loop-dots.invariant.counted);
     }
 
 pub returns-then-seen-eq0-clause-found : goal.returns-then-seen-eq0-clause-found
 returns-then-seen-eq0-clause-found c =
-    let rows = c.args.trie.now in let text = c.args.text.now in let k = c.args.literals in let j = c.loop-dots.dots in
+    let rows = c.args.trie.now in
+    let text = c.args.text.now in
+    let k = c.args.literals in
+    let j = c.loop-dots.dots in
     let early : k + j < length text = omega (arith, c.requires.within, c.loop-dots-test.true) in
     let inside : k + j ≤ length text = omega arith in
     let shown = c.loop-dots.invariant.shown in let seen = c.loop-dots.seen in
-    let starred = starred_step rows text c.requires.short k j inside c.requires.digits seen shown (66 * k) c.loop-dots.best c.loop-dots.invariant.found in
-    subst (IsFound rows text (66 * k) (66 * (k + 1))) (sym c.with_hit-best.ensures) (stop_step rows text c.requires.short k j inside c.requires.digits seen shown early c.if-seen-eq0.true (66 * k) _ starred)
+    let starred =
+    starred_step rows text c.requires.short k j inside c.requires.digits seen shown (66 * k)
+    c.loop-dots.best c.loop-dots.invariant.found in
+    subst (IsFound rows text (66 * k) (66 * (k + 1))) (sym c.with_hit-best.ensures)
+    (stop_step rows text c.requires.short k j inside c.requires.digits seen shown early
+    c.if-seen-eq0.true (66 * k) _ starred)
 
 pub returns-clause-found : goal.returns-clause-found
 returns-clause-found c =
-    let rows = c.args.trie.now in let text = c.args.text.now in let k = c.args.literals in let j = c.loop-dots.dots in
+    let rows = c.args.trie.now in
+    let text = c.args.text.now in
+    let k = c.args.literals in
+    let j = c.loop-dots.dots in
     let inside : k + j ≤ length text = c.loop-dots.invariant.within in
-    let full : k + j ≡ length text = omega (arith, c.requires.within, c.loop-dots-test.false, inside) in
+    let full : k + j ≡ length text =
+    omega (arith, c.requires.within, c.loop-dots-test.false, inside) in
     let shown = c.loop-dots.invariant.shown in let seen = c.loop-dots.seen in
-    let starred = starred_step rows text c.requires.short k j inside c.requires.digits seen shown (66 * k) c.loop-dots.best c.loop-dots.invariant.found in
-    let here : IsFound rows text (66 * k) (66 * k + 2 * j + 1) c.with_hit-best-2.result = subst (IsFound rows text (66 * k) (66 * k + 2 * j + 1)) (sym c.with_hit-best-2.ensures) starred in
-    subst (IsFound rows text (66 * k) (66 * (k + 1))) (sym c.with_hit.ensures) (plain_step rows text c.requires.short k j inside c.requires.digits seen shown full (66 * k) c.with_hit-best-2.result here)
+    let starred =
+    starred_step rows text c.requires.short k j inside c.requires.digits seen shown (66 * k)
+    c.loop-dots.best c.loop-dots.invariant.found in
+    let here : IsFound rows text (66 * k) (66 * k + 2 * j + 1) c.with_hit-best-2.result =
+    subst (IsFound rows text (66 * k) (66 * k + 2 * j + 1)) (sym c.with_hit-best-2.ensures)
+    starred in
+    subst (IsFound rows text (66 * k) (66 * (k + 1))) (sym c.with_hit.ensures)
+    (plain_step rows text c.requires.short k j inside c.requires.digits seen shown full (66 * k)
+    c.with_hit-best-2.result here)

@@ -46,7 +46,7 @@ invariant_of-result c =
     subst (λ (commands : List Command). IsIndex commands c.in_ok-zones.zones.entries
     c.in-Some.first_local
     c.in_ok-rows.rows.entries c.in_ok-prefixes.prefixes c.in_ok-priorities.priorities.entries
-    c.in_ok-technologies.technologies.entries c.default_technology_in-default_technology.result
+    c.in_ok-technologies.technologies c.default_technology_in-default_technology.result
     c.rejects_unknown-rejects_unknown.result c.in_ok-limits.limits.items
     c.remote_limit_in-remote_limit.result)
     c.as_slice-lines.ensures.commands

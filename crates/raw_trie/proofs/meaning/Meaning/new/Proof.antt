@@ -26,7 +26,8 @@ new_spec 𝓤 𝓛 𝓜 𝓡 wired =
     (λ κs. tt) (λ κs. tt) (λ κs qs bounds a none are.
     let y : W.Ghost = ((κs, qs, bounds, a, tt), none) in
     let made : the_row.Denot = record { rows = [] } in
-    qed 𝓛 ((raw (alive 𝓛 f.ended.signature κs qs) ⊛ ‵ (owns (types_at f.ended.signature.params κs) a tt)) ∷ raw ((c κs a).requires none) ∷ []) ∵
+    qed 𝓛 ((raw (alive 𝓛 f.ended.signature κs qs)
+    ⊛ ‵ (owns (types_at f.ended.signature.params κs) a tt)) ∷ raw ((c κs a).requires none) ∷ []) ∵
     keep ! (0 ∷ []) $ split ! $ move ! (1 ∷ []) $ drop ! $
     enter ! _ _ _ _ _ $ alloc_all ! (λ l. pass_all ! refl tt $
     sets ! (agg ! (no_more !)) refl (tt, tt) $

@@ -13,5 +13,7 @@ use Rattle.raw_trie.proofs.memory.Lease.TheLaw.Statement.{statement}
 
 pub shares : (A : RattleType) (g : Ghosts A.Denot) (L : Laws A) → statement A g L
 shares A g L =
-    of_Lends (lease.struct A g) (lease.the_codes A.Denot A.coded (marker.the_row RawPtr).coded) (lease.the_heap A g) (lease.the_lent A g) (λ d p. nothing_shr_laws)
-    (copy_shared (marker.the_field RawPtr) (field_copy (marker.the_type RawPtr) tt), tt) (λ M 𝓤 𝓛 d p. Lends-nothing 𝓛 (lease.the_heap A g d) (lease.the_row A g).lives)
+    of_Lends (lease.struct A g) (lease.the_codes A.Denot A.coded (marker.the_row RawPtr).coded)
+    (lease.the_heap A g) (lease.the_lent A g) (λ d p. nothing_shr_laws)
+    (copy_shared (marker.the_field RawPtr) (field_copy (marker.the_type RawPtr) tt), tt)
+    (λ M 𝓤 𝓛 d p. Lends-nothing 𝓛 (lease.the_heap A g d) (lease.the_row A g).lives)
