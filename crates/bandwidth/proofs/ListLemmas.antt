@@ -1,6 +1,6 @@
 -- The map of calls by number is the list of them in order.
 use Rattle.std.proofs.Common.{◌≡◌, ℕ, ◌*◌, ◌<◌, ◌≤◌, Bool, true, false, cond, List, [], ◌∷◌, ◌++◌, length, refl, sym, ap, subst, ◌∙◌, arith}
-use Rattle.std.specs.Prelude.{◌==◌, Option, Some, None, Result, Ok, Err, not, is_some, is_ok, OnErr, filter, nat_lt}
+use Rattle.std.specs.Prelude.{◌==◌, Some, not, is_some, filter, nat_lt}
 use Rattle.std.specs.declared.cmp.Ordering.{Ordering}
 use Rattle.std.specs.declared.cmp.Ordering.TheVariants.{Less, Equal, Greater}
 use Rattle.std.specs.Ordering.{MatchOrdering, nat_cmp, match_ordering}
@@ -8,8 +8,8 @@ use Rattle.std.specs.Cmp.{unsigned_tied}
 use Rattle.std.specs.BTreeMap.{is_at, insert_entry}
 use Rattle.std.specs.List.{AllByRecursion}
 use Rattle.std.specs.List.Sorted.{IsStrictlySortedBy}
-use Rattle.std.specs.Map.{keys_of, values_of, lookup, remove_entry}
-use Rattle.std.proofs.lemmas.Bool.{both_ways, lt-ltb, le-ltb, eqb-true, eq-eqb, ne_eqb}
+use Rattle.std.specs.Map.{keys_of, values_of, lookup, remove_entry, set_value}
+use Rattle.std.proofs.lemmas.Bool.{both_ways, lt-ltb, le-ltb, eqb-true, eq-eqb}
 use Rattle.std.proofs.lemmas.Cmp.{ranked, nat_eq_equiv}
 use Rattle.std.proofs.lemmas.Option.{none-some, same_Some}
 use Rattle.std.proofs.lemmas.Map.Keys.{sorted_head, sorted_tail}
@@ -18,7 +18,7 @@ use Rattle.bandwidth.specs.declared.open_call.OpenCall.{OpenCall}
 use Rattle.bandwidth.specs.CallList.{IsUnderNumber}
 use Rattle.bandwidth.specs.Calls.{has_number, call_of, is_open, with_call, without_call, with_changed}
 use Rattle.bandwidth.specs.Use.{units_of}
-use Rattle.bandwidth.proofs.CallLemmas.{Ascend, open_if_found, none_if_closed, closed_after, closed_head, closed_tail, without_none, changed_none}
+use Rattle.bandwidth.proofs.CallLemmas.{Ascend, open_if_found, closed_after, closed_head, closed_tail, without_none, changed_none}
 
 abbrev Entries : Type 0
 Entries = List (ℕ × OpenCall)
@@ -186,53 +186,61 @@ list_with (e ∷ es) h sorted call closed =
         ∙ after_lesser e.1 (values_of es) call (omega (arith, low, its))
 
 -- ---- another bandwidth
+-- the call of a number is written, if there is one, and else nothing
+pub numbered_changed : (number : ℕ) (call : OpenCall) → IsUnderNumber (number, call)
+    → (entries : Entries) → AreNumbered entries
+    → AreNumbered (set_value (is_at (nat_cmp number)) entries call)
+numbered_changed number call own [] h = tt
+numbered_changed number call own (e ∷ es) h =
+    by (is_at (nat_cmp number) e.0) (same_test number e h.0)
+    (numbered_changed number call own es h.1)
+  where
+    by : (t : Bool) → t ≡ has_number number e.1
+        → AreNumbered (set_value (is_at (nat_cmp number)) es call)
+        → AreNumbered (cond t ((e.0, call) ∷ es)
+        (e ∷ set_value (is_at (nat_cmp number)) es call))
+    by true k rest = (
+      record {
+        number = h.0.number ∙ eqb-true e.1.number number (sym k) ∙ own.number;
+        small = own.small;
+      },
+      h.1,
+    )
+    by false k rest = (h.0, rest)
+
 pub list_changed : (number units : ℕ) (held : OpenCall) (entries : Entries) → AreNumbered entries
     → AreSorted entries → call_of (values_of entries) number ≡ Some held
-    → values_of (insert_entry nat_cmp entries number (record held { units = units }))
+    → values_of (set_value (is_at (nat_cmp number)) entries (record held { units = units }))
     ≡ with_changed (values_of entries) number units
 list_changed number units held [] h sorted there = absurd (none-some held there)
 list_changed number units held (e ∷ es) h sorted there =
-    by (nat_cmp number e.0) refl
+    ap (λ t. values_of (cond t ((e.0, changed) ∷ es)
+    (e ∷ set_value (is_at (nat_cmp number)) es changed))) (same_test number e h.0)
+    ∙ by (has_number number e.1) refl there
     (list_changed number units held es h.1 (sorted_tail nat_cmp e.0 (keys_of es) sorted))
   where
     changed : OpenCall
     changed = record held { units = units }
 
-    by : (o : Ordering) → nat_cmp number e.0 ≡ o
+    by : (t : Bool) → has_number number e.1 ≡ t
+        → cond t (Some e.1) (call_of (values_of es) number) ≡ Some held
         → (call_of (values_of es) number ≡ Some held
-        → values_of (insert_entry nat_cmp es number changed)
+        → values_of (set_value (is_at (nat_cmp number)) es changed)
         ≡ with_changed (values_of es) number units)
-        → values_of (match_ordering o ((number, changed) ∷ e ∷ es) ((e.0, changed) ∷ es)
-        (e ∷ insert_entry nat_cmp es number changed))
-        ≡ with_changed (values_of (e ∷ es)) number units
-    by Less k rest =
-        absurd (none-some held
-        (sym (none_if_closed (values_of (e ∷ es)) number
-        (closed_after number (values_of (e ∷ es)) (first_above number e es h sorted k))) ∙ there))
-    by Equal k rest =
-        let here : has_number number e.1 ≡ true =
-        eq-eqb e.1.number number (sym (same number e.0 k ∙ h.0.number)) in
-        let it : e.1 ≡ held =
-        same_Some e.1 held
-        (ap (λ t. cond t (Some e.1) (call_of (values_of es) number)) (sym here) ∙ there) in
+        → values_of (cond t ((e.0, changed) ∷ es)
+        (e ∷ set_value (is_at (nat_cmp number)) es changed))
+        ≡ cond t (record e.1 { units = units }) e.1 ∷ with_changed (values_of es) number units
+    by true k it rest =
+        let its : e.0 ≡ number = h.0.number ∙ eqb-true e.1.number number k in
         let closed : is_open (values_of es) number ≡ false =
         closed_after number (values_of es)
-        (subst (λ n. AllByRecursion (λ c. n < c.number) (values_of es)) (sym (same number e.0 k))
+        (subst (λ n. AllByRecursion (λ c. n < c.number) (values_of es)) its
         (all_above e.0 es h.1 (sorted_head nat_cmp e.0 (keys_of es) sorted))) in
-        ap (λ (c : OpenCall). record c { units = units } ∷ values_of es) (sym it)
+        ap (λ (c : OpenCall). record c { units = units } ∷ values_of es)
+        (sym (same_Some e.1 held it))
         ∙ ap (λ cs. record e.1 { units = units } ∷ cs)
         (sym (changed_none (values_of es) number units closed))
-        ∙ ap (λ t. cond t (record e.1 { units = units }) e.1
-        ∷ with_changed (values_of es) number units) (sym here)
-    by Greater k rest =
-        let low = above number e.0 k in
-        let its = h.0.number in
-        let other : has_number number e.1 ≡ false =
-        ne_eqb e.1.number number (λ x. let never : ⊥ = omega (arith, low, its, x) in never) in
-        ap (λ cs. e.1 ∷ cs)
-        (rest (ap (λ t. cond t (Some e.1) (call_of (values_of es) number)) (sym other) ∙ there))
-        ∙ ap (λ t. cond t (record e.1 { units = units }) e.1
-        ∷ with_changed (values_of es) number units) (sym other)
+    by false k it rest = ap (λ cs. e.1 ∷ cs) (rest it)
 
 -- ---- without a call
 pub numbered_without : (number : ℕ) (entries : Entries) → AreNumbered entries
@@ -268,9 +276,3 @@ list_without number (e ∷ es) h sorted =
         (subst (λ n. AllByRecursion (λ c. n < c.number) (values_of es)) its
         (all_above e.0 es h.1 (sorted_head nat_cmp e.0 (keys_of es) sorted)))))
     by false k rest = ap (λ cs. e.1 ∷ cs) rest
-
--- ---- an insert that cannot fail
-pub never_fails : {T E : Type 0} (r : Result T E) (o : Option OpenCall) (held : OpenCall)
-    → OnErr r (o ≡ None) → o ≡ Some held → is_ok r ≡ true
-never_fails (Ok x) o held absent there = refl
-never_fails (Err e) o held absent there = absurd (none-some held (sym absent ∙ there))

@@ -1,13 +1,12 @@
--- How many calls there are after one is opened, changed or closed, and which call is refused.
+-- How many calls there are after one is opened, changed or closed, and which call an ID owns.
 use Rattle.std.proofs.Common.{◌≡◌, ℕ, suc, ◌+◌, ◌≤◌, Bool, true, false, cond, List, [], ◌∷◌, length, refl, ap, arith}
 use Rattle.std.specs.Prelude.{Ok, Err, Option, Some, None, not}
 use Rattle.std.specs.List.{sum_by}
 use Rattle.std.proofs.lemmas.List.Sums.{sum_by-cons}
 use Rattle.bandwidth.specs.declared.open_call.OpenCall.{OpenCall}
-use Rattle.bandwidth.specs.declared.faults.CallsFault.{CallsFault}
 use Rattle.bandwidth.specs.declared.faults.CallsFault.TheVariants as faults
 use Rattle.bandwidth.specs.OpenCalls.{if_owned}
-use Rattle.bandwidth.specs.Calls.{OpenCallsParts, unless_refused, has_number, has_owner, is_open, with_call, without_call, with_changed}
+use Rattle.bandwidth.specs.Calls.{has_number, has_owner, is_open, with_call, without_call, with_changed}
 use Rattle.bandwidth.proofs.CallLemmas.{sum_with}
 
 -- ---- how many calls there are
@@ -41,26 +40,13 @@ pub length_changed : (calls : List OpenCall) (number units : ℕ)
 length_changed [] number units = refl
 length_changed (call ∷ calls) number units = ap suc (length_changed calls number units)
 
--- ---- refusals
-module _ (c : OpenCallsParts) (id : List ℕ) (left : List OpenCall) where
-  pub if_held : (o : Option OpenCall) (held : OpenCall) → Ok held ≡ if_owned id o
-      → (o ≡ Some held) × (unless_refused c id left o ≡ Ok (record c { calls = left }))
-  if_held None held h = cc
-  if_held (Some call) held h = by (has_owner id call) h
-    where
-      by : (t : Bool) → Ok held ≡ cond t (Ok call) (Err faults.NotYours)
-          → (Some call ≡ Some held)
-          × (cond t (Ok (record c { calls = left })) (Err faults.NotYours)
-          ≡ Ok (record c { calls = left }))
-      by true e = let same : call ≡ held = cc in (ap Some same, refl)
-      by false e = absurd cc
-
-  pub if_refused : (o : Option OpenCall) (fault : CallsFault) → Err fault ≡ if_owned id o
-      → unless_refused c id left o ≡ Err fault
-  if_refused None fault h = let same : faults.NoCall ≡ fault = cc in ap Err same
-  if_refused (Some call) fault h = by (has_owner id call) h
-    where
-      by : (t : Bool) → Err fault ≡ cond t (Ok call) (Err faults.NotYours)
-          → cond t (Ok (record c { calls = left })) (Err faults.NotYours) ≡ Err fault
-      by true e = cc
-      by false e = let same : faults.NotYours ≡ fault = cc in ap Err same
+-- ---- who owns a call
+-- the call that is given to an ID is the one that was found
+pub held_found : (id : List ℕ) (o : Option OpenCall) (held : OpenCall) → Ok held ≡ if_owned id o
+    → o ≡ Some held
+held_found id None held h = cc
+held_found id (Some call) held h = by (has_owner id call) h
+  where
+    by : (t : Bool) → Ok held ≡ cond t (Ok call) (Err faults.NotYours) → Some call ≡ Some held
+    by true e = let same : call ≡ held = cc in ap Some same
+    by false e = absurd cc

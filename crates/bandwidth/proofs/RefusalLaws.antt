@@ -1,6 +1,6 @@
 -- What does not fit is above a limit.
 use Rattle.std.proofs.Common.{◌≡◌, ◌⊎◌, inl, inr, ⊎_elim, ℕ, ◌+◌, ◌<◌, ◌||◌, Bool, true, false, cond, List, [], ◌∷◌, refl, sym, ap, subst, ◌∙◌, true≢false}
-use Rattle.std.specs.Prelude.{Option, Some, None, nat_lt, map, bytes_eq}
+use Rattle.std.specs.Prelude.{Option, Some, None, map, bytes_eq}
 use Rattle.std.specs.Option.{option_or}
 use Rattle.std.specs.List.{list_any}
 use Rattle.std.proofs.lemmas.Bool.{ltb-true}
@@ -14,8 +14,8 @@ use Rattle.bandwidth.specs.declared.open_call.OpenCall.{OpenCall}
 use Rattle.bandwidth.specs.declared.over.Over.{Over}
 use Rattle.bandwidth.specs.declared.over.Over.TheVariants as overs
 use Rattle.bandwidth.specs.Calls.{call_of, without_call}
-use Rattle.bandwidth.specs.Use.{zones_touched, touches, is_interzone, total_of, interzone_of, remote_of}
-use Rattle.bandwidth.specs.Fits.{Try, is_above, fails, is_no_raise, tries_of, over_of}
+use Rattle.bandwidth.specs.Use.{zones_touched, is_interzone, remote_of}
+use Rattle.bandwidth.specs.Fits.{Try, is_above, fails, is_no_raise, tries_of}
 use Rattle.bandwidth.specs.Trying.{try_of, sum_beside, first_over, over_if_above, over_in, over_between, over_remotely}
 use Rattle.bandwidth.specs.FitLaws.{IsAbove, OfSession, OfTotal, OfInterzone, OfRemote, RefusalNamesASum}
 use Rattle.bandwidth.proofs.FitLemmas.{one_try, in_turn, first_of_two, over_if_no_raise, over_if_raise}

@@ -1,7 +1,7 @@
 -- The running sums: what is kept for each owner and each zone, and what a change of one call makes
 -- of it.
-use Rattle.std.specs.Prelude.{◌≡◌, ◌≤◌, ◌<◌, ◌^◌, ℕ, ◌+◌, ◌-◌, ◌==◌, true, List, [], ◌∷◌, count_by, Option, Some, None, bytes_eq, if◌then◌else◌}
-use Rattle.std.specs.Option.{unwrap_or}
+use Rattle.std.specs.Prelude.{◌≡◌, ◌≤◌, ◌<◌, ◌^◌, ℕ, ◌+◌, ◌-◌, ◌==◌, Bool, true, List, [], ◌∷◌, count_by, Option, Some, None, bytes_eq, if◌then◌else◌}
+use Rattle.std.specs.Option.{unwrap_or, option_copied}
 use Rattle.std.specs.Map.{lookup}
 use Rattle.bandwidth.specs.declared.open_call.OpenCall.{OpenCall}
 use Rattle.bandwidth.specs.declared.open_call.ZonesTouched.{ZonesTouched}
@@ -16,7 +16,7 @@ second_of None = []
 second_of (Some zone) = zone ∷ []
 
 abbrev pub zones_in : ZonesTouched → List (List ℕ)
-zones_in zones = zones.first ∷ second_of zones.second
+zones_in zones = zones.first.now ∷ second_of (option_copied zones.second)
 
 -- ---- what is kept
 -- how many calls the endpoint with this ID owns
@@ -85,12 +85,16 @@ count_after step count = count - once step.before + once step.after
 abbrev pub sum_after : Step → ℕ → ℕ
 sum_after step sum = sum - units_if_open step.before + units_if_open step.after
 
-abbrev pub use_after : OpenCall → Step → ZoneUse → ZoneUse
-use_after call step sums = record {
+-- what is used of a zone after the step of a call, which is between two zones or not
+abbrev pub use_moved : Bool → Step → ZoneUse → ZoneUse
+use_moved between step sums = record {
   calls = count_after step sums.calls;
   total = sum_after step sums.total;
-  interzone = if is_interzone call then sum_after step sums.interzone else sums.interzone;
+  interzone = if between then sum_after step sums.interzone else sums.interzone;
 }
+
+abbrev pub use_after : OpenCall → Step → ZoneUse → ZoneUse
+use_after call step sums = use_moved (is_interzone call) step sums
 
 -- what a count and a sum have to hold before the step, and the room that they have
 pub record MayCount (step : Step) (count : ℕ) : Type 0 where
@@ -101,10 +105,13 @@ pub record MaySum (step : Step) (sum : ℕ) : Type 0 where
   pub enough : units_if_open step.before ≤ sum
   pub room : sum + units_if_open step.after < 2 ^ 64
 
-pub record MayUse (call : OpenCall) (step : Step) (sums : ZoneUse) : Type 0 where
+pub record MayMove (between : Bool) (step : Step) (sums : ZoneUse) : Type 0 where
   pub calls : MayCount step sums.calls
   pub total : MaySum step sums.total
-  pub interzone : is_interzone call ≡ true → MaySum step sums.interzone
+  pub interzone : between ≡ true → MaySum step sums.interzone
+
+abbrev pub MayUse : OpenCall → Step → ZoneUse → Type 0
+MayUse call step sums = MayMove (is_interzone call) step sums
 
 -- each running sum in which the call counts may take the step
 pub record MayPass (owners : Counts) (zones : Uses) (remote : ℕ) (call : OpenCall) (step : Step)
@@ -130,8 +137,8 @@ abbrev pub remote_after : OpenCall → Step → ℕ → ℕ
 remote_after call step remote = if call.remote then sum_after step remote else remote
 
 -- the same for one zone
-abbrev pub UsesPassAt : List ℕ → OpenCall → Step → Uses → Uses → Type 0
-UsesPassAt at call step old new =
+abbrev pub UsesPassAt : List ℕ → Bool → Step → Uses → Uses → Type 0
+UsesPassAt at between step old new =
     (zone : List ℕ) → use_found new zone
-    ≡ (if bytes_eq at zone then kept_use (use_after call step (use_at old zone))
+    ≡ (if bytes_eq at zone then kept_use (use_moved between step (use_at old zone))
     else use_found old zone)

@@ -1,5 +1,6 @@
 -- The sums of a call beside the others, as they are tried.
-use Rattle.std.specs.Prelude.{ℕ, ◌+◌, Bool, List, find, Option, Some, None, option_map, if◌then◌else◌}
+use Rattle.std.specs.Prelude.{◌≡◌, ℕ, ◌+◌, Bool, List, [], ◌∷◌, find, Option, Some, None, option_map, IfSome, if◌then◌else◌}
+use Rattle.std.specs.Option.{option_or}
 use Rattle.command_reader.specs.declared.commands.Command.{Command}
 use Rattle.command_reader.specs.declared.commands.LimitKind.{LimitKind}
 use Rattle.command_reader.specs.declared.commands.LimitKind.TheVariants.{Session, Total, Interzone}
@@ -7,7 +8,9 @@ use Rattle.bandwidth.specs.declared.open_call.OpenCall.{OpenCall}
 use Rattle.bandwidth.specs.declared.over.Over.{Over}
 use Rattle.bandwidth.specs.declared.over.Over.TheVariants as overs
 use Rattle.compiler.specs.Limit.{limit_of, remote_limit_of}
-use Rattle.bandwidth.specs.Use.{is_interzone, total_of, interzone_of, remote_of}
+use Rattle.bandwidth.specs.declared.tried_zones.TriedZone.{TriedZone}
+use Rattle.bandwidth.specs.declared.tried_zones.TriedZones.{TriedZones}
+use Rattle.bandwidth.specs.Use.{zones_touched, is_interzone, total_of, interzone_of, remote_of}
 use Rattle.bandwidth.specs.Fits.{Try, is_above, fails, tries_of_kind}
 
 -- what the call counts that was found, if it passes the test
@@ -29,6 +32,25 @@ try_of commands kind others call zone = record {
   over = overs.Zone kind zone;
 }
 
+-- the name of the second zone, if there is one
+abbrev pub names_of : Option TriedZone → List (List ℕ)
+names_of None = []
+names_of (Some zone) = zone.name.now ∷ []
+
+-- a zone that was tried: each of its sums is said to be above its limit exactly if it is
+pub record IsTried (commands : List Command) (others : List OpenCall) (call : OpenCall)
+    (zone : TriedZone) : Type 0 where
+  pub session : zone.session ≡ fails (try_of commands Session others call zone.name.now)
+  pub total : zone.total ≡ fails (try_of commands Total others call zone.name.now)
+  pub interzone : zone.interzone ≡ fails (try_of commands Interzone others call zone.name.now)
+
+-- zones that were tried: those that the call touches
+pub record AreTried (commands : List Command) (others : List OpenCall) (call : OpenCall)
+    (zones : TriedZones) : Type 0 where
+  pub touched : zones_touched call ≡ zones.first.name.now ∷ names_of zones.second
+  pub first : IsTried commands others call zones.first
+  pub second : IfSome zones.second (IsTried commands others call)
+
 -- what is named if a sum is above its limit
 abbrev pub over_if_above : ℕ → Option ℕ → Over → Option Over
 over_if_above sum limit over = if is_above sum limit then Some over else None
@@ -42,16 +64,21 @@ abbrev pub over_in : List Command → LimitKind → List OpenCall → OpenCall �
 over_in commands kind others call =
     first_over (tries_of_kind commands kind (sum_beside kind others call) call)
 
--- that of one zone, and of another if there is one
-abbrev pub over_of_zone : List Command → LimitKind → List OpenCall → OpenCall → List ℕ → Option Over
-over_of_zone commands kind others call zone =
-    over_if_above (sum_beside kind others call zone) (limit_of commands kind zone)
-    (overs.Zone kind zone)
+-- what a zone that was tried names of one kind, and what both do: the source first
+abbrev pub is_over : LimitKind → TriedZone → Bool
+is_over Session zone = zone.session
+is_over Total zone = zone.total
+is_over Interzone zone = zone.interzone
 
-abbrev pub over_of_second : List Command → LimitKind → List OpenCall → OpenCall → Option (List ℕ)
-    → Option Over
-over_of_second commands kind others call None = None
-over_of_second commands kind others call (Some zone) = over_of_zone commands kind others call zone
+abbrev pub over_named : LimitKind → TriedZone → Option Over
+over_named kind zone = if is_over kind zone then Some (overs.Zone kind zone.name.now) else None
+
+abbrev pub over_second : LimitKind → Option TriedZone → Option Over
+over_second kind None = None
+over_second kind (Some zone) = over_named kind zone
+
+abbrev pub over_tried : LimitKind → TriedZones → Option Over
+over_tried kind zones = option_or (over_named kind zones.first) (over_second kind zones.second)
 
 -- the interzone sums, if the call is between two zones
 abbrev pub over_between : List Command → List OpenCall → OpenCall → Option Over

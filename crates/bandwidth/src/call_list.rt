@@ -2,11 +2,14 @@
 
 ghost use Rattle.std.specs.Prelude.{◌≡◌, ◌≤◌, ◌<◌, ◌*◌, ◌^◌, [], false, Some, length, OnOk, OnErr};
 ghost use Rattle.std.specs.Option.{option_copied};
+ghost use Rattle.std.specs.Result.{result_map_both};
 ghost use Rattle.bandwidth.specs.Calls.{AreInOrder, call_of, is_open, with_call, with_changed, without_call};
+ghost use Rattle.bandwidth.specs.OpenCalls.{owned_in};
 ghost use Rattle.bandwidth.specs.Use.{units_of};
 
+use crate::faults::CallsFault;
 use crate::open_call::OpenCall;
-use gk_terms::Units;
+use gk_terms::{Name, Units};
 use std::alloc::{AllocError, Global};
 use std::collections::BTreeMap;
 use std::marker::Model;
@@ -56,6 +59,24 @@ impl CallList {
         self.calls.get(&number)
     }
 
+    /// The call with this number, if it belongs to this ID. It is refused as `NoCall`, if no call
+    /// has the number, and as `NotYours`, if it is another endpoint's.
+    pub fn owned(&self, number: u32, id: &Name) -> Result<&OpenCall, CallsFault>
+        ensures { result_map_both (λ held. held.now) (λ fault. fault) result
+            ≡ owned_in self.now number id.now }
+    {
+        match self.get(number) {
+            Some(held) => {
+                if held.owner == *id {
+                    Ok(held)
+                } else {
+                    Err(CallsFault::NotYours)
+                }
+            }
+            None => Err(CallsFault::NoCall),
+        }
+    }
+
     /// Whether a call has this number.
     pub fn has(&self, number: u32) -> bool
         ensures { result ≡ is_open self.now number }
@@ -64,28 +85,28 @@ impl CallList {
     }
 
     /// Adds a call with a new number. If memory runs out nothing has changed.
-    pub fn insert(&mut self, call: OpenCall) -> Result<(), AllocError>
-        requires fresh { is_open self.old call.number ≡ false }
-        ensures ok { OnOk result (self.new ≡ with_call self.old call) }
+    pub fn insert(&mut self, call: &OpenCall) -> Result<(), AllocError>
+        requires fresh { is_open self.old call.now.number ≡ false }
+        ensures ok { OnOk result (self.new ≡ with_call self.old call.now) }
         ensures err { OnErr result (self.new ≡ self.old) }
     {
         // So it is known that it fits 32 bits.
         let _units = call.units.value();
-        match self.calls.insert(call.number, call) {
+        match self.calls.insert(call.number, *call) {
             Ok(_) => Ok(()),
             Err(_) => Err(AllocError),
         }
     }
 
-    /// Gives a call that is there another bandwidth. Takes no memory.
-    pub fn change(&mut self, held: OpenCall, units: Units)
-        requires there { call_of self.old held.number ≡ Some held }
-        ensures { self.new ≡ with_changed self.old held.number units }
+    /// Gives the call with this number another bandwidth, if there is one. Takes no memory.
+    pub fn change(&mut self, number: u32, units: Units)
+        ensures { self.new ≡ with_changed self.old number units }
     {
         // So it is known that it fits 32 bits.
         let _units = units.value();
-        let put: Result<_, _> = self.calls.insert(held.number, OpenCall { units, ..held });
-        let _ = put.unwrap();
+        if let Some(held) = self.calls.get_mut(&number) {
+            held.units = units;
+        }
     }
 
     /// Takes out the call with this number, if there is one. Takes no memory.

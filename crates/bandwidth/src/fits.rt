@@ -1,20 +1,21 @@
 //! Whether a call fits the limits in force. From Cisco's `bandwidth` command; the order in which
 //! the sums are tried is this project's profile.
 
-ghost use Rattle.std.specs.Prelude.{◌≡◌, ◌≤◌, ◌<◌, ◌+◌, ◌^◌, ◌&&◌};
+ghost use Rattle.std.specs.Prelude.{◌≡◌, ◌≤◌, ◌<◌, ◌+◌, ◌^◌, None, if◌then◌else◌};
 ghost use Rattle.std.specs.Option.{option_copied};
 ghost use Rattle.std.specs.Result.{result_err};
+ghost use Rattle.command_reader.specs.declared.commands.LimitKind.TheVariants.{Interzone};
 ghost use Rattle.bandwidth.specs.Calls.{call_of, without_call};
 ghost use Rattle.bandwidth.specs.Fits.{is_no_raise, over_of, tries_of};
-ghost use Rattle.bandwidth.specs.Trying.{first_over, over_between, over_if_above, over_in, over_of_zone, over_remotely, part_found, sum_beside};
-ghost use Rattle.bandwidth.specs.Use.{interzone_of, is_interzone, remote_of, touches};
+ghost use Rattle.bandwidth.specs.Trying.{first_over, over_remotely, over_tried, part_found};
+ghost use Rattle.bandwidth.specs.Use.{is_interzone, remote_of};
 
 use crate::open_call::OpenCall;
 use crate::open_calls::OpenCalls;
 use crate::over::Over;
+use crate::tried_zones::{TriedZones, is_above};
 use command_reader::LimitKind;
 use compiler::Tables;
-use gk_terms::Name;
 
 impl OpenCalls {
     /// Whether the call fits the limits in force beside the open calls, or which sum would be the
@@ -67,34 +68,17 @@ impl OpenCalls {
         ensures { result ≡ first_over (tries_of tables.now.commands
             (without_call self.now.calls call.now.number) call.now) }
     {
-        if let Some(over) = self.over_in(LimitKind::Session, tables, call, held) {
+        let zones = self.tried_zones(tables, call, held);
+        if let Some(over) = zones.over(LimitKind::Session) {
             return Some(over);
         }
-        if let Some(over) = self.over_in(LimitKind::Total, tables, call, held) {
+        if let Some(over) = zones.over(LimitKind::Total) {
             return Some(over);
         }
-        if let Some(over) = self.over_between(tables, call, held) {
+        if let Some(over) = over_between(call, &zones) {
             return Some(over);
         }
         self.over_remotely(tables, call, held)
-    }
-
-    /// The same of the interzone sums, if the call is between two zones.
-    fn over_between(
-        &self,
-        tables: &Tables,
-        call: &OpenCall,
-        held: Option<&OpenCall>,
-    ) -> Option<Over>
-        requires held { option_copied held ≡ call_of self.now.calls call.now.number }
-        ensures { result ≡ over_between tables.now.commands
-            (without_call self.now.calls call.now.number) call.now }
-    {
-        if call.is_interzone() {
-            self.over_in(LimitKind::Interzone, tables, call, held)
-        } else {
-            None
-        }
     }
 
     /// The same of the sum of all calls to remote zones, if the call is marked as one of them.
@@ -109,78 +93,13 @@ impl OpenCalls {
             (without_call self.now.calls call.now.number) call.now }
     {
         if call.remote {
-            over_if_above(
-                self.remote_beside(call, held),
-                tables.remote_limit(),
-                Over::Remote,
-            )
+            if is_above(self.remote_beside(call, held), tables.remote_limit()) {
+                Some(Over::Remote)
+            } else {
+                None
+            }
         } else {
             None
-        }
-    }
-
-    /// The same of one kind of sum, for the zones that the call touches.
-    #[tactic(auto, using(crate::proofs::FitLemmas::of_zones))]
-    fn over_in(
-        &self,
-        kind: LimitKind,
-        tables: &Tables,
-        call: &OpenCall,
-        held: Option<&OpenCall>,
-    ) -> Option<Over>
-        requires held { option_copied held ≡ call_of self.now.calls call.now.number }
-        ensures { result ≡ over_in tables.now.commands kind
-            (without_call self.now.calls call.now.number) call.now }
-    {
-        let zones = call.zones_touched();
-        if let Some(over) = self.over_at(kind, &zones.first, tables, call, held) {
-            return Some(over);
-        }
-        match &zones.second {
-            Some(second) => self.over_at(kind, second, tables, call, held),
-            None => None,
-        }
-    }
-
-    /// The same for one zone.
-    fn over_at(
-        &self,
-        kind: LimitKind,
-        zone: &Name,
-        tables: &Tables,
-        call: &OpenCall,
-        held: Option<&OpenCall>,
-    ) -> Option<Over>
-        requires held { option_copied held ≡ call_of self.now.calls call.now.number }
-        ensures { result ≡ over_of_zone tables.now.commands kind
-            (without_call self.now.calls call.now.number) call.now zone.now }
-    {
-        over_if_above(
-            self.sum_beside(kind, zone, call, held),
-            tables.limit(kind, zone),
-            Over::Zone { kind, zone: *zone },
-        )
-    }
-
-    /// A sum of the zone with the call in the place of the one that is held.
-    fn sum_beside(
-        &self,
-        kind: LimitKind,
-        zone: &Name,
-        call: &OpenCall,
-        held: Option<&OpenCall>,
-    ) -> u64
-        requires held { option_copied held ≡ call_of self.now.calls call.now.number }
-        ensures { result
-            ≡ sum_beside kind (without_call self.now.calls call.now.number) call.now zone.now }
-    {
-        // So it is known that the calls stand in order.
-        let _count = self.len();
-        let units = u64::from(call.units.value());
-        match kind {
-            LimitKind::Session => units,
-            LimitKind::Total => self.total(zone) - part_in_total(held, zone) + units,
-            LimitKind::Interzone => self.interzone(zone) - part_in_interzone(held, zone) + units,
         }
     }
 
@@ -206,50 +125,18 @@ fn is_no_raise(held: Option<&OpenCall>, call: &OpenCall) -> bool
     }
 }
 
-/// What is named, if the sum is above the limit.
-fn over_if_above(sum: u64, limit: Option<u64>, over: Over) -> Option<Over>
-    ensures { result ≡ over_if_above sum limit over }
+/// The first interzone sum that would be above its limit, if the call is between two zones.
+fn over_between(call: &OpenCall, zones: &TriedZones<'_>) -> Option<Over>
+    ensures { result ≡ (if is_interzone call.now then over_tried Interzone zones.now else None) }
 {
-    match limit {
-        Some(limit) => { if limit < sum { Some(over) } else { None } }
-        None => None,
+    if call.is_interzone() {
+        zones.over(LimitKind::Interzone)
+    } else {
+        None
     }
 }
 
-/// What the call that is held counts in the total of the zone.
-fn part_in_total(held: Option<&OpenCall>, zone: &Name) -> u64
-    ensures { result ≡ part_found (touches zone.now) (option_copied held.entry) }
-{
-    match held {
-        Some(held) => {
-            if held.touches(zone) {
-                u64::from(held.units.value())
-            } else {
-                0
-            }
-        }
-        None => 0,
-    }
-}
-
-/// What it counts in the interzone sum of the zone.
-fn part_in_interzone(held: Option<&OpenCall>, zone: &Name) -> u64
-    ensures { result ≡ part_found (λ call. touches zone.now call && is_interzone call)
-        (option_copied held.entry) }
-{
-    match held {
-        Some(held) => {
-            if held.touches(zone) && held.is_interzone() {
-                u64::from(held.units.value())
-            } else {
-                0
-            }
-        }
-        None => 0,
-    }
-}
-
-/// What it counts in the sum of all calls to remote zones.
+/// What the call that is held counts in the sum of all calls to remote zones.
 fn part_in_remote(held: Option<&OpenCall>) -> u64
     ensures { result ≡ part_found (λ call. call.remote) (option_copied held.entry) }
 {

@@ -19,6 +19,7 @@ mod owner_counts;
 mod random_tests;
 mod step;
 mod sums;
+mod tried_zones;
 mod zone_uses;
 
 pub use faults::CallsFault;

@@ -26,27 +26,25 @@ pub struct OpenCall {
 
 /// The zones that a call touches, the source first, each once.
 #[derive(Clone, Copy)]
-pub struct ZonesTouched {
-    pub first: Name,
-    pub second: Option<Name>,
+pub struct ZonesTouched<'a> {
+    pub first: &'a Name,
+    pub second: Option<&'a Name>,
 }
 
 impl OpenCall {
     /// The zones that the call touches, the source first, each once.
-    pub fn zones_touched(&self) -> ZonesTouched
+    pub fn zones_touched(&self) -> ZonesTouched<'_>
         ensures zones { zones_touched self.now ≡ zones_in result }
-        ensures once { IfSome result.second (λ second. bytes_eq result.first second ≡ false) }
+        ensures once { IfSome result.second (λ second.
+            bytes_eq result.first.now second.now ≡ false) }
     {
-        if self.source == self.target {
-            ZonesTouched {
-                first: self.source,
-                second: None,
-            }
-        } else {
-            ZonesTouched {
-                first: self.source,
-                second: Some(self.target),
-            }
+        ZonesTouched {
+            first: &self.source,
+            second: if self.source == self.target {
+                None
+            } else {
+                Some(&self.target)
+            },
         }
     }
 
@@ -63,8 +61,8 @@ impl OpenCall {
     {
         let zones = self.zones_touched();
         match zones.second {
-            Some(second) => *zone == zones.first || *zone == second,
-            None => *zone == zones.first,
+            Some(second) => *zone == *zones.first || *zone == *second,
+            None => *zone == *zones.first,
         }
     }
 }

@@ -6,6 +6,7 @@ ghost use Rattle.gk_terms.specs.Outcome.{Changes, ChangesUnlessMemory};
 ghost use Rattle.bandwidth.specs.declared.faults.CallsFault.TheVariants as faults;
 ghost use Rattle.bandwidth.specs.Calls.{AreOpenCalls, call_of, changed_in, closed_in, has_owner, is_open, opened_in, owns, with_call, with_changed, without_call};
 ghost use Rattle.bandwidth.specs.OpenCalls.{owned_in};
+ghost use Rattle.bandwidth.specs.Sums.{use_of};
 ghost use Rattle.bandwidth.specs.Use.{interzone_of, remote_of, total_of};
 
 use crate::call_list::CallList;
@@ -13,6 +14,7 @@ use crate::faults::CallsFault;
 use crate::open_call::OpenCall;
 use crate::step::Step;
 use crate::sums::Sums;
+use crate::zone_uses::ZoneUse;
 use gk_terms::{Name, Units};
 use std::alloc::{AllocError, Global};
 use std::marker::Model;
@@ -90,10 +92,7 @@ impl OpenCalls {
         ensures value { result ≡ total_of self.now.calls zone.now }
         ensures small { result + 2 ^ 32 ≤ 2 ^ 64 }
     {
-        // So it is known how many calls there are at most.
-        let _most = self.most;
-        let _count = self.calls.len();
-        self.sums.in_zone(zone).total
+        self.used(zone).total
     }
 
     /// The bandwidth of those among them that are between two zones, in units of 100 bit/s.
@@ -101,10 +100,7 @@ impl OpenCalls {
         ensures value { result ≡ interzone_of self.now.calls zone.now }
         ensures small { result + 2 ^ 32 ≤ 2 ^ 64 }
     {
-        // So it is known how many calls there are at most.
-        let _most = self.most;
-        let _count = self.calls.len();
-        self.sums.in_zone(zone).interzone
+        self.used(zone).interzone
     }
 
     /// The bandwidth of the open calls whose target was a zone of another gatekeeper when they were
@@ -117,6 +113,18 @@ impl OpenCalls {
         let _most = self.most;
         let _count = self.calls.len();
         self.sums.remote
+    }
+
+    /// What the open calls use of the zone.
+    pub(crate) fn used(&self, zone: &Name) -> ZoneUse
+        ensures value { result ≡ use_of self.now.calls zone.now }
+        ensures small_total { result.total + 2 ^ 32 ≤ 2 ^ 64 }
+        ensures small_interzone { result.interzone + 2 ^ 32 ≤ 2 ^ 64 }
+    {
+        // So it is known how many calls there are at most.
+        let _most = self.most;
+        let _count = self.calls.len();
+        self.sums.in_zone(zone)
     }
 
     /// Opens a call. It is refused as `CallOpen`, if a call of its number is open, and then as
@@ -132,7 +140,7 @@ impl OpenCalls {
         if self.most as usize <= self.calls.len() {
             return Err(CallsFault::Full);
         }
-        match self.enter(call) {
+        match self.enter(&call) {
             Ok(()) => Ok(()),
             Err(_) => Err(CallsFault::NoMemory),
         }
@@ -144,9 +152,18 @@ impl OpenCalls {
     pub fn change(&mut self, number: u32, id: &Name, units: Units) -> Result<(), CallsFault>
         ensures { Changes self.old self.new (changed_in self.old number id.now units) result }
     {
-        match self.owned(number, id) {
+        match self.calls.owned(number, id) {
             Ok(held) => {
-                self.give(&held, units);
+                let step = Step {
+                    before: Some(held.units),
+                    after: Some(units),
+                };
+                // So it is known that no sum wraps.
+                let _units = units.value();
+                let _most = self.most;
+                let _count = self.calls.len();
+                self.sums.pass(held, &step);
+                self.calls.change(number, units);
                 Ok(())
             }
             Err(fault) => Err(fault),
@@ -160,22 +177,31 @@ impl OpenCalls {
         ensures changes { Changes self.old self.new (closed_in self.old number id.now) result }
         ensures given { IfOk result (λ call. call_of self.old.calls number ≡ Some call) }
     {
-        let owned = self.owned(number, id);
+        let owned = self.calls.owned(number, id);
         match owned {
             Ok(held) => {
-                self.take_out(&held);
-                Ok(held)
+                let closed = *held;
+                let step = Step {
+                    before: Some(closed.units),
+                    after: None,
+                };
+                // So it is known that no sum wraps.
+                let _most = self.most;
+                let _count = self.calls.len();
+                self.sums.pass(&closed, &step);
+                self.calls.remove(number);
+                Ok(closed)
             }
             Err(fault) => Err(fault),
         }
     }
 
     /// Enters a call that may be opened. If memory runs out nothing has changed.
-    fn enter(&mut self, call: OpenCall) -> Result<(), AllocError>
-        requires fresh { is_open self.old.calls call.number ≡ false }
+    fn enter(&mut self, call: &OpenCall) -> Result<(), AllocError>
+        requires fresh { is_open self.old.calls call.now.number ≡ false }
         requires room { length self.old.calls < self.old.most }
         ensures ok { OnOk result
-            (self.new ≡ record self.old { calls = with_call self.old.calls call }) }
+            (self.new ≡ record self.old { calls = with_call self.old.calls call.now }) }
         ensures err { OnErr result (self.new ≡ self.old) }
     {
         let step = Step {
@@ -188,58 +214,7 @@ impl OpenCalls {
         let _count = self.calls.len();
         self.sums.reserve()?;
         self.calls.insert(call)?;
-        self.sums.pass(&call, &step);
+        self.sums.pass(call, &step);
         Ok(())
-    }
-
-    /// Gives a call that is open another bandwidth.
-    fn give(&mut self, held: &OpenCall, units: Units)
-        requires there { call_of self.old.calls held.now.number ≡ Some held.now }
-        ensures { self.new
-            ≡ record self.old { calls = with_changed self.old.calls held.now.number units } }
-    {
-        let step = Step {
-            before: Some(held.units),
-            after: Some(units),
-        };
-        // So it is known that no sum wraps.
-        let _units = units.value();
-        let _most = self.most;
-        let _count = self.calls.len();
-        self.calls.change(*held, units);
-        self.sums.pass(held, &step);
-    }
-
-    /// Takes out a call that is open.
-    fn take_out(&mut self, held: &OpenCall)
-        requires there { call_of self.old.calls held.now.number ≡ Some held.now }
-        ensures { self.new
-            ≡ record self.old { calls = without_call self.old.calls held.now.number } }
-    {
-        let step = Step {
-            before: Some(held.units),
-            after: None,
-        };
-        // So it is known that no sum wraps.
-        let _most = self.most;
-        let _count = self.calls.len();
-        self.calls.remove(held.number);
-        self.sums.pass(held, &step);
-    }
-
-    /// The call of this number, if it belongs to this ID.
-    fn owned(&self, number: u32, id: &Name) -> Result<OpenCall, CallsFault>
-        ensures { result ≡ owned_in self.now.calls number id.now }
-    {
-        match self.calls.get(number) {
-            Some(held) => {
-                if held.owner == *id {
-                    Ok(*held)
-                } else {
-                    Err(CallsFault::NotYours)
-                }
-            }
-            None => Err(CallsFault::NoCall),
-        }
     }
 }

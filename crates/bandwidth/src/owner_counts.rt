@@ -10,16 +10,6 @@ use crate::step::Step;
 use gk_terms::Name;
 use std::collections::HashMap;
 
-/// How many open calls the endpoint with this ID owns.
-fn count_at(owners: &HashMap<Name, usize>, id: &Name) -> usize
-    ensures { result ≡ count_at owners.now.entries id.now }
-{
-    match owners.get(id) {
-        Some(count) => *count,
-        None => 0,
-    }
-}
-
 /// A count as it is kept: nothing if it is 0.
 fn kept(count: usize) -> Option<usize>
     ensures { result ≡ kept_count count }
@@ -34,6 +24,18 @@ pub fn pass(owners: &mut HashMap<Name, usize>, call: &OpenCall, step: &Step)
     requires room { count_found owners.old.entries call.now.owner ≡ None → 1 ≤ spare owners.old }
     ensures { CountsPass call.now step.now owners.old.entries owners.new.entries }
 {
-    let after = step.count_after(count_at(owners, &call.owner));
-    named::put(owners, call.owner, kept(after));
+    if step.before.is_some() && step.after.is_some() {
+        // The call stays open, so it counts as before.
+        return;
+    }
+    let Some(count) = owners.get_mut(&call.owner) else {
+        named::put(owners, call.owner, kept(step.count_after(0)));
+        return;
+    };
+    match kept(step.count_after(*count)) {
+        Some(after) => *count = after,
+        None => {
+            let _ = owners.remove(&call.owner);
+        }
+    }
 }

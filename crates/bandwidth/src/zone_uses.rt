@@ -3,7 +3,7 @@
 ghost use Rattle.std.specs.Prelude.{◌≡◌, ◌≤◌, ◌+◌, true, None};
 ghost use Rattle.std.specs.HashMap.{spare};
 ghost use Rattle.bandwidth.specs.Use.{touches};
-ghost use Rattle.bandwidth.specs.Sums.{MayUse, UsesPass, UsesPassAt, kept_use, no_use, use_after, use_at, use_found};
+ghost use Rattle.bandwidth.specs.Sums.{MayMove, MayUse, UsesPass, UsesPassAt, kept_use, no_use, use_at, use_found, use_moved};
 
 use crate::named;
 use crate::open_call::OpenCall;
@@ -34,15 +34,16 @@ impl ZoneUse {
         }
     }
 
-    /// What is used of a zone that the call touches, after the step.
-    fn after(self, call: &OpenCall, step: &Step) -> ZoneUse
-        requires { MayUse call.now step.now self }
-        ensures { result ≡ use_after call.now step.now self }
+    /// What is used of a zone after the step of a call that touches it, and that is between two
+    /// zones or not.
+    fn after(self, between: bool, step: &Step) -> ZoneUse
+        requires { MayMove between step.now self }
+        ensures { result ≡ use_moved between step.now self }
     {
         ZoneUse {
             calls: step.count_after(self.calls),
             total: step.sum_after(self.total),
-            interzone: if call.is_interzone() {
+            interzone: if between {
                 step.sum_after(self.interzone)
             } else {
                 self.interzone
@@ -78,19 +79,28 @@ pub fn pass(zones: &mut HashMap<Name, ZoneUse>, call: &OpenCall, step: &Step)
     ensures { UsesPass call.now step.now zones.old.entries zones.new.entries }
 {
     let touched = call.zones_touched();
-    pass_at(zones, &touched.first, call, step);
-    if let Some(second) = &touched.second {
-        pass_at(zones, second, call, step);
+    let between = call.is_interzone();
+    pass_at(zones, touched.first, between, step);
+    if let Some(second) = touched.second {
+        pass_at(zones, second, between, step);
     }
 }
 
-/// Takes the step for one zone.
-fn pass_at(zones: &mut HashMap<Name, ZoneUse>, zone: &Name, call: &OpenCall, step: &Step)
-    requires sums { MayUse call.now step.now (use_at zones.old.entries zone.now) }
+/// Takes the step of a call that is between two zones or not, for one zone.
+fn pass_at(zones: &mut HashMap<Name, ZoneUse>, zone: &Name, between: bool, step: &Step)
+    requires sums { MayMove between step.now (use_at zones.old.entries zone.now) }
     requires room { use_found zones.old.entries zone.now ≡ None → 1 ≤ spare zones.old }
-    ensures zones { UsesPassAt zone.now call.now step.now zones.old.entries zones.new.entries }
+    ensures zones { UsesPassAt zone.now between step.now zones.old.entries zones.new.entries }
     ensures room { spare zones.old ≤ spare zones.new + 1 }
 {
-    let after = use_at(zones, zone).after(call, step);
-    named::put(zones, *zone, after.kept());
+    let Some(used) = zones.get_mut(zone) else {
+        named::put(zones, *zone, ZoneUse::none().after(between, step).kept());
+        return;
+    };
+    match used.after(between, step).kept() {
+        Some(after) => *used = after,
+        None => {
+            let _ = zones.remove(zone);
+        }
+    }
 }

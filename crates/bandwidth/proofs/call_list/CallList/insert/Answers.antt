@@ -11,7 +11,7 @@ use Rattle.bandwidth.proofs.call_list.CallList.insert.Goals.{in-Ok, in-Err}
 pub invariant_of-self : goal.invariant_of-self
 invariant_of-self c = elim c.match-insert.branch [
   | in-Ok w ↦
-      let call = c.args.call in
+      let call = c.args.call.now in
       let few = c.value-units.type_inv in
       let its = c.value-units.ensures in
       let fits : call.units < 2 ^ 32 = omega (arith, few, its) in
@@ -27,7 +27,7 @@ invariant_of-self c = elim c.match-insert.branch [
 pub returns-clause-ok : goal.returns-clause-ok
 returns-clause-ok c = elim c.match-insert.branch [
   | in-Ok w ↦
-      let call = c.args.call in
+      let call = c.args.call.now in
       let fresh : is_open (values_of c.self.inside.calls.entries) call.number ≡ false =
       ap (λ calls. is_open calls call.number) c.self.view_is ∙ c.requires.fresh in
       subst (λ r. OnOk r (values_of c.insert.new.self.entries ≡ with_call c.args.self.now call))
@@ -38,6 +38,6 @@ returns-clause-ok c = elim c.match-insert.branch [
       ∙ ap (λ calls. with_call calls call) c.self.view_is)
   | in-Err w ↦
       subst (λ r. OnOk r
-      (values_of c.insert.new.self.entries ≡ with_call c.args.self.now c.args.call))
+      (values_of c.insert.new.self.entries ≡ with_call c.args.self.now c.args.call.now))
       (sym w.result-is) tt
 ]

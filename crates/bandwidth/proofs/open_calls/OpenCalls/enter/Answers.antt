@@ -7,8 +7,8 @@ use Rattle.bandwidth.proofs.open_calls.OpenCalls.enter.Goals as goal
 use Rattle.bandwidth.proofs.open_calls.OpenCalls.enter.Goals.{After-insert}
 
 -- the call's number is no open call's
-fresh : (c : After-insert) → is_open c.self.inside.calls c.args.call.number ≡ false
-fresh c = ap (λ o. is_open o.calls c.args.call.number) c.self.view_is ∙ c.requires.fresh
+fresh : (c : After-insert) → is_open c.self.inside.calls c.args.call.now.number ≡ false
+fresh c = ap (λ o. is_open o.calls c.args.call.now.number) c.self.view_is ∙ c.requires.fresh
 
 -- the sums, after the room was made
 summed : (c : After-insert)
@@ -25,23 +25,23 @@ pass-requires-clause-sums c =
     let few : length c.self.inside.calls ≤ 4294967295 = omega (arith, within) in
     let units = c.value-units.type_inv in
     let its = c.value-units.ensures in
-    may_pass c.self.inside.calls _ c.args.call _
-    (opening c.self.inside.calls c.args.call (fresh i)) _ _ _ (summed i)
+    may_pass c.self.inside.calls _ c.args.call.now _
+    (opening c.self.inside.calls c.args.call.now (fresh i)) _ _ _ (summed i)
     c.len-count.ensures.ordered c.len-count.ensures.small few (omega (arith, units, its))
 
 pub invariant_of-self-2 : goal.invariant_of-self-2
 invariant_of-self-2 c =
     let i = (goal.at.invariant_of-self-2 c).After-insert in
     let opened = c.in_ok-insert.ensures.ok in
-    let more = length_with c.self.inside.calls c.args.call (fresh i) in
+    let more = length_with c.self.inside.calls c.args.call.now (fresh i) in
     let all = ap length opened in
     let room = c.requires.room in
     let old = ap (λ o. length o.calls) c.self.view_is in
     let most = ap (λ o. o.most) c.self.view_is in
     record {
       summed = subst (AreSumsOf _ _ _) (sym opened)
-          (sums_pass c.self.inside.calls _ c.args.call _
-          (opening c.self.inside.calls c.args.call (fresh i)) _ _ _ (summed i) _ _ _
+          (sums_pass c.self.inside.calls _ c.args.call.now _
+          (opening c.self.inside.calls c.args.call.now (fresh i)) _ _ _ (summed i) _ _ _
           c.pass.ensures.owners c.pass.ensures.zones c.pass.ensures.remote);
       within = omega (arith, more, all, room, old, most);
     }
