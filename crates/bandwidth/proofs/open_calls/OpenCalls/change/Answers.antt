@@ -11,7 +11,7 @@ pass-requires-clause-sums c =
     let few : length c.self.inside.calls ≤ 4294967295 = omega (arith, within) in
     let units = c.value-units.type_inv in
     let its = c.value-units.ensures in
-    let found = held_found c.args.id.now _ c.in-Ok.held.now c.in-Ok.ensures in
+    let found = held_found _ _ c.in-Ok.held.now c.in-Ok.ensures in
     may_pass c.self.inside.calls _ held _
     (changing c.self.inside.calls c.args.number c.args.units held c.len-count.ensures.ordered
     found) _ _ _ c.self.invariant.summed
@@ -19,13 +19,13 @@ pass-requires-clause-sums c =
 
 pub pass-requires-clause-owners_room : goal.pass-requires-clause-owners_room
 pass-requires-clause-owners_room c none =
-    let found = held_found c.args.id.now _ c.in-Ok.held.now c.in-Ok.ensures in
+    let found = held_found _ _ c.in-Ok.held.now c.in-Ok.ensures in
     absurd (owner_known _ _ _ _ c.self.invariant.summed c.args.number c.in-Ok.held.now
     found none)
 
 pub pass-requires-clause-zones_room : goal.pass-requires-clause-zones_room
 pass-requires-clause-zones_room c zone touched none =
-    let found = held_found c.args.id.now _ c.in-Ok.held.now c.in-Ok.ensures in
+    let found = held_found _ _ c.in-Ok.held.now c.in-Ok.ensures in
     absurd (zone_known _ _ _ _ c.self.invariant.summed c.args.number c.in-Ok.held.now
     found zone touched none)
 
@@ -33,7 +33,7 @@ pub invariant_of-self : goal.invariant_of-self
 invariant_of-self c =
     let held = c.in-Ok.held.now in
     let number = c.args.number in
-    let found = held_found c.args.id.now _ c.in-Ok.held.now c.in-Ok.ensures in
+    let found = held_found _ _ c.in-Ok.held.now c.in-Ok.ensures in
     let changed = ap length c.change.ensures in
     let size = length_changed c.self.inside.calls number c.args.units in
     let within = c.self.invariant.within in

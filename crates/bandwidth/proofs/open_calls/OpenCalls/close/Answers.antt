@@ -9,7 +9,7 @@ pass-requires-clause-sums c =
     let held = c.in-Ok.held.now in
     let within = c.self.invariant.within in
     let few : length c.self.inside.calls ≤ 4294967295 = omega (arith, within) in
-    let found = held_found c.args.id.now _ c.in-Ok.held.now c.in-Ok.ensures in
+    let found = held_found _ _ c.in-Ok.held.now c.in-Ok.ensures in
     may_pass c.self.inside.calls _ held _
     (closing c.self.inside.calls c.args.number held c.len-count.ensures.ordered found)
     _ _ _ c.self.invariant.summed
@@ -17,13 +17,13 @@ pass-requires-clause-sums c =
 
 pub pass-requires-clause-owners_room : goal.pass-requires-clause-owners_room
 pass-requires-clause-owners_room c none =
-    let found = held_found c.args.id.now _ c.in-Ok.held.now c.in-Ok.ensures in
+    let found = held_found _ _ c.in-Ok.held.now c.in-Ok.ensures in
     absurd (owner_known _ _ _ _ c.self.invariant.summed c.args.number c.in-Ok.held.now
     found none)
 
 pub pass-requires-clause-zones_room : goal.pass-requires-clause-zones_room
 pass-requires-clause-zones_room c zone touched none =
-    let found = held_found c.args.id.now _ c.in-Ok.held.now c.in-Ok.ensures in
+    let found = held_found _ _ c.in-Ok.held.now c.in-Ok.ensures in
     absurd (zone_known _ _ _ _ c.self.invariant.summed c.args.number c.in-Ok.held.now
     found zone touched none)
 
@@ -31,7 +31,7 @@ pub invariant_of-self : goal.invariant_of-self
 invariant_of-self c =
     let held = c.in-Ok.held.now in
     let number = c.args.number in
-    let found = held_found c.args.id.now _ c.in-Ok.held.now c.in-Ok.ensures in
+    let found = held_found _ _ c.in-Ok.held.now c.in-Ok.ensures in
     let left = ap length c.remove.ensures in
     let size = length_without c.self.inside.calls number in
     let within = c.self.invariant.within in
