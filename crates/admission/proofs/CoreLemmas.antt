@@ -129,7 +129,7 @@ pub verdict_is : (machine : State) (history : RecordParts) (core : CoreParts) (e
 verdict_is machine history core event ruling kept same given =
     ap (λ (r : Ruling). r.verdict) (ruled machine history core event ruling kept same given)
 
-counts : (machine : State) (history : RecordParts) → IsCore machine history
+pub counts : (machine : State) (history : RecordParts) → IsCore machine history
     → machine.records ≡ length history.entries
 counts machine history kept =
     let counted = replay_counts (opening_for machine) history.entries kept.legal in

@@ -11,4 +11,5 @@ pub mod RecordLemmas
 pub mod RegisteringLemmas
 pub mod RouteLaws
 pub mod StepLemmas
+pub mod StoredLemmas
 pub mod TargetLaws

@@ -4,10 +4,12 @@ pub mod Founded
 pub mod History
 pub mod HistoryLaws
 pub mod Limits
+pub mod RecordIndex
 pub mod Refusals
 pub mod RouteLaws
 pub mod Routes
 pub mod Routing
 pub mod Ruling
+pub mod Slots
 pub mod State
 pub mod Step

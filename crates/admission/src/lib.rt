@@ -12,6 +12,7 @@ pub mod laws;
 mod laws_tests;
 pub mod limits;
 mod machine;
+mod packing;
 pub mod record;
 #[cfg(test)]
 mod record_tests;
@@ -21,6 +22,8 @@ pub mod routes;
 pub mod routing;
 mod rulings;
 mod settling;
+mod short_texts;
+mod slots;
 #[cfg(test)]
 mod test_cores;
 mod verdicts;

@@ -1,17 +1,22 @@
 //! The record: what was asked, and what was replied.
 
-ghost use Rattle.std.specs.Prelude.{◌≡◌, ◌↔◌, ◌<◌, ◌≤◌, ◌+◌, ◌-◌, ◌++◌, ◌∷◌, [], true, length, take, slice_get, OnOk, OnErr, IfErr, IfNone, IfSome, option_map};
-ghost use Rattle.std.specs.List.{All};
-ghost use Rattle.std.specs.Option.{option_copied};
+ghost use Rattle.std.specs.Prelude.{◌≡◌, ◌↔◌, ◌<◌, ◌≤◌, ◌+◌, ◌-◌, ◌^◌, ◌++◌, ◌∷◌, [], true, length, take, slice_get, OnOk, OnErr, IfErr, IfNone, IfSome, IsSome, map, option_map};
+ghost use Rattle.std.specs.List.{All, cons_option};
+ghost use Rattle.std.specs.Cow.{cow_value};
+ghost use Rattle.std.specs.Option.{option_and_then};
 ghost use Rattle.admission.specs.Events.{plain};
+ghost use Rattle.admission.specs.Slots.{entry_meant, other_entry};
 ghost use Rattle.admission.specs.History.{plain_entry, entry_by, entry_of_number, receipt_of, Stands};
 
 use crate::events::{Event, EventKind};
 use crate::replies::Reply;
 use crate::routes::Route;
 use crate::rulings::Ruling;
+use crate::slots::{HeldSlot, Slot};
 use gk_terms::Name;
+use pieces::Pieces;
 use std::alloc::{AllocError, Global};
+use std::borrow::Cow;
 use std::marker::Model;
 
 /// One recorded event with its reply.
@@ -32,13 +37,7 @@ impl Entry {
     pub fn receipt(&self, number: u32) -> Receipt
         ensures { result ≡ receipt_of number (plain_entry self.now) }
     {
-        Receipt {
-            number,
-            kind: self.event.kind(),
-            id: self.event.id(),
-            call: self.event.call(),
-            reply: self.reply,
-        }
+        Receipt::of(number, &self.event, self.reply)
     }
 }
 
@@ -69,25 +68,52 @@ impl Ruling {
             route: self.route,
         }
     }
+
+    /// The receipt of that entry, if it has this number.
+    pub(crate) fn receipt(&self, number: u32, event: &Event) -> Receipt
+        ensures { result ≡ receipt_of number (entry_by (plain event.now) self.now) }
+    {
+        Receipt::of(number, event, self.verdict)
+    }
+}
+
+impl Receipt {
+    /// The receipt of an event with its reply, if its entry has this number.
+    fn of(number: u32, event: &Event, reply: Reply) -> Receipt
+        ensures { result ≡ receipt_of number (other_entry (plain event.now) reply) }
+    {
+        Receipt {
+            number,
+            kind: event.kind(),
+            id: event.id(),
+            call: event.call(),
+            reply,
+        }
+    }
 }
 
 /// The recorded events in order. A contract sees them by their values alone, and how many further
 /// ones find room without memory: the places that are kept.
+///
+/// `slots` has one slot for each entry, in few bytes; an entry that does not fit into a slot stands
+/// whole in `aside`, and its slot has its place there. Both grow piece by piece, so that no entry
+/// is ever moved, and both have room for each kept place.
 #[derive(Drop)]
 pub struct Record {
-    entries: Vec<Entry>,
+    slots: Pieces<HeldSlot>,
+    aside: Pieces<Entry>,
     kept: usize,
 }
 
 impl Model for Record {
-    ghost use Rattle.std.specs.Prelude.{◌≤◌, ◌+◌, length, map, vec_capacity};
-    ghost use Rattle.admission.specs.History.{RecordParts, plain_entry};
+    ghost use Rattle.admission.specs.History.{RecordParts};
+    ghost use Rattle.admission.specs.RecordIndex.{entries_told, IsStored};
 
     ghost Value = { RecordParts };
 
-    ghost view = { λ r. record { entries = map plain_entry r.entries.items; kept = r.kept } };
+    ghost view = { λ r. record { entries = entries_told r.slots r.aside; kept = r.kept } };
 
-    ghost invariant = { λ r. length r.entries.items + r.kept ≤ vec_capacity r.entries };
+    ghost invariant = { λ r. IsStored r.slots r.aside (entries_told r.slots r.aside) r.kept };
 }
 
 impl Record {
@@ -96,7 +122,8 @@ impl Record {
         ensures { result ≡ record { entries = []; kept = 0 } }
     {
         Record {
-            entries: Vec::new(alloc),
+            slots: Pieces::new(alloc),
+            aside: Pieces::new(alloc),
             kept: 0,
         }
     }
@@ -105,16 +132,24 @@ impl Record {
     pub fn len(&self) -> usize
         ensures { result ≡ length self.now.entries }
     {
-        self.entries.len()
+        self.slots.len()
     }
 
     /// The entry of this number. The first has number 1.
-    pub fn get(&self, number: u32) -> Option<&Entry>
-        ensures { option_map plain_entry (option_copied result)
+    pub fn get(&self, number: u32) -> Option<Cow<'_, Entry>>
+        ensures { option_map (λ e. plain_entry (cow_value e)) result
             ≡ entry_of_number self.now.entries number }
     {
         let place = number.checked_sub(1)?;
-        self.entries.get(place as usize)
+        self.at(place as usize)
+    }
+
+    /// The entry at this place, from 0.
+    fn at(&self, place: usize) -> Option<Cow<'_, Entry>>
+        ensures { option_map (λ e. plain_entry (cow_value e)) result
+            ≡ slice_get self.now.entries place }
+    {
+        entry_at(&self.slots, &self.aside, place)
     }
 
     /// `Ok` if each receipt is that of the entry at its number; else the place, from 0, of the
@@ -163,14 +198,17 @@ impl Record {
     pub(crate) fn keep(&mut self, places: usize) -> Result<(), AllocError>
         requires { places ≤ 2 }
         ensures ok { OnOk result (self.new
-            ≡ record self.old { kept = self.old.kept + places }) }
+            ≡ record { entries = self.old.entries; kept = self.old.kept + places }) }
         ensures err { OnErr result ((self.new ≡ self.old) × (1 ≤ places)) }
     {
         if places == 0 {
             return Ok(());
         }
+        // So it is known that the sum fits.
+        let _count = self.slots.len();
         let kept = self.kept + places;
-        self.entries.reserve(kept)?;
+        self.slots.reserve(kept)?;
+        self.aside.reserve(kept)?;
         self.kept = kept;
         Ok(())
     }
@@ -178,22 +216,94 @@ impl Record {
     /// Keeps this many places less.
     pub(crate) fn give_back(&mut self, places: usize)
         requires { places ≤ self.old.kept }
-        ensures { self.new ≡ record self.old { kept = self.old.kept - places } }
+        ensures { self.new
+            ≡ record { entries = self.old.entries; kept = self.old.kept - places } }
     {
         self.kept -= places;
     }
 
-    /// Puts an entry at the end, in a place that was kept.
-    pub(crate) fn push(&mut self, entry: Entry)
-        requires { 1 ≤ self.old.kept }
+    /// Puts what was ruled on an event at the end, in a place that was kept.
+    pub(crate) fn push(&mut self, event: Event, ruling: &Ruling)
+        requires kept { 1 ≤ self.old.kept }
+        requires few { length self.old.entries < 2 ^ 32 }
+        ensures { self.new ≡ record {
+          entries = self.old.entries ++ entry_by (plain event) ruling.now ∷ [];
+          kept = self.old.kept - 1;
+        } }
+    {
+        match Slot::of(&event, ruling) {
+            Some(slot) => self.push_slot(slot),
+            None => {
+                let entry = ruling.entry(event);
+                self.push_whole(entry);
+            }
+        }
+    }
+
+    /// Puts an entry at the end in few bytes.
+    fn push_slot(&mut self, slot: Slot)
+        requires kept { 1 ≤ self.old.kept }
+        requires meant { IsSome (entry_meant [] slot) }
+        ensures { self.new ≡ record {
+          entries = self.old.entries ++ cons_option (entry_meant [] slot) [];
+          kept = self.old.kept - 1;
+        } }
+    {
+        self.slots.push(HeldSlot::new(slot));
+        self.kept -= 1;
+    }
+
+    /// Puts an entry whole at the end of the other list, and its place there into a slot.
+    fn push_whole(&mut self, entry: Entry)
+        requires kept { 1 ≤ self.old.kept }
+        requires few { length self.old.entries < 2 ^ 32 }
         ensures { self.new ≡ record {
           entries = self.old.entries ++ plain_entry entry ∷ [];
           kept = self.old.kept - 1;
         } }
     {
-        let pushed: Result<_, _> = self.entries.push(entry);
-        pushed.unwrap();
+        let place = self.aside.len() as u32;
+        self.slots.push(HeldSlot::new(Slot::Aside { place }));
+        self.aside.push(entry);
         self.kept -= 1;
+    }
+}
+
+/// The entry of the slot at this place.
+fn entry_at<'a>(
+    slots: &'a Pieces<HeldSlot>,
+    aside: &'a Pieces<Entry>,
+    place: usize,
+) -> Option<Cow<'a, Entry>>
+    ensures { option_map (λ e. plain_entry (cow_value e)) result
+        ≡ option_and_then (entry_meant (map plain_entry aside.now.items))
+        (slice_get slots.now.items place) }
+{
+    match slots.get(place) {
+        None => None,
+        Some(held) => entry_in(aside, held.slot()),
+    }
+}
+
+/// The entry of a slot.
+fn entry_in<'a>(aside: &'a Pieces<Entry>, slot: &Slot) -> Option<Cow<'a, Entry>>
+    ensures { option_map (λ e. plain_entry (cow_value e)) result
+        ≡ entry_meant (map plain_entry aside.now.items) slot.now }
+{
+    match slot.entry() {
+        Ok(entry) => Some(Cow::Owned(entry)),
+        Err(place) => whole_at(aside, place as usize),
+    }
+}
+
+/// The entry that stands whole at this place.
+fn whole_at(aside: &Pieces<Entry>, place: usize) -> Option<Cow<'_, Entry>>
+    ensures { option_map (λ e. plain_entry (cow_value e)) result
+        ≡ slice_get (map plain_entry aside.now.items) place }
+{
+    match aside.get(place) {
+        None => None,
+        Some(entry) => Some(Cow::Borrowed(entry)),
     }
 }
 

@@ -6,9 +6,12 @@ use crate::limits::STATED_LIMITS;
 use crate::record::Receipt;
 use crate::replies::{AdmitRefusal, ChangeRefusal, Reply, UnregisterRefusal};
 use crate::routes::Route;
-use crate::test_cores::{away, core_within, entry, five_events, receipt_of};
-use gk_terms::{Name, Units};
+use crate::short_texts::{ShortDigits, ShortName};
+use crate::slots::HeldSlot;
+use crate::test_cores::{admission, away, core_within, entry, five_events, receipt_of, terminal};
+use gk_terms::{Dialled, Name, Units};
 use std::alloc::Global;
+use std::mem::size_of;
 use std::process::Abort;
 use std::test::Fail;
 
@@ -229,5 +232,73 @@ fn assert_entries(rt: &impl Abort, alloc: Global, core: &mut Core) -> Result<(),
         assert_eq!(rt; entry.zone, zone, "entry {number}");
         assert_eq!(rt; entry.route, route, "entry {number}");
     }
+    Ok(())
+}
+
+#[test]
+fn short_and_long_names_read_back(rt: HostRuntime) -> Result<(), Fail> {
+    let mut core = core_within(rt.alloc(), STATED_LIMITS)?;
+    for id in [
+        b"ta".as_slice(),
+        b"terminal-0123456789".as_slice(),
+        b"terminal-0123456789a".as_slice(),
+    ] {
+        assert_reads_back(&rt, rt.alloc(), &mut core, id)?;
+    }
+    Ok(())
+}
+
+/// Asserts that the entries of an endpoint with this ID give its receipts back, and those of its
+/// admissions the zone and the route.
+fn assert_reads_back(
+    rt: &impl Abort,
+    alloc: Global,
+    core: &mut Core,
+    id: &[u8],
+) -> Result<(), Fail> {
+    let zone = Some(Name::read(b"gk-a")?);
+    let route = Some(Route::To(away()?));
+    let receipts = events_of(alloc, core, id)?;
+    for (receipt, zone, route) in [
+        (receipts[0], None, None),
+        (receipts[1], zone, route),
+        (receipts[2], zone, None),
+        (receipts[3], None, None),
+        (receipts[4], None, None),
+    ] {
+        let entry = entry(core.record(), receipt.number)?;
+        assert_eq!(rt; entry.receipt(receipt.number), receipt);
+        assert_eq!(rt; entry.zone, zone);
+        assert_eq!(rt; entry.route, route);
+    }
+    Ok(())
+}
+
+/// A registration of a terminal with this ID, an admission and the same again, a release and an
+/// unregistration.
+fn events_of(alloc: Global, core: &mut Core, id: &[u8]) -> Result<[Receipt; 5], Fail> {
+    let name = Name::read(id)?;
+    let endpoint = terminal(alloc, id, 1, &[])?;
+    let call = 1001;
+    Ok([
+        receipt_of(core, Event::Register(endpoint))?,
+        receipt_of(core, admission(id, call, b"9123")?)?,
+        receipt_of(core, admission(id, call, b"9123")?)?,
+        receipt_of(core, Event::Release { id: name, call })?,
+        receipt_of(core, Event::Unregister { id: name })?,
+    ])
+}
+
+#[test]
+fn a_slot_takes_at_most_100_bytes(rt: HostRuntime) {
+    assert!(rt; size_of::<HeldSlot>() <= 100, "{}", size_of::<HeldSlot>());
+}
+
+#[test]
+fn names_and_digits_are_short_up_to_a_length(rt: HostRuntime) -> Result<(), Fail> {
+    assert!(rt; ShortName::of(&Name::read(b"terminal-0123456789")?).is_some());
+    assert!(rt; ShortName::of(&Name::read(b"terminal-0123456789a")?).is_none());
+    assert!(rt; ShortDigits::of(&Dialled::read(b"912345678901234")?).is_some());
+    assert!(rt; ShortDigits::of(&Dialled::read(b"9123456789012345")?).is_none());
     Ok(())
 }

@@ -27,6 +27,7 @@ pub(crate) fn enter(
     requires recordable { count_refusal machine.old (plain event) ruling.now ≡ None }
     requires recorded { is_recorded ruling.now.verdict ≡ true }
     requires kept { length machine.old.calls ≤ history.old.kept }
+    requires counted { machine.old.records ≡ length history.old.entries }
     requires within { IsWithinLimits machine.old }
     ensures receipt { IfOk result (λ receipt. receipt
         ≡ receipt_of (machine.old.records + 1) (entry_of machine.old (plain event))) }
@@ -45,8 +46,7 @@ pub(crate) fn enter(
         history.give_back(places);
         return Err(error);
     }
-    let entry = ruling.entry(event);
-    let receipt = entry.receipt(number);
-    history.push(entry);
+    let receipt = ruling.receipt(number, &event);
+    history.push(event, ruling);
     Ok(receipt)
 }

@@ -25,8 +25,8 @@ returns-in_err-keep-clause-err c =
     OnErr-from c.from_residual.result _
     (refl, err.0, ruled_lacks _ _ _ c.requires.ruled c.requires.recordable c.requires.recorded one)
 
-pub push-requires : goal.push-requires
-push-requires c =
+pub push-requires-clause-kept : goal.push-requires-clause-kept
+push-requires-clause-kept c =
     omega (
       arith,
       ap (λ (h : RecordParts). h.kept) c.in_ok-keep.ensures.ok,

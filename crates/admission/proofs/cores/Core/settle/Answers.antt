@@ -2,12 +2,15 @@ use Rattle.std.proofs.Common.{◌≡◌, true, Some, None, sym, ap, ◌∙◌}
 use Rattle.admission.specs.Events as Events
 use Rattle.admission.specs.Ruling.{ruling_of, verdict_of}
 use Rattle.admission.specs.Step.{is_recorded, count_refusal, state_after}
-use Rattle.admission.proofs.CoreLemmas.{stands_as, ruled, refusal_is, verdict_is, is_within, refuses, leaves_out, lacks_memory, kept_on, kept_still, records, core_still}
+use Rattle.admission.proofs.CoreLemmas.{stands_as, ruled, refusal_is, verdict_is, counts, is_within, refuses, leaves_out, lacks_memory, kept_on, kept_still, records, core_still}
 use Rattle.admission.proofs.cores.Core.settle.Goals as goal
 use Rattle.admission.proofs.cores.Core.settle.Goals.{in-Ok, in-Err}
 
 pub enter-requires-clause-ruled : goal.enter-requires-clause-ruled
 enter-requires-clause-ruled c = ruled _ _ _ _ _ c.self.invariant c.self.view_is c.requires
+
+pub enter-requires-clause-counted : goal.enter-requires-clause-counted
+enter-requires-clause-counted c = counts _ _ c.self.invariant
 
 pub enter-requires-clause-within : goal.enter-requires-clause-within
 enter-requires-clause-within c = is_within _ _ c.self.invariant

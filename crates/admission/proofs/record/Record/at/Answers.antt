@@ -1,0 +1,10 @@
+use Rattle.std.proofs.Common.{ap, ◌∙◌}
+use Rattle.std.specs.Prelude.{slice_get}
+use Rattle.admission.specs.History.{RecordParts}
+use Rattle.admission.proofs.StoredLemmas.{read_at}
+use Rattle.admission.proofs.record.Record.at.Goals as goal
+
+pub returns : goal.returns
+returns c =
+    c.entry_at.ensures ∙ read_at _ _ _ _ c.self.invariant c.args.place
+    ∙ ap (λ (h : RecordParts). slice_get h.entries c.args.place) c.self.view_is

@@ -1,0 +1,95 @@
+-- Entries in few bytes: what each means.
+use Rattle.std.specs.Prelude.{ℕ, List, slice_get, Option, Some, None}
+use Rattle.bandwidth.specs.declared.over.Over.{Over}
+use Rattle.bandwidth.specs.declared.over.Over.TheVariants as over
+use Rattle.gk_terms.specs.Address.{AddressParts}
+use Rattle.admission.specs.Events.{PlainEvent, Admitting, Changing, Releasing, Unregistering}
+use Rattle.admission.specs.History.{PlainEntry}
+use Rattle.admission.specs.declared.slots.Asked.{Asked}
+use Rattle.admission.specs.declared.replies.AdmitRefusal.{AdmitRefusal}
+use Rattle.admission.specs.declared.replies.AdmitRefusal.TheVariants as admit
+use Rattle.admission.specs.declared.replies.Reply.{Reply}
+use Rattle.admission.specs.declared.replies.Reply.TheVariants as reply
+use Rattle.admission.specs.declared.routes.Destination.{Destination}
+use Rattle.admission.specs.declared.routes.Destination.TheVariants as destination
+use Rattle.admission.specs.declared.routes.Route.{Route}
+use Rattle.admission.specs.declared.routes.Route.TheVariants as route
+use Rattle.admission.specs.declared.slots.ShortDestination.{ShortDestination}
+use Rattle.admission.specs.declared.slots.ShortDestination.TheVariants as short
+use Rattle.admission.specs.declared.slots.ShortOver.{ShortOver}
+use Rattle.admission.specs.declared.slots.ShortOver.TheVariants as limit
+use Rattle.admission.specs.declared.slots.Unrouted.{Unrouted}
+use Rattle.admission.specs.declared.slots.Unrouted.TheVariants as unrouted
+use Rattle.admission.specs.declared.slots.Slot.{Slot}
+use Rattle.admission.specs.declared.slots.Slot.TheVariants as slot
+
+-- ---- parts
+-- where a call leads
+abbrev pub destination_meant : ShortDestination → AddressParts → Destination
+destination_meant (short.Gateway id) address = destination.Gateway id address
+destination_meant (short.Terminal id) address = destination.Terminal id address
+destination_meant (short.Zone name) address = destination.Zone name address
+
+-- the sum of a call that would be above its limit, from a zone
+abbrev pub over_meant : ShortOver → (zone : List ℕ) → Over
+over_meant (limit.OwnZone kind) zone = over.Zone kind zone
+over_meant limit.Remote zone = over.Remote
+
+-- why an admission is refused that leads to no destination
+abbrev pub reason_meant : Unrouted → AdmitRefusal
+reason_meant unrouted.CallerNotRegistered = admit.CallerNotRegistered
+reason_meant (unrouted.CallOpen zone) = admit.CallOpen
+reason_meant (unrouted.NoRoute zone refusal) = admit.NoRoute refusal
+
+-- the zone of its caller
+abbrev pub zone_meant : Unrouted → Option (List ℕ)
+zone_meant unrouted.CallerNotRegistered = None
+zone_meant (unrouted.CallOpen zone) = Some zone
+zone_meant (unrouted.NoRoute zone refusal) = Some zone
+
+-- where its digits lead
+abbrev pub route_meant : Unrouted → Option Route
+route_meant unrouted.CallerNotRegistered = None
+route_meant (unrouted.CallOpen zone) = None
+route_meant (unrouted.NoRoute zone refusal) = Some (route.Refused refusal)
+
+-- ---- entries
+-- of an admission
+abbrev pub admission_entry : Asked → Reply → Option (List ℕ) → Option Route → PlainEntry
+admission_entry asked replied zone route = record {
+  event = Admitting asked.id asked.call asked.digits asked.units;
+  reply = replied;
+  zone = zone;
+  route = route;
+}
+
+-- of one that leads to a destination
+abbrev pub routed_entry : Asked → (zone : List ℕ) → Destination → Reply → PlainEntry
+routed_entry asked zone destination replied =
+    admission_entry asked replied (Some zone) (Some (route.To destination))
+
+-- of another event
+abbrev pub other_entry : PlainEvent → Reply → PlainEntry
+other_entry event replied =
+    record { event = event; reply = replied; zone = None; route = None }
+
+-- of a slot; these are the entries that stand whole
+abbrev pub entry_meant : List PlainEntry → Slot → Option PlainEntry
+entry_meant aside (slot.Admitted call units id digits zone destination address) =
+    Some (routed_entry (record { call = call; units = units; id = id; digits = digits }) zone
+    (destination_meant destination address)
+    (reply.Admitted call (destination_meant destination address) units))
+entry_meant aside (slot.OverLimit call units id digits zone destination address over) =
+    Some (routed_entry (record { call = call; units = units; id = id; digits = digits }) zone
+    (destination_meant destination address)
+    (reply.AdmitRefused call (admit.OverLimit (over_meant over zone))))
+entry_meant aside (slot.Refused call units id digits cause) =
+    Some (admission_entry (record { call = call; units = units; id = id; digits = digits })
+    (reply.AdmitRefused call (reason_meant cause)) (zone_meant cause) (route_meant cause))
+entry_meant aside (slot.Change id call units) =
+    Some (other_entry (Changing id call units) (reply.Changed call units))
+entry_meant aside (slot.Release id call) =
+    Some (other_entry (Releasing id call) (reply.Released call))
+entry_meant aside (slot.Unregistration id) =
+    Some (other_entry (Unregistering id) (reply.Unregistered id))
+entry_meant aside (slot.Aside place) = slice_get aside place

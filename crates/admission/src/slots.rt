@@ -1,0 +1,391 @@
+//! Entries in few bytes, as the record keeps them.
+
+ghost use Rattle.std.specs.Prelude.{◌≡◌, List, Some, MatchResult, slice_get};
+ghost use Rattle.admission.specs.Events.{plain, Unregistering, Changing, Releasing};
+ghost use Rattle.admission.specs.History.{PlainEntry, plain_entry};
+ghost use Rattle.admission.specs.Slots as Spec;
+
+use crate::events::Event;
+use crate::record::Entry;
+use crate::replies::{AdmitRefusal, Reply};
+use crate::routes::{Destination, Route, RouteRefusal};
+use crate::rulings::Ruling;
+use crate::short_texts::{ShortDigits, ShortName};
+use bandwidth::Over;
+use command_reader::LimitKind;
+use gk_terms::{Address, Name, Units};
+use std::marker::Model;
+
+/// Where dialled digits lead, but for the address.
+#[derive(Clone, Copy)]
+pub(crate) enum ShortDestination {
+    Gateway { id: ShortName },
+    Terminal { id: ShortName },
+    Zone { name: ShortName },
+}
+
+/// Which sum of a call would be above its limit.
+#[derive(Clone, Copy)]
+pub(crate) enum ShortOver {
+    /// One of the caller's zone.
+    OwnZone { kind: LimitKind },
+    /// That of all calls to zones of other gatekeepers.
+    Remote,
+}
+
+/// Why an admission leads to no destination, with the zone of its caller.
+#[derive(Clone, Copy)]
+pub(crate) enum Unrouted {
+    CallerNotRegistered,
+    CallOpen {
+        zone: ShortName,
+    },
+    NoRoute {
+        zone: ShortName,
+        refusal: RouteRefusal,
+    },
+}
+
+/// An entry in few bytes: of most admissions whose names and digits are short, and of a granted
+/// change, release or unregistration whose ID is; or the place of an entry that stands whole in a
+/// list beside.
+#[derive(Clone, Copy)]
+pub(crate) enum Slot {
+    /// A granted admission.
+    Admitted {
+        call: u32,
+        units: Units,
+        id: ShortName,
+        digits: ShortDigits,
+        zone: ShortName,
+        destination: ShortDestination,
+        address: Address,
+    },
+    /// An admission that was refused for a limit.
+    OverLimit {
+        call: u32,
+        units: Units,
+        id: ShortName,
+        digits: ShortDigits,
+        zone: ShortName,
+        destination: ShortDestination,
+        address: Address,
+        over: ShortOver,
+    },
+    /// An admission that leads to no destination.
+    Refused {
+        call: u32,
+        units: Units,
+        id: ShortName,
+        digits: ShortDigits,
+        cause: Unrouted,
+    },
+    /// A granted bandwidth change.
+    Change {
+        id: ShortName,
+        call: u32,
+        units: Units,
+    },
+    /// A granted release.
+    Release {
+        id: ShortName,
+        call: u32,
+    },
+    /// A granted unregistration.
+    Unregistration {
+        id: ShortName,
+    },
+    /// The place, from 0, of the entry in the list of whole entries.
+    Aside {
+        place: u32,
+    },
+}
+
+/// What an admission asks for, in few bytes.
+#[derive(Clone, Copy)]
+pub(crate) struct Asked {
+    pub(crate) call: u32,
+    pub(crate) units: Units,
+    pub(crate) id: ShortName,
+    pub(crate) digits: ShortDigits,
+}
+
+impl Asked {
+    /// What an admission asks for.
+    pub(crate) fn new(call: u32, units: Units, id: ShortName, digits: ShortDigits) -> Asked
+        ensures { result ≡ record { call = call; units = units; id = id; digits = digits } }
+    {
+        Asked {
+            call,
+            units,
+            id,
+            digits,
+        }
+    }
+}
+
+/// A slot as the record holds it, with a view of its own, so that a list of slots need not know
+/// what is inside one. A contract sees the slot.
+#[derive(Clone, Copy)]
+pub(crate) struct HeldSlot {
+    slot: Slot,
+}
+
+impl Model for HeldSlot {
+    ghost use Rattle.admission.specs.declared.slots.Slot.{Slot};
+
+    ghost Value = { Slot };
+
+    ghost view = { λ h. h.slot };
+
+    ghost inverse = { λ s. record { slot = s } };
+}
+
+impl HeldSlot {
+    /// This slot.
+    pub(crate) fn new(slot: Slot) -> HeldSlot
+        ensures { result ≡ slot }
+    {
+        HeldSlot { slot }
+    }
+
+    /// The slot.
+    pub(crate) fn slot(&self) -> &Slot
+        ensures { result.now ≡ self.now }
+    {
+        &self.slot
+    }
+}
+
+impl ShortDestination {
+    /// The destination at this address.
+    fn at(&self, address: Address) -> Destination
+        ensures { result ≡ Spec.destination_meant self.now address }
+    {
+        match self {
+            ShortDestination::Gateway { id } => Destination::Gateway {
+                id: id.name(),
+                address,
+            },
+            ShortDestination::Terminal { id } => Destination::Terminal {
+                id: id.name(),
+                address,
+            },
+            ShortDestination::Zone { name } => Destination::Zone {
+                name: name.name(),
+                address,
+            },
+        }
+    }
+}
+
+impl ShortOver {
+    /// The sum that would be above its limit, of a call from this zone.
+    fn of_zone(&self, zone: &ShortName) -> Over
+        ensures { result ≡ Spec.over_meant self.now zone.now }
+    {
+        match self {
+            ShortOver::OwnZone { kind } => Over::Zone {
+                kind: *kind,
+                zone: zone.name(),
+            },
+            ShortOver::Remote => Over::Remote,
+        }
+    }
+}
+
+impl Unrouted {
+    /// Why the admission is refused.
+    fn reason(&self) -> AdmitRefusal
+        ensures { result ≡ Spec.reason_meant self.now }
+    {
+        match self {
+            Unrouted::CallerNotRegistered => AdmitRefusal::CallerNotRegistered,
+            Unrouted::CallOpen { .. } => AdmitRefusal::CallOpen,
+            Unrouted::NoRoute { refusal, .. } => AdmitRefusal::NoRoute(*refusal),
+        }
+    }
+
+    /// The zone of the caller, if it was registered.
+    fn zone(&self) -> Option<Name>
+        ensures { result ≡ Spec.zone_meant self.now }
+    {
+        match self {
+            Unrouted::CallerNotRegistered => None,
+            Unrouted::CallOpen { zone } | Unrouted::NoRoute { zone, .. } => Some(zone.name()),
+        }
+    }
+
+    /// Where the digits lead, if that was looked for.
+    fn route(&self) -> Option<Route>
+        ensures { result ≡ Spec.route_meant self.now }
+    {
+        match self {
+            Unrouted::CallerNotRegistered | Unrouted::CallOpen { .. } => None,
+            Unrouted::NoRoute { refusal, .. } => Some(Route::Refused(*refusal)),
+        }
+    }
+}
+
+impl Slot {
+    /// The entry, or its place in the list of whole entries.
+    pub(crate) fn entry(&self) -> Result<Entry, u32>
+        ensures { (aside : List PlainEntry) → MatchResult result
+            (λ entry. Spec.entry_meant aside self.now ≡ Some (plain_entry entry))
+            (λ place. Spec.entry_meant aside self.now ≡ slice_get aside place) }
+    {
+        match self {
+            Slot::Admitted {
+                call,
+                units,
+                id,
+                digits,
+                zone,
+                destination,
+                address,
+            } => {
+                let asked = Asked::new(*call, *units, *id, *digits);
+                Ok(admitted(&asked, zone, &destination.at(*address)))
+            }
+            Slot::OverLimit {
+                call,
+                units,
+                id,
+                digits,
+                zone,
+                destination,
+                address,
+                over,
+            } => {
+                let asked = Asked::new(*call, *units, *id, *digits);
+                let over = over.of_zone(zone);
+                Ok(over_limit(&asked, zone, &destination.at(*address), &over))
+            }
+            Slot::Refused {
+                call,
+                units,
+                id,
+                digits,
+                cause,
+            } => {
+                let asked = Asked::new(*call, *units, *id, *digits);
+                Ok(refused(&asked, cause))
+            }
+            Slot::Change { id, call, units } => Ok(changed(id, *call, *units)),
+            Slot::Release { id, call } => Ok(released(id, *call)),
+            Slot::Unregistration { id } => Ok(unregistered(id)),
+            Slot::Aside { place } => Err(*place),
+        }
+    }
+}
+
+/// The entry of a granted admission.
+fn admitted(asked: &Asked, zone: &ShortName, destination: &Destination) -> Entry
+    ensures { plain_entry result ≡ Spec.routed_entry asked.now zone.now destination.now
+        (Reply.Admitted asked.now.call destination.now asked.now.units) }
+{
+    let reply = Reply::Admitted {
+        call: asked.call,
+        destination: *destination,
+        units: asked.units,
+    };
+    admission(
+        asked,
+        reply,
+        Some(zone.name()),
+        Some(Route::To(*destination)),
+    )
+}
+
+/// The entry of an admission that was refused for a limit.
+fn over_limit(asked: &Asked, zone: &ShortName, destination: &Destination, over: &Over) -> Entry
+    ensures { plain_entry result ≡ Spec.routed_entry asked.now zone.now destination.now
+        (Reply.AdmitRefused asked.now.call (AdmitRefusal.OverLimit over.now)) }
+{
+    let reply = Reply::AdmitRefused {
+        call: asked.call,
+        reason: AdmitRefusal::OverLimit(*over),
+    };
+    admission(
+        asked,
+        reply,
+        Some(zone.name()),
+        Some(Route::To(*destination)),
+    )
+}
+
+/// The entry of an admission that leads to no destination.
+fn refused(asked: &Asked, cause: &Unrouted) -> Entry
+    ensures { plain_entry result ≡ Spec.admission_entry asked.now
+        (Reply.AdmitRefused asked.now.call (Spec.reason_meant cause.now))
+        (Spec.zone_meant cause.now) (Spec.route_meant cause.now) }
+{
+    let reply = Reply::AdmitRefused {
+        call: asked.call,
+        reason: cause.reason(),
+    };
+    admission(asked, reply, cause.zone(), cause.route())
+}
+
+/// The entry of an admission.
+fn admission(asked: &Asked, reply: Reply, zone: Option<Name>, route: Option<Route>) -> Entry
+    ensures { plain_entry result ≡ Spec.admission_entry asked.now reply zone route }
+{
+    Entry {
+        event: Event::Admit {
+            id: asked.id.name(),
+            call: asked.call,
+            digits: asked.digits.digits(),
+            units: asked.units,
+        },
+        reply,
+        zone,
+        route,
+    }
+}
+
+/// The entry of a granted bandwidth change.
+fn changed(id: &ShortName, call: u32, units: Units) -> Entry
+    ensures { plain_entry result ≡ Spec.other_entry (Changing id.now call units)
+        (Reply.Changed call units) }
+{
+    let event = Event::Change {
+        id: id.name(),
+        call,
+        units,
+    };
+    other(event, Reply::Changed { call, units })
+}
+
+/// The entry of a granted release.
+fn released(id: &ShortName, call: u32) -> Entry
+    ensures { plain_entry result ≡ Spec.other_entry (Releasing id.now call)
+        (Reply.Released call) }
+{
+    let event = Event::Release {
+        id: id.name(),
+        call,
+    };
+    other(event, Reply::Released { call })
+}
+
+/// The entry of a granted unregistration.
+fn unregistered(id: &ShortName) -> Entry
+    ensures { plain_entry result ≡ Spec.other_entry (Unregistering id.now)
+        (Reply.Unregistered id.now) }
+{
+    let event = Event::Unregister { id: id.name() };
+    other(event, Reply::Unregistered { id: id.name() })
+}
+
+/// The entry of an event that is not an admission.
+fn other(event: Event, reply: Reply) -> Entry
+    ensures { plain_entry result ≡ Spec.other_entry (plain event) reply }
+{
+    Entry {
+        event,
+        reply,
+        zone: None,
+        route: None,
+    }
+}

@@ -1,0 +1,9 @@
+//! A list that is held in pieces of a fixed size, so that it grows without moving what it holds:
+//! for a record that grows for as long as a program runs.
+#![tactic(auto)]
+
+pub mod list;
+#[cfg(test)]
+mod tests;
+
+pub use list::{PIECE_ITEMS, Pieces};

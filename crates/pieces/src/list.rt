@@ -1,0 +1,125 @@
+//! The list and its pieces.
+
+ghost use Rattle.std.specs.Prelude.{◌≡◌, ◌<◌, ◌≤◌, ◌+◌, ◌-◌, ◌^◌, ◌++◌, ◌∷◌, [], length, slice_get, option_copied, OnOk, OnErr};
+
+use std::alloc::{AllocError, Global};
+use std::marker::Model;
+
+/// How many items one piece has room for.
+pub const PIECE_ITEMS: usize = 1024;
+
+/// How many pieces a list has at most: there is room for fewer than 2^63 items in them.
+const MOST_PIECES: usize = usize::MAX / 2 / PIECE_ITEMS;
+
+/// A list that grows by pieces of `PIECE_ITEMS` items. A contract sees the items in order, and for
+/// how many further ones there is room without memory.
+///
+/// An item stays where it was put, and no call but the drop goes over the items. As the list grows,
+/// only the list of its pieces is moved, which has one entry for 1,024 items.
+#[derive(Drop)]
+pub struct Pieces<T> {
+    // Each full before there is an item in the next. The empty ones are room that was reserved.
+    pieces: Vec<Vec<T>>,
+    len: usize,
+}
+
+impl<T> Model for Pieces<T> {
+    ghost use Rattle.std.specs.Prelude.{◌*◌, ◌-◌, length, vec_items};
+    ghost use Rattle.std.specs.List.{flat_map};
+    ghost use Rattle.pieces.specs.Pieces.{PiecesParts, pieces_code};
+
+    ghost Value = { PiecesParts T };
+
+    ghost coded = { pieces_code T.code };
+
+    ghost use Rattle.pieces.specs.Filled.{IsFilled};
+
+    ghost view = { λ p. record {
+      items = flat_map vec_items p.pieces.items;
+      room = 1024 * length p.pieces.items - p.len;
+    } };
+
+    ghost invariant = { λ p. IsFilled p.pieces.items p.len };
+}
+
+impl<T: Drop> Pieces<T> {
+    /// No items, and no room. It takes no memory.
+    pub fn new(alloc: Global) -> Pieces<T>
+        ensures { result ≡ record { items = []; room = 0 } }
+    {
+        Pieces {
+            pieces: Vec::new(alloc),
+            len: 0,
+        }
+    }
+
+    /// How many items there are. With those that there is room for they are fewer than 2^63.
+    #[tactic(auto, using(crate::proofs::Filled::items_counted, crate::proofs::Filled::count_fits))]
+    pub fn len(&self) -> usize
+        ensures value { result ≡ length self.now.items }
+        ensures bounded { result + self.now.room < 2 ^ 63 }
+    {
+        self.len
+    }
+
+    /// The item at this place, from 0, if there is one.
+    pub fn get(&self, place: usize) -> Option<&T>
+        ensures { option_copied result ≡ slice_get self.now.items place }
+    {
+        let piece = self.pieces.get(place / PIECE_ITEMS)?;
+        piece.get(place % PIECE_ITEMS)
+    }
+
+    /// For how many further items there is room without memory.
+    #[tactic(auto, using(crate::proofs::Filled::count_fits))]
+    fn room(&self) -> usize
+        ensures { result ≡ self.now.room }
+    {
+        self.pieces.len() * PIECE_ITEMS - self.len
+    }
+
+    /// Makes room for this many further items, by one new piece at most: it is asked for no more
+    /// than `PIECE_ITEMS` beyond the room that there is.
+    ///
+    /// `AllocError` if there is less room than that, and memory runs out or the list would have
+    /// room for 2^63 items. Then nothing changes.
+    pub fn reserve(&mut self, places: usize) -> Result<(), AllocError>
+        requires near { places ≤ self.old.room + PIECE_ITEMS }
+        ensures items { self.new.items ≡ self.old.items }
+        ensures ok { OnOk result ((places ≤ self.new.room) × (self.old.room ≤ self.new.room)) }
+        ensures err { OnErr result ((self.new ≡ self.old) × (self.old.room < places)) }
+    {
+        if places <= self.room() {
+            return Ok(());
+        }
+        self.add_piece()
+    }
+
+    /// Adds an empty piece. `AllocError` if memory runs out, or there are `MOST_PIECES`; then
+    /// nothing changes.
+    fn add_piece(&mut self) -> Result<(), AllocError>
+        ensures ok { OnOk result (self.new ≡ record self.old { room = self.old.room + 1024 }) }
+        ensures err { OnErr result (self.new ≡ self.old) }
+    {
+        if self.pieces.len() >= MOST_PIECES {
+            return Err(AllocError);
+        }
+        self.pieces.reserve(1)?;
+        let piece = Vec::with_capacity(*self.pieces.allocator(), PIECE_ITEMS)?;
+        self.pieces.push_reserved(piece);
+        Ok(())
+    }
+
+    /// Puts an item at the end, in room that was reserved. It takes no memory.
+    pub fn push(&mut self, item: T)
+        requires { 1 ≤ self.old.room }
+        ensures { self.new ≡ record {
+          items = self.old.items ++ item ∷ [];
+          room = self.old.room - 1;
+        } }
+    {
+        let piece = &mut self.pieces[self.len / PIECE_ITEMS];
+        piece.push_reserved(item);
+        self.len += 1;
+    }
+}
