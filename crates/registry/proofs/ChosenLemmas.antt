@@ -16,7 +16,7 @@ use Rattle.registry.specs.RegistryIndex.{kept_endpoint_of}
 use Rattle.registry.specs.Roll.{Numbered, at_number, by_id, found_with_id, IsNumberFor}
 use Rattle.registry.specs.Served.{found_serving}
 use Rattle.registry.specs.Listing.{NoneServes, IsNextServing}
-use Rattle.registry.specs.Chosen.{Named, is_other_than, IsBest, IsBestAt, comes_first, first_of}
+use Rattle.registry.specs.Chosen.{Named, is_other_than, IsBest, IsBestAt, comes_first, first_of, is_first, is_greater}
 use Rattle.registry.proofs.RegistryLemmas.{entry_id}
 use Rattle.registry.proofs.RollLemmas.{not_missed}
 use Rattle.registry.proofs.ShelfLemmas.{Keyed-by_id}
@@ -138,6 +138,88 @@ module _ (entries : Numbered) (named : Named) (zone prefix : List ℕ) where
       retest (test_of (id ∷ rest)) (test_of rest)
       (λ n e there. others_same id rest e
       (λ own. absurd (not_missed entries n id e there own none))) best h
+
+  -- ---- one that stays the best
+  module _ (id : List ℕ) (rest : List (List ℕ)) (b : ℕ × ℕ)
+      (h : IsBestAt entries named (test_of (id ∷ rest)) b.0 b.1) where
+    weaker : (able mine listed : Bool) → (able && not (mine || listed)) ≡ true
+        → (able && not listed) ≡ true
+    weaker true true listed k = cc
+    weaker true false listed k = k
+    weaker false mine listed k = cc
+
+    stronger : (able mine listed : Bool) → mine ≡ false → (able && not listed) ≡ true
+        → (able && not (mine || listed)) ≡ true
+    stronger able true listed k g = cc
+    stronger able false listed k g = g
+
+    -- the one with the ID is no better
+    stays_if : ((n : ℕ) (f : EndpointParts) → at_number entries n ≡ Some f
+        → bytes_eq f.id id ≡ true
+        → (named_priority named f.id < b.0) ⊎ ((named_priority named f.id ≡ b.0) × (b.1 ≤ n)))
+        → IsBestAt entries named (test_of rest) b.0 b.1
+    stays_if own_is = record {
+      endpoint = h.endpoint;
+      there = h.there;
+      passes =
+          weaker (is_able h.endpoint) (bytes_eq h.endpoint.id id)
+          (list_any (bytes_eq h.endpoint.id) rest) h.passes;
+      ranked = h.ranked;
+      greatest = λ n f at p. by n f at p (bytes_eq f.id id) refl;
+    }
+      where
+        by : (n : ℕ) (f : EndpointParts) → at_number entries n ≡ Some f → test_of rest f ≡ true
+            → (own : Bool) → bytes_eq f.id id ≡ own
+            → (named_priority named f.id < b.0) ⊎ ((named_priority named f.id ≡ b.0) × (b.1 ≤ n))
+        by n f at p true e = own_is n f at e
+        by n f at p false e =
+            h.greatest n f at
+            (stronger (is_able f) (bytes_eq f.id id) (list_any (bytes_eq f.id) rest) e p)
+
+    priority_of_own : (f : EndpointParts) → bytes_eq f.id id ≡ true
+        → named_priority named f.id ≡ named_priority named id
+    priority_of_own f own = ap (named_priority named) (same_text f.id id (sym own))
+
+    stays_greater : nat_lt (named_priority named id) b.0 ≡ true
+        → IsBestAt entries named (test_of rest) b.0 b.1
+    stays_greater less = stays_if (λ n f at own.
+        let level = priority_of_own f own in
+        let lower : named_priority named f.id < b.0 = grind (arith, nat_tests) in
+        inl lower)
+
+    stays_before : (next number : ℕ)
+        → IsNumberFor (record { entries = entries; next = next }) id number
+        → comes_first b (named_priority named id, number) ≡ true
+        → IsBestAt entries named (test_of rest) b.0 b.1
+    stays_before next number known first = stays_if (λ n f at own.
+        let place : n ≡ number = known.only n (ap (found_with_id id) at ∙ own) in
+        by n f own place (no_better (named_priority named id) b.0 b.1 number first))
+      where
+        by : (n : ℕ) (f : EndpointParts) → bytes_eq f.id id ≡ true → n ≡ number
+            → (named_priority named id < b.0)
+            ⊎ ((named_priority named id ≡ b.0) × (b.1 ≤ number))
+            → (named_priority named f.id < b.0) ⊎ ((named_priority named f.id ≡ b.0) × (b.1 ≤ n))
+        by n f own place (inl less) =
+            inl (subst (λ p. p < b.0) (sym (priority_of_own f own)) less)
+        by n f own place (inr same) =
+            inr (priority_of_own f own ∙ same.0, subst (λ m. b.1 ≤ m) (sym place) same.1)
+
+  pub keeps_greater : (id : List ℕ) (rest : List (List ℕ)) (best : Option (ℕ × ℕ))
+      → IsBest entries named (test_of (id ∷ rest)) best
+      → is_greater best (named_priority named id) ≡ true
+      → IsBest entries named (test_of rest) best
+  keeps_greater id rest None h less = cc
+  keeps_greater id rest (Some b) h less = stays_greater id rest b h less
+
+  pub keeps_first : (next : ℕ) (id : List ℕ) (number : ℕ)
+      → IsNumberFor (record { entries = entries; next = next }) id number
+      → (rest : List (List ℕ)) (best : Option (ℕ × ℕ))
+      → IsBest entries named (test_of (id ∷ rest)) best
+      → is_first best (named_priority named id, number) ≡ true
+      → IsBest entries named (test_of rest) best
+  keeps_first next id number known rest None h first = cc
+  keeps_first next id number known rest (Some b) h first =
+      stays_before id rest b h next number known first
 
   module _ (next : ℕ) (id : List ℕ) (number : ℕ)
       (known : IsNumberFor (record { entries = entries; next = next }) id number)

@@ -1,6 +1,6 @@
 -- Endpoints by number are the same by ID.
 use Rattle.std.proofs.Common.{◌≡◌, inl, inr, ℕ, ◌<◌, Bool, true, false, cond, List, [], ◌∷◌, refl, sym, ap, subst, ◌∙◌, arith}
-use Rattle.std.specs.Prelude.{Option, Some, None, MatchOption, bytes_eq}
+use Rattle.std.specs.Prelude.{Option, Some, None, MatchOption, is_some, bytes_eq}
 use Rattle.std.specs.Ordering.{nat_cmp, eq_by_cmp}
 use Rattle.std.specs.Cmp.{unsigned_tied, eq_by_cmp_equiv}
 use Rattle.std.specs.BTreeMap.{is_at}
@@ -154,6 +154,24 @@ module _ (entries : Numbered) (numbers : Numbers) (next : ℕ)
           absurd (both_ways false refl
           (ap (is_number under.number) (sym unknown) ∙ roll.numbered id under.number
           ∙ ap (found_with_id id) under.there ∙ under.own))
+
+  -- an ID is that of an endpoint exactly if it has a number
+  pub known_is_kept : (id : List ℕ)
+      → is_some (number_of numbers id) ≡ is_some (kept_endpoint_of (by_id entries) id)
+  known_is_kept id = by (number_of numbers id) refl
+    where
+      there : (at : Option EndpointParts) → found_with_id id at ≡ true → is_some at ≡ true
+      there None h = absurd (both_ways false refl h)
+      there (Some g) h = refl
+
+      by : (o : Option ℕ) → number_of numbers id ≡ o
+          → is_some o ≡ is_some (kept_endpoint_of (by_id entries) id)
+      by None h = sym (ap is_some (kept_nowhere id h))
+      by (Some n) h =
+          let own : found_with_id id (at_number entries n) ≡ true =
+          sym (roll.numbered id n) ∙ ap (is_number n) h
+          ∙ sym (unsigned_tied n n) ∙ number_itself n in
+          sym (ap is_some (kept_under id n h) ∙ there (at_number entries n) own)
 
   -- the number for an ID
   pub known_number : (id : List ℕ) (number : ℕ) → number_of numbers id ≡ Some number

@@ -43,3 +43,13 @@ comes_first a b = nat_lt b.0 a.0 || ((a.0 == b.0) && nat_le a.1 b.1)
 abbrev pub first_of : Option (ℕ × ℕ) → ℕ × ℕ → ℕ × ℕ
 first_of None b = b
 first_of (Some a) b = if comes_first a b then a else b
+
+-- there is one already, and it comes before the other
+abbrev pub is_first : Option (ℕ × ℕ) → ℕ × ℕ → Bool
+is_first None b = false
+is_first (Some a) b = comes_first a b
+
+-- there is one already, of a greater priority
+abbrev pub is_greater : Option (ℕ × ℕ) → ℕ → Bool
+is_greater None priority = false
+is_greater (Some a) priority = nat_lt priority a.0

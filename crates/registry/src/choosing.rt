@@ -9,7 +9,7 @@ ghost use Rattle.std.specs.Map.{keys_of, lookup};
 ghost use Rattle.compiler.specs.Priority.{named_priority};
 ghost use Rattle.registry.specs.Roll.{endpoints_of};
 ghost use Rattle.registry.specs.Gateway.{gateway_by, is_candidate};
-ghost use Rattle.registry.specs.Chosen.{IsBest, comes_first, first_of, is_other_than};
+ghost use Rattle.registry.specs.Chosen.{IsBest, comes_first, first_of, is_first, is_greater, is_other_than};
 
 use crate::endpoints::Endpoint;
 use crate::listing::Listing;
@@ -95,10 +95,16 @@ fn with_named(
         → IsBest listing.now.entries named.now.entries
         (is_other_than named.now.entries zone.now prefix.now rest) result }
 {
+    let priority = priority_of(named, id);
+    if is_greater(best, priority) {
+        return best;
+    }
     let Some(number) = listing.number(id) else {
         return best;
     };
-    let priority = priority_of(named, id);
+    if is_first(best, (priority, number)) {
+        return best;
+    }
     if serves(listing.at_number(number), zone, prefix) & (priority > 0) {
         Some(first_of(best, (priority, number)))
     } else {
@@ -113,6 +119,26 @@ fn priority_of(named: &IndexMap<Name, u8>, gateway: &Name) -> u8
     match named.get(gateway) {
         Some(priority) => *priority,
         None => USUAL_GATEWAY_PRIORITY,
+    }
+}
+
+/// Whether there is one already, of a greater priority.
+fn is_greater(best: Option<(u8, u32)>, priority: u8) -> bool
+    ensures { result ≡ is_greater best priority }
+{
+    match best {
+        Some(best) => priority < best.0,
+        None => false,
+    }
+}
+
+/// Whether there is one already, and it comes before the other.
+fn is_first(best: Option<(u8, u32)>, other: (u8, u32)) -> bool
+    ensures { result ≡ is_first best other }
+{
+    match best {
+        Some(best) => comes_first(best, other),
+        None => false,
     }
 }
 

@@ -1,6 +1,6 @@
 //! Endpoints in order of registration, and which gateways serve a zone with a technology prefix.
 
-ghost use Rattle.std.specs.Prelude.{◌≡◌, ◌<◌, ◌≤◌, ◌+◌, ◌^◌, [], Some, None, length, OnOk, OnErr, IfOk, MatchOption, bytes_eq};
+ghost use Rattle.std.specs.Prelude.{◌≡◌, ◌<◌, ◌≤◌, ◌+◌, ◌^◌, [], Some, None, length, OnOk, OnErr, IfOk, MatchOption, bytes_eq, is_some};
 ghost use Rattle.std.specs.Option.{option_copied};
 ghost use Rattle.std.specs.Ordering.{nat_cmp};
 ghost use Rattle.std.specs.List.{IsDistinct};
@@ -64,6 +64,13 @@ impl Listing {
         ensures sorted { IsStrictlySortedBy nat_cmp (keys_of self.now.entries) }
     {
         self.roll.next()
+    }
+
+    /// Whether an endpoint has this ID.
+    pub fn has(&self, id: &Name) -> bool
+        ensures { result ≡ is_some (kept_endpoint_of (by_id self.now.entries) id.now) }
+    {
+        self.roll.has(id)
     }
 
     /// The endpoint with this ID.

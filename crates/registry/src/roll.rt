@@ -1,6 +1,6 @@
 //! Endpoints in order of registration, found by ID and by number.
 
-ghost use Rattle.std.specs.Prelude.{◌≡◌, ◌<◌, ◌≤◌, ◌+◌, ◌^◌, [], None, Some, length, OnOk, OnErr, IfOk, IfErr, IfSome, MatchOption, bytes_eq};
+ghost use Rattle.std.specs.Prelude.{◌≡◌, ◌<◌, ◌≤◌, ◌+◌, ◌^◌, [], None, Some, length, OnOk, OnErr, IfOk, IfErr, IfSome, MatchOption, bytes_eq, is_some};
 ghost use Rattle.std.specs.Option.{option_copied};
 ghost use Rattle.std.specs.Ordering.{nat_cmp};
 ghost use Rattle.std.specs.List.{IsDistinct};
@@ -86,6 +86,13 @@ impl Roll {
             ≡ at_number self.now.entries number)) }
     {
         self.numbers.get(id).copied()
+    }
+
+    /// Whether an endpoint has this ID.
+    pub fn has(&self, id: &Name) -> bool
+        ensures { result ≡ is_some (kept_endpoint_of (by_id self.now.entries) id.now) }
+    {
+        self.numbers.contains_key(id)
     }
 
     /// The endpoint with this ID.

@@ -83,7 +83,7 @@ impl Shelf {
     pub fn is_registered(&self, id: &Name) -> bool
         ensures { result ≡ is_registered (endpoints_of self.now) id.now }
     {
-        self.listing.get(id).is_some()
+        self.listing.has(id)
     }
 
     /// The endpoint of that zone with that E.164 alias.

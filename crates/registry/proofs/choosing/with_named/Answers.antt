@@ -1,9 +1,24 @@
 use Rattle.std.proofs.Common.{◌&&◌, nat_lt, sym, ap, subst, ◌∙◌}
 use Rattle.compiler.specs.Priority.{named_priority}
-use Rattle.registry.specs.Chosen.{IsBestAt, is_other_than, first_of}
+use Rattle.registry.specs.Chosen.{IsBestAt, is_other_than, first_of, is_first, is_greater}
 use Rattle.registry.specs.Served.{found_serving}
-use Rattle.registry.proofs.ChosenLemmas.{drop_unknown, drop_failing, looked_at}
+use Rattle.registry.proofs.ChosenLemmas.{drop_unknown, drop_failing, looked_at, keeps_first, keeps_greater}
 use Rattle.registry.proofs.choosing.with_named.Goals as goal
+
+pub returns-then-is_greater : goal.returns-then-is_greater
+returns-then-is_greater c rest distinct h =
+    keeps_greater c.args.listing.now.entries c.args.named.now.entries c.args.zone.now
+    c.args.prefix.now c.args.id.now rest c.args.best h
+    (ap (is_greater c.args.best) (sym c.priority_of-priority.ensures)
+    ∙ sym c.is_greater.ensures ∙ c.if-is_greater.true)
+
+pub returns-then-is_first : goal.returns-then-is_first
+returns-then-is_first c rest distinct h =
+    keeps_first c.args.listing.now.entries c.args.named.now.entries c.args.zone.now
+    c.args.prefix.now c.args.listing.now.next c.args.id.now c.in-Some.number
+    c.in-Some.ensures.0 rest c.args.best h
+    (ap (λ p. is_first c.args.best (p, c.in-Some.number)) (sym c.priority_of-priority.ensures)
+    ∙ sym c.is_first.ensures ∙ c.if-is_first.true)
 
 pub returns-in_default : goal.returns-in_default
 returns-in_default c rest distinct h =

@@ -1,5 +1,4 @@
-use Rattle.std.proofs.Common.{ap, is_some, ◌∙◌}
-use Rattle.registry.proofs.CopyLemmas.{copied_is_some}
+use Rattle.std.proofs.Common.{ap, ◌∙◌}
 use Rattle.registry.specs.Registration.{is_registered}
 use Rattle.registry.proofs.RegistryLemmas.{entry_registered}
 use Rattle.registry.specs.Roll.{by_id}
@@ -9,7 +8,7 @@ use Rattle.registry.proofs.shelf.Shelf.is_registered.Goals as goal
 pub returns : goal.returns
 returns c =
     let id = c.args.id.now in
-    c.is_some.ensures ∙ copied_is_some c.get.result ∙ ap is_some c.get.ensures
+    c.has.ensures
     ∙ entry_registered id (by_id c.self.inside.listing.entries) c.self.invariant.keyed
     ∙ ap (λ endpoints. is_registered endpoints id)
     (seen c.self.inside.listing c.args.self.now c.self.view_is)

@@ -1,0 +1,14 @@
+use Rattle.std.proofs.Common.{ap, ◌∙◌}
+use Rattle.std.specs.Prelude.{is_some}
+use Rattle.registry.specs.RegistryIndex.{kept_endpoint_of}
+use Rattle.registry.specs.Roll.{RollParts, by_id}
+use Rattle.registry.proofs.RollLemmas.{known_is_kept}
+use Rattle.registry.proofs.roll.Roll.has.Goals as goal
+
+pub returns : goal.returns
+returns c =
+    let id = c.args.id.now in
+    c.contains_key.ensures
+    ∙ known_is_kept c.self.inside.endpoints.entries c.self.inside.numbers.entries
+    c.self.inside.next c.self.invariant id
+    ∙ ap (λ (r : RollParts). is_some (kept_endpoint_of (by_id r.entries) id)) c.self.view_is
