@@ -34,5 +34,6 @@ pub(crate) fn release(words: &mut Words<'_>) -> Result<Request, RequestFault>
     let sequence = sequence_field(words)?;
     let id = name_field(words, RequestFault::BadName)?;
     let call = call_field(words)?;
-    nothing_more(Request::Release { sequence, id, call }, words)
+    nothing_more((), words)?;
+    Ok(Request::Release { sequence, id, call })
 }

@@ -79,12 +79,12 @@ fn admit(words: &mut Words<'_>) -> Result<Request, RequestFault>
     let call = call_field(words)?;
     let digits = dialled_field(words, RequestFault::BadDigits)?;
     let units = units_field(words)?;
-    let request = Request::Admit {
+    nothing_more((), words)?;
+    Ok(Request::Admit {
         sequence,
         id,
         call,
         digits,
         units,
-    };
-    nothing_more(request, words)
+    })
 }
