@@ -101,8 +101,8 @@ RecordedRaisesWereWithin =
     → held.units < units
     → IsWithin (replay (opening_of commands limits) before) number held.units
 
--- the call for which an event asks bandwidth, as it would be: that of a registered caller, or an open
--- one
+-- the call for which an event asks bandwidth, as it would be: that of a registered caller, or an
+-- open one
 pub data Asks (s : State) : PlainEvent → OpenCall → Type 0 where
   ToBeAdmitted : (id digits : List ℕ) (call units : ℕ) (caller : EndpointParts)
       → endpoint_of s.endpoints id ≡ Some caller
@@ -178,7 +178,8 @@ abbrev pub generations_of : List Command → List PlainEntry → List (List Comm
 generations_of commands entries = commands ∷ filter_map (λ e. put_in_force e.event) entries
 
 -- what every record keeps: the commands in force are the last that were put in force, the version
--- is the number of those that were, the limits stay, its entries are counted, and no limit is passed
+-- is the number of those that were, the limits stay, its entries are counted, and no limit is
+-- passed
 pub record IsSound
     (commands : List Command) (limits : Limits) (entries : List PlainEntry) (s : State)
     : Type 0 where

@@ -53,8 +53,9 @@ pub fn recorded_raises_were_within()
     ensures { RecordedRaisesWereWithin }
 {}
 
-/// In every legal history: each refusal for a limit, of an admission or of a bandwidth change, names
-/// a sum in which the call that asks counts, and that would be above its limit in force with it.
+/// In every legal history: each refusal for a limit, of an admission or of a bandwidth change,
+/// names a sum in which the call that asks counts, and that would be above its limit in force with
+/// it.
 pub fn recorded_limits_are_above()
     ensures { RecordedLimitsAreAbove }
 {}

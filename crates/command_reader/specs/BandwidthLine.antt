@@ -17,7 +17,8 @@ most_of Session = MOST_SESSION_KBPS
 most_of Total = MOST_KBPS
 most_of Interzone = MOST_KBPS
 
--- ---- bandwidth total|interzone|session default SIZE, bandwidth total|interzone|session zone NAME SIZE
+-- ---- bandwidth total|interzone|session default SIZE,
+-- ---- bandwidth total|interzone|session zone NAME SIZE
 abbrev pub default_limit_at : LimitKind → List (List ℕ) → Result Command FaultKind
 default_limit_at kind words = do
   size ← field Missing (number_of 1 (most_of kind)) BadNumber words
@@ -49,4 +50,5 @@ bandwidth_at (word ∷ words) =
     else (if bytes_eq word (codes "interzone") then limit_at Interzone words
     else (if bytes_eq word (codes "session") then limit_at Session words
     else (if bytes_eq word (codes "remote") then remote_limit_at words
-    else (if bytes_eq word (codes "check-destination") then Err Unsupported else Err UnknownCommand))))
+    else (if bytes_eq word (codes "check-destination") then Err Unsupported
+    else Err UnknownCommand))))

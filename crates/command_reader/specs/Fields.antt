@@ -1,4 +1,5 @@
--- Fields in whose place Cisco's command may have words that this project leaves out, and fields that are names.
+-- Fields in whose place Cisco's command may have words that this project leaves out, and fields
+-- that are names.
 use Rattle.std.specs.Prelude.{ℕ, Bool, List, [], ◌∷◌, Option, Some, None, Result, Ok, Err, bytes_eq, if◌then◌else◌}
 use Rattle.std.specs.List.{list_any}
 use Rattle.std.specs.Option.{ok_or}
@@ -12,18 +13,24 @@ use Rattle.command_reader.specs.declared.faults.FaultKind.TheVariants.{Unsupport
 abbrev pub is_one_of : List (List ℕ) → List ℕ → Bool
 is_one_of words word = list_any (bytes_eq word) words
 
--- a word in its place: a left-out word is Unsupported, and one that cannot be read is its field's own kind
-abbrev pub value_but : {A : Type 0} → List (List ℕ) → (List ℕ → Option A) → FaultKind → List ℕ → Result A FaultKind
-value_but left_out read kind word = if is_one_of left_out word then Err Unsupported else ok_or (read word) kind
+-- a word in its place: a left-out word is Unsupported, and one that cannot be read is its field's
+-- own kind
+abbrev pub value_but : {A : Type 0} → List (List ℕ) → (List ℕ → Option A) → FaultKind → List ℕ
+    → Result A FaultKind
+value_but left_out read kind word =
+    if is_one_of left_out word then Err Unsupported else ok_or (read word) kind
 
 -- the first word as a field, with the words after it
-abbrev pub field_but : {A : Type 0} → List (List ℕ) → (List ℕ → Option A) → FaultKind → List (List ℕ) → Result (A × List (List ℕ)) FaultKind
+abbrev pub field_but : {A : Type 0} → List (List ℕ) → (List ℕ → Option A) → FaultKind
+    → List (List ℕ) → Result (A × List (List ℕ)) FaultKind
 field_but left_out read kind words = field_by Missing (value_but left_out read kind) words
 
--- a value, if no word comes after the last field: a left-out word is Unsupported, another word is Extra
+-- a value, if no word comes after the last field: a left-out word is Unsupported, another word is
+-- Extra
 abbrev pub nothing_more_but : {A : Type 0} → List (List ℕ) → A → List (List ℕ) → Result A FaultKind
 nothing_more_but left_out x [] = Ok x
-nothing_more_but left_out x (word ∷ words) = if is_one_of left_out word then Err Unsupported else Err Extra
+nothing_more_but left_out x (word ∷ words) =
+    if is_one_of left_out word then Err Unsupported else Err Extra
 
 -- ---- names
 -- with one more name before these

@@ -28,4 +28,5 @@ MayRefuseCommand fault kind = (fault ≡ Some kind) ⊎ ((kind ≡ NoMemory) × 
 
 -- new has the name that the command declares, if it declares one, beside those of old
 abbrev pub AddsDeclared : List (List ℕ) → List (List ℕ) → Command → Type 0
-AddsDeclared old new command = MatchOption (declared_by command) (new ≡ old) (λ zone. IsPermutation (zone.0 ∷ old) new)
+AddsDeclared old new command =
+    MatchOption (declared_by command) (new ≡ old) (λ zone. IsPermutation (zone.0 ∷ old) new)

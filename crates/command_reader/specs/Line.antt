@@ -15,7 +15,9 @@ use Rattle.command_reader.specs.BandwidthLine.{bandwidth_at}
 abbrev pub arq_at : List (List ℕ) → Result Command FaultKind
 arq_at [] = Err Missing
 arq_at (word ∷ words) =
-    if bytes_eq word (codes "reject-unknown-prefix") then nothing_more Extra RejectUnknownPrefix words else Err UnknownCommand
+    if bytes_eq word (codes "reject-unknown-prefix")
+    then nothing_more Extra RejectUnknownPrefix words
+    else Err UnknownCommand
 
 -- ---- no shutdown, no use-proxy
 -- of the lines that take a command back, these two change nothing here and are passed over
@@ -63,7 +65,8 @@ named_command_at word words =
     if bytes_eq word (codes "zone") then kept_command_of (zone_at words)
     else (if bytes_eq word (codes "gw-type-prefix") then kept_command_of (gw_type_prefix_at words)
     else (if bytes_eq word (codes "arq") then kept_command_of (arq_at words)
-    else (if bytes_eq word (codes "bandwidth") then kept_command_of (bandwidth_at words) else passed_at word words)))
+    else (if bytes_eq word (codes "bandwidth") then kept_command_of (bandwidth_at words)
+    else passed_at word words)))
 
 -- what the words of a line say; None if it is passed over
 abbrev pub command_at : List (List ℕ) → Result (Option Command) FaultKind

@@ -7,7 +7,9 @@ use Rattle.command_reader.specs.declared.commands.Command.{Command}
 use Rattle.command_reader.specs.Zones.{declared_by}
 
 -- out of memory is answered in place of something without a fault, of which P holds
-pub record LacksMemoryInPlace {A : Type 0} (P : A → Type 0) (right : Result A FaultKind) (kind : FaultKind) : Type 0 where
+pub record LacksMemoryInPlace
+    {A : Type 0} (P : A → Type 0) (right : Result A FaultKind) (kind : FaultKind)
+    : Type 0 where
   pub named : kind ≡ NoMemory
   pub said : A
   pub free : right ≡ Ok said
@@ -18,7 +20,8 @@ abbrev pub MayRefuse : {A : Type 0} → (A → Type 0) → Result A FaultKind �
 MayRefuse P right kind = (right ≡ Err kind) ⊎ LacksMemoryInPlace P right kind
 
 -- just what is right; or out of memory in its place, if it has no fault and P holds of it
-abbrev pub UnlessMemory : {A : Type 0} → (A → Type 0) → Result A FaultKind → Result A FaultKind → Type 0
+abbrev pub UnlessMemory : {A : Type 0} → (A → Type 0) → Result A FaultKind → Result A FaultKind
+    → Type 0
 UnlessMemory P right result = MatchResult result (λ x. right ≡ Ok x) (MayRefuse P right)
 
 -- anything

@@ -22,11 +22,16 @@ is_default_option Hunt = false
 is_default_option DefaultTechnology = true
 
 -- after holds what before does, and the option
-pub record AddsOption (before : OpenOptions) (option : TechnologyOption) (after : OpenOptions) : Type 0 where
+pub record AddsOption
+    (before : OpenOptions) (option : TechnologyOption) (after : OpenOptions)
+    : Type 0 where
   pub expected : after.expected ≡ expected_after option
-  pub hopoffs : MatchResult before.hopoffs (λ front. HoldsNames after.hopoffs (front ++ names_of option)) (λ _. IsErr after.hopoffs)
+  pub hopoffs : MatchResult before.hopoffs
+      (λ front. HoldsNames after.hopoffs (front ++ names_of option))
+      (λ _. IsErr after.hopoffs)
   pub is_default : after.is_default ≡ (is_default_option option || before.is_default)
 
 -- both parts of the options
-abbrev pub hopoffs_and_default : Result TechnologyOptions FaultKind → Result (List (List ℕ) × Bool) FaultKind
+abbrev pub hopoffs_and_default : Result TechnologyOptions FaultKind
+    → Result (List (List ℕ) × Bool) FaultKind
 hopoffs_and_default right = right >>= λ options. Ok (options.hopoffs, options.is_default)

@@ -25,7 +25,8 @@ local_words (Some address) = ip_text address.ip ∷ port_words address.port
 -- port, cost and priority, always written
 abbrev pub remote_words : AddressParts → ℕ → ℕ → List (List ℕ)
 remote_words address cost priority =
-    ip_text address.ip ∷ decimal address.port ∷ codes "cost" ∷ decimal cost ∷ codes "priority" ∷ decimal priority ∷ []
+    ip_text address.ip ∷ decimal address.port
+    ∷ codes "cost" ∷ decimal cost ∷ codes "priority" ∷ decimal priority ∷ []
 
 -- the gateways with their priority, if they were given
 abbrev pub gateway_words : Option GatewayPriority → List (List ℕ)
@@ -35,7 +36,8 @@ gateway_words (Some g) = codes "gw-priority" ∷ decimal g.priority ∷ g.gatewa
 -- ---- technology prefixes
 -- names that would be read as an option after another name
 abbrev pub option_words : List (List ℕ)
-option_words = codes "hopoff" ∷ codes "seq" ∷ codes "blast" ∷ codes "default-technology" ∷ codes "gw" ∷ []
+option_words =
+    codes "hopoff" ∷ codes "seq" ∷ codes "blast" ∷ codes "default-technology" ∷ codes "gw" ∷ []
 
 -- a further name of a hopoff: such a name comes after the word `hopoff` again
 abbrev pub further_words : List ℕ → List (List ℕ)
@@ -58,15 +60,19 @@ limit_word Interzone = codes "interzone"
 -- ---- a command
 -- the words of a command's canonical line
 abbrev pub command_words : Command → List (List ℕ)
-command_words (ZoneLocal name domain address) = codes "zone" ∷ codes "local" ∷ name ∷ domain ∷ local_words address
+command_words (ZoneLocal name domain address) =
+    codes "zone" ∷ codes "local" ∷ name ∷ domain ∷ local_words address
 command_words (ZoneRemote name domain address cost priority) =
     codes "zone" ∷ codes "remote" ∷ name ∷ domain ∷ remote_words address cost priority
-command_words (ZonePrefix zone pattern gateways) = codes "zone" ∷ codes "prefix" ∷ zone ∷ pattern_text pattern ∷ gateway_words gateways
+command_words (ZonePrefix zone pattern gateways) =
+    codes "zone" ∷ codes "prefix" ∷ zone ∷ pattern_text pattern ∷ gateway_words gateways
 command_words (GwTypePrefix prefix hopoffs is_default) =
     codes "gw-type-prefix" ∷ prefix ∷ hopoff_words hopoffs ++ default_words is_default
 command_words RejectUnknownPrefix = codes "arq" ∷ codes "reject-unknown-prefix" ∷ []
-command_words (BandwidthDefault kind size) = codes "bandwidth" ∷ limit_word kind ∷ codes "default" ∷ decimal size ∷ []
-command_words (BandwidthZone kind zone size) = codes "bandwidth" ∷ limit_word kind ∷ codes "zone" ∷ zone ∷ decimal size ∷ []
+command_words (BandwidthDefault kind size) =
+    codes "bandwidth" ∷ limit_word kind ∷ codes "default" ∷ decimal size ∷ []
+command_words (BandwidthZone kind zone size) =
+    codes "bandwidth" ∷ limit_word kind ∷ codes "zone" ∷ zone ∷ decimal size ∷ []
 command_words (BandwidthRemote size) = codes "bandwidth" ∷ codes "remote" ∷ decimal size ∷ []
 
 -- a line for each command

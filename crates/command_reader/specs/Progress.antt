@@ -25,4 +25,5 @@ commands_in read = map (λ n. n.command) read.kept
 abbrev pub with_numbers : List ℕ → List Command → List NumberedCommand
 with_numbers [] commands = []
 with_numbers (number ∷ numbers) [] = []
-with_numbers (number ∷ numbers) (command ∷ commands) = record { line = number; command = command } ∷ with_numbers numbers commands
+with_numbers (number ∷ numbers) (command ∷ commands) =
+    record { line = number; command = command } ∷ with_numbers numbers commands

@@ -16,19 +16,22 @@ use Rattle.command_reader.specs.Zones.{zones_of, declared_by, is_declared, named
 -- the fault of one more zone: its name is declared before, or no more are allowed
 abbrev pub fault_of_name : Bool → ℕ → Option FaultKind
 fault_of_name declared count =
-    if declared then Some DuplicateZone else (if nat_le MOST_ZONES count then Some TooMany else None)
+    if declared then Some DuplicateZone
+    else (if nat_le MOST_ZONES count then Some TooMany else None)
 
 -- the fault of a zone that is declared after these commands
 abbrev pub zone_fault : List Command → List ℕ → Option FaultKind
 zone_fault before name = fault_of_name (is_declared before name) (length (zones_of before))
 
 abbrev pub command_fault : List Command → Command → Option FaultKind
-command_fault before command = option_and_then (λ zone. zone_fault before zone.0) (declared_by command)
+command_fault before command =
+    option_and_then (λ zone. zone_fault before zone.0) (declared_by command)
 
 -- with a command of the next line
 abbrev pub with_command : Progress → Command → Progress
-with_command before command =
-    record before { kept = before.kept ++ (record { line = line_count before + 1; command = command }) ∷ [] }
+with_command before command = record before {
+  kept = before.kept ++ (record { line = line_count before + 1; command = command }) ∷ [];
+}
 
 -- with the next line passed over
 abbrev pub with_passed : Progress → Progress
@@ -42,11 +45,14 @@ unless_fault (Some kind) read = Err kind
 abbrev pub said_after : Progress → Result (Option Command) FaultKind → Result Progress FaultKind
 said_after before (Err kind) = Err kind
 said_after before (Ok None) = Ok (with_passed before)
-said_after before (Ok (Some command)) = unless_fault (command_fault (commands_in before) command) (with_command before command)
+said_after before (Ok (Some command)) =
+    unless_fault (command_fault (commands_in before) command) (with_command before command)
 
 -- one line after those before it
 unfoldable pub line_after : Progress → List ℕ → Result Progress FaultKind
-line_after before line = if nat_le MOST_LINES (line_count before) then Err TooMany else said_after before (line_of line)
+line_after before line =
+    if nat_le MOST_LINES (line_count before) then Err TooMany
+    else said_after before (line_of line)
 
 -- ---- all lines
 -- a fault of the line with this number
@@ -54,29 +60,34 @@ abbrev pub fault_at : ℕ → FaultKind → LineFault
 fault_at number kind = record { line = number; kind = kind }
 
 -- the rest is read if this line has no fault
-abbrev pub line_then : ℕ → (Progress → Result Progress LineFault) → Result Progress FaultKind → Result Progress LineFault
+abbrev pub line_then : ℕ → (Progress → Result Progress LineFault) → Result Progress FaultKind
+    → Result Progress LineFault
 line_then number rest (Ok read) = rest read
 line_then number rest (Err kind) = Err (fault_at number kind)
 
 -- the lines one after another, up to the first faulty one
 abbrev pub lines_after : Progress → List (List ℕ) → Result Progress LineFault
 lines_after before [] = Ok before
-lines_after before (line ∷ lines) = line_then (line_count before + 1) (λ read. lines_after read lines) (line_after before line)
+lines_after before (line ∷ lines) =
+    line_then (line_count before + 1) (λ read. lines_after read lines) (line_after before line)
 
 -- ---- the whole
 -- whether a command names a zone that none of these declares
 abbrev pub names_unknown : List Command → Command → Bool
-names_unknown commands command = list_any (λ name. not (is_declared commands name)) (named_by command)
+names_unknown commands command =
+    list_any (λ name. not (is_declared commands name)) (named_by command)
 
 -- the first line that names a zone which no line declares
 abbrev pub unknown_zone : Progress → Option LineFault
 unknown_zone read =
-    option_map (λ n. fault_at n.line UnknownZone) (find (λ n. names_unknown (commands_in read) n.command) read.kept)
+    option_map (λ n. fault_at n.line UnknownZone)
+    (find (λ n. names_unknown (commands_in read) n.command) read.kept)
 
 -- a file without a local zone is at fault one past its last line
 abbrev pub local_zone_checked : Progress → Result Configuration LineFault
 local_zone_checked read =
-    if is_some (first_local_of (commands_in read)) then Ok (record { commands = commands_in read; passed = read.passed })
+    if is_some (first_local_of (commands_in read))
+    then Ok (record { commands = commands_in read; passed = read.passed })
     else Err (fault_at (line_count read + 1) NoLocalZone)
 
 abbrev pub zones_checked : Progress → Option LineFault → Result Configuration LineFault
@@ -107,11 +118,15 @@ reading_of bytes = reading_in (lines_of bytes)
 -- ---- reading, or out of memory
 -- memory is refused only at a line whose command would be kept, and then that is its fault
 abbrev pub LacksMemoryFor : Progress → List ℕ → FaultKind → Type 0
-LacksMemoryFor before line kind = (kind ≡ NoMemory) × ((command : Command) × (line_after before line ≡ Ok (with_command before command)))
+LacksMemoryFor before line kind =
+    (kind ≡ NoMemory)
+    × ((command : Command) × (line_after before line ≡ Ok (with_command before command)))
 
--- memory was refused at one of these lines: those before it have no fault, its command would be kept, and the fault
--- names it
-pub record LacksMemory (before : Progress) (lines : List (List ℕ)) (fault : LineFault) : Type 0 where
+-- memory was refused at one of these lines: those before it have no fault, its command would be
+-- kept, and the fault names it
+pub record LacksMemory
+    (before : Progress) (lines : List (List ℕ)) (fault : LineFault)
+    : Type 0 where
   pub front : List (List ℕ)
   pub line : List ℕ
   pub rest : List (List ℕ)
@@ -121,22 +136,25 @@ pub record LacksMemory (before : Progress) (lines : List (List ℕ)) (fault : Li
   pub named : fault.line ≡ line_count read + 1
   pub lacks : LacksMemoryFor read line fault.kind
 
--- what a reader of one more line may answer: what has been read with it; its fault; or out of memory
+-- what a reader of one more line may answer: what has been read with it; its fault; or out of
+-- memory
 abbrev pub MayReadLine : Progress → List ℕ → Result Progress LineFault → Type 0
 MayReadLine before line result =
     MatchResult result
     (λ read. line_after before line ≡ Ok read)
-    (λ fault. (fault.line ≡ line_count before + 1) × ((line_after before line ≡ Err fault.kind) ⊎ LacksMemoryFor before line fault.kind))
+    (λ fault. (fault.line ≡ line_count before + 1)
+    × ((line_after before line ≡ Err fault.kind) ⊎ LacksMemoryFor before line fault.kind))
 
--- what a reader of these lines after earlier ones may answer: what has been read with them; their first fault; or out
--- of memory
+-- what a reader of these lines after earlier ones may answer: what has been read with them; their
+-- first fault; or out of memory
 abbrev pub MayReadOn : Progress → List (List ℕ) → Result Progress LineFault → Type 0
 MayReadOn before lines result =
     MatchResult result
     (λ read. lines_after before lines ≡ Ok read)
     (λ fault. (lines_after before lines ≡ Err fault) ⊎ LacksMemory before lines fault)
 
--- what a reader of a whole configuration may answer: what its lines say; its first fault; or out of memory
+-- what a reader of a whole configuration may answer: what its lines say; its first fault; or out of
+-- memory
 abbrev pub MayRead : List (List ℕ) → Result Configuration LineFault → Type 0
 MayRead lines result =
     MatchResult result

@@ -29,7 +29,8 @@ option_of word =
     else (if bytes_eq word (codes "gw") then Err Unsupported else Ok None)))
 
 -- an option, or what the word is if it is not one
-abbrev pub option_or : Result TechnologyOption FaultKind → Option TechnologyOption → Result TechnologyOption FaultKind
+abbrev pub option_or : Result TechnologyOption FaultKind → Option TechnologyOption
+    → Result TechnologyOption FaultKind
 option_or other (Some option) = Ok option
 option_or other None = other
 
@@ -46,7 +47,8 @@ expected_after (HopoffName name) = OptionOrName
 expected_after Hunt = AnOption
 expected_after DefaultTechnology = AnOption
 
--- ---- gw-type-prefix PREFIX [hopoff NAME ...] [seq|blast] [default-technology], the options in any order
+-- ---- gw-type-prefix PREFIX [hopoff NAME ...] [seq|blast] [default-technology],
+-- ---- the options in any order
 -- the names of all hopoffs, and whether `default-technology` was given
 pub record TechnologyOptions : Type 0 where
   pub hopoffs : List (List ℕ)
@@ -71,7 +73,8 @@ options_at_end OptionOrName = Ok no_options
 abbrev pub options_at : Expected → List (List ℕ) → Result TechnologyOptions FaultKind
 options_at expected [] = options_at_end expected
 options_at expected (word ∷ words) =
-    option_at expected word >>= λ option. options_at (expected_after option) words >>= with_option option
+    option_at expected word
+    >>= λ option. options_at (expected_after option) words >>= with_option option
 
 abbrev pub gw_type_prefix_at : List (List ℕ) → Result Command FaultKind
 gw_type_prefix_at words = do

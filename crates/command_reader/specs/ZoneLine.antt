@@ -59,7 +59,8 @@ abbrev pub remote_priority_at : List (List ℕ) → Result ℕ FaultKind
 remote_priority_at [] = Ok DEFAULT_PRIORITY
 remote_priority_at (word ∷ words) =
     if bytes_eq word (codes "priority")
-    then (field_but left_out_of_remote cost_of BadNumber words >>= λ priority. nothing_more_but left_out_of_remote priority.0 priority.1)
+    then (field_but left_out_of_remote cost_of BadNumber words
+    >>= λ priority. nothing_more_but left_out_of_remote priority.0 priority.1)
     else nothing_more_but left_out_of_remote DEFAULT_PRIORITY (word ∷ words)
 
 -- a cost, with the priority after it
@@ -73,7 +74,8 @@ abbrev pub remote_cost_at : List (List ℕ) → Result (ℕ × ℕ) FaultKind
 remote_cost_at [] = Ok (DEFAULT_COST, DEFAULT_PRIORITY)
 remote_cost_at (word ∷ words) =
     if bytes_eq word (codes "cost")
-    then (field_but left_out_of_remote cost_of BadNumber words >>= λ cost. with_priority cost.0 cost.1)
+    then (field_but left_out_of_remote cost_of BadNumber words
+    >>= λ cost. with_priority cost.0 cost.1)
     else nothing_more_but left_out_of_remote (DEFAULT_COST, DEFAULT_PRIORITY) (word ∷ words)
 
 abbrev pub zone_remote_at : List (List ℕ) → Result Command FaultKind
@@ -106,7 +108,8 @@ abbrev pub gateways_at : List (List ℕ) → Result (Option GatewayPriority) Fau
 gateways_at [] = Ok None
 gateways_at (word ∷ words) =
     if bytes_eq word (codes "gw-priority")
-    then (field Missing (number_of 0 10) BadNumber words >>= λ priority. with_gateways priority.0 priority.1)
+    then (field Missing (number_of 0 10) BadNumber words
+    >>= λ priority. with_gateways priority.0 priority.1)
     else Err Extra
 
 abbrev pub zone_prefix_at : List (List ℕ) → Result Command FaultKind

@@ -9,7 +9,8 @@ use Rattle.command_reader.specs.declared.commands.Command.TheVariants.{ZoneLocal
 -- the zone that a command declares, with its name
 abbrev pub declared_by : Command → Option (List ℕ × ZoneKind)
 declared_by (ZoneLocal name domain address) = Some (name, Local)
-declared_by (ZoneRemote name domain address cost priority) = Some (name, Remote address cost priority)
+declared_by (ZoneRemote name domain address cost priority) =
+    Some (name, Remote address cost priority)
 declared_by (ZonePrefix zone pattern gateways) = None
 declared_by (GwTypePrefix prefix hopoffs is_default) = None
 declared_by RejectUnknownPrefix = None

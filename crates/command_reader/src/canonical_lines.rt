@@ -82,7 +82,8 @@ fn zone_remote(
     priority: u8,
 )
     ensures { line.new ≡ line_of_words
-        (codes "zone" ∷ codes "remote" ∷ name.now ∷ domain.now ∷ remote_words address.now cost priority) }
+        (codes "zone" ∷ codes "remote" ∷ name.now ∷ domain.now
+        ∷ remote_words address.now cost priority) }
 {
     line.begin(b"zone");
     line.word(b"remote");
@@ -98,7 +99,8 @@ fn zone_prefix(
     gateways: &Option<GatewayPriority>,
 )
     ensures { line.new ≡ line_of_words
-        (codes "zone" ∷ codes "prefix" ∷ zone.now ∷ pattern_text pattern.now ∷ gateway_words gateways.now) }
+        (codes "zone" ∷ codes "prefix" ∷ zone.now ∷ pattern_text pattern.now
+        ∷ gateway_words gateways.now) }
 {
     line.begin(b"zone");
     line.word(b"prefix");
@@ -110,7 +112,8 @@ fn zone_prefix(
 /// Makes it the line of a technology prefix.
 fn gw_type_prefix(line: &mut LineBuffer, prefix: &TechPrefix, hopoffs: &Names, is_default: bool)
     ensures { line.new ≡ line_of_words
-        (codes "gw-type-prefix" ∷ prefix.now ∷ hopoff_words hopoffs.now ++ default_words is_default) }
+        (codes "gw-type-prefix" ∷ prefix.now
+        ∷ hopoff_words hopoffs.now ++ default_words is_default) }
 {
     line.begin(b"gw-type-prefix");
     line.word(prefix.as_bytes());
@@ -247,7 +250,8 @@ fn add_further_hopoffs(line: &mut LineBuffer, names: &[Name])
     }
 }
 
-/// Adds a further name of a hopoff. One that would be read as an option comes after the word `hopoff` again.
+/// Adds a further name of a hopoff. One that would be read as an option comes after the word
+/// `hopoff` again.
 fn add_further_hopoff(line: &mut LineBuffer, name: &Name)
     ensures { line.new ≡ with_words line.old (further_words name.now) }
 {

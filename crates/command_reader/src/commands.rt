@@ -15,14 +15,15 @@ use std::slice;
 /// One kept line of a configuration.
 #[derive(Debug, PartialEq, Eq, Drop)]
 pub enum Command {
-    /// `zone local NAME DOMAIN [IP [PORT]]`: a zone that is controlled here. The address has no effect on routing.
+    /// `zone local NAME DOMAIN [IP [PORT]]`: a zone that is controlled here. The address has no
+    /// effect on routing.
     ZoneLocal {
         name: Name,
         domain: Name,
         address: Option<LocalAddress>,
     },
-    /// `zone remote NAME DOMAIN IP [PORT] [cost C [priority P]]`: a zone of another gatekeeper, at port 1719 if
-    /// none is given. Cost and priority are 1 to 100, and 50 if they are not given.
+    /// `zone remote NAME DOMAIN IP [PORT] [cost C [priority P]]`: a zone of another gatekeeper, at
+    /// port 1719 if none is given. Cost and priority are 1 to 100, and 50 if they are not given.
     ZoneRemote {
         name: Name,
         domain: Name,
@@ -30,14 +31,16 @@ pub enum Command {
         cost: u8,
         priority: u8,
     },
-    /// `zone prefix NAME PATTERN [seq|blast] [gw-priority N GW [GW ...]]`: matching numbers belong to the zone.
+    /// `zone prefix NAME PATTERN [seq|blast] [gw-priority N GW [GW ...]]`: matching numbers belong
+    /// to the zone.
     ZonePrefix {
         zone: Name,
         pattern: Pattern,
         gateways: Option<GatewayPriority>,
     },
-    /// `gw-type-prefix PREFIX [hopoff NAME ...] [seq|blast] [default-technology]`: a technology prefix, the zones
-    /// to which calls with it hop off, and whether gateways of it take the calls that nothing else takes.
+    /// `gw-type-prefix PREFIX [hopoff NAME ...] [seq|blast] [default-technology]`: a technology
+    /// prefix, the zones to which calls with it hop off, and whether gateways of it take the calls
+    /// that nothing else takes.
     GwTypePrefix {
         prefix: TechPrefix,
         hopoffs: Names,
@@ -45,7 +48,8 @@ pub enum Command {
     },
     /// `arq reject-unknown-prefix`: an admission to digits that no zone prefix matches is refused.
     RejectUnknownPrefix,
-    /// `bandwidth total|interzone|session default SIZE`: the limit of each local zone that has none of its own.
+    /// `bandwidth total|interzone|session default SIZE`: the limit of each local zone that has none
+    /// of its own.
     BandwidthDefault {
         kind: LimitKind,
         size: Kbps,
@@ -140,8 +144,8 @@ pub struct LocalAddress {
     pub port: Option<u16>,
 }
 
-/// The commands of an accepted configuration, in line order, and how many of its lines were passed over.
-/// A contract sees both as a `Configuration`.
+/// The commands of an accepted configuration, in line order, and how many of its lines were passed
+/// over. A contract sees both as a `Configuration`.
 #[derive(Drop)]
 pub struct Commands {
     commands: Vec<Command>,

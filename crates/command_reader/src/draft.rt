@@ -19,8 +19,8 @@ use std::alloc::Global;
 use std::collections::HashSet;
 use std::marker::Model;
 
-/// The lines read so far: the kept commands, the number of each one's line, how many lines were passed over, and the
-/// names of the declared zones. A contract sees them as `Progress`.
+/// The lines read so far: the kept commands, the number of each one's line, how many lines were
+/// passed over, and the names of the declared zones. A contract sees them as `Progress`.
 #[derive(Drop)]
 pub struct Draft {
     alloc: Global,
@@ -74,8 +74,8 @@ impl Draft {
         self.commands().len() + self.passed as usize
     }
 
-    /// With the next line, or the line's first fault. Where memory is refused for the command of a line without a
-    /// fault, the fault is `NoMemory` in its place.
+    /// With the next line, or the line's first fault. Where memory is refused for the command of a
+    /// line without a fault, the fault is `NoMemory` in its place.
     pub fn with_line(self, line: &[u8]) -> Result<Draft, LineFault>
         ensures { MayReadLine self line.now result }
     {
@@ -125,7 +125,8 @@ impl Draft {
         unknown_at(&self.numbers, self.place_of_unknown())
     }
 
-    /// The place of the first command that names a zone which no line declares; their number if there is none.
+    /// The place of the first command that names a zone which no line declares; their number if
+    /// there is none.
     fn place_of_unknown(&self) -> usize
         ensures { result ≡
             position_or_len (names_unknown (commands_in self.now)) (commands_in self.now) }
@@ -206,7 +207,8 @@ impl Draft {
     }
 }
 
-/// The fault of naming an unknown zone, at the line of the command at a place, by the numbers of the lines.
+/// The fault of naming an unknown zone, at the line of the command at a place, by the numbers of
+/// the lines.
 fn unknown_at(numbers: &[u32], place: usize) -> Option<LineFault>
     ensures { result ≡
         option_map (λ number. fault_at number FaultKind.UnknownZone) (slice_get numbers.now place) }

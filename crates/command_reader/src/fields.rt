@@ -39,7 +39,8 @@ pub fn pattern_field(words: &mut Words<'_>) -> Result<Pattern, FaultKind>
 
 /// The next word as a technology prefix.
 pub fn technology_field(words: &mut Words<'_>) -> Result<TechPrefix, FaultKind>
-    ensures { Gives (field FaultKind.Missing tech_prefix_of FaultKind.BadPattern (words_of words.old))
+    ensures { Gives
+        (field FaultKind.Missing tech_prefix_of FaultKind.BadPattern (words_of words.old))
         result (words_of words.new) }
 {
     let word = words.next().ok_or(FaultKind::Missing)?;
@@ -57,7 +58,8 @@ pub fn ip_field(words: &mut Words<'_>) -> Result<[u8; 4], FaultKind>
 
 /// The next word as a bandwidth, 1 to so many kbit/s.
 pub fn size_field(words: &mut Words<'_>, most: u32) -> Result<Kbps, FaultKind>
-    ensures { Gives (field FaultKind.Missing (number_of 1 most) FaultKind.BadNumber (words_of words.old))
+    ensures { Gives
+        (field FaultKind.Missing (number_of 1 most) FaultKind.BadNumber (words_of words.old))
         result (words_of words.new) }
 {
     let size = number_field(words, 1, most, FaultKind::BadNumber)?;
@@ -66,15 +68,16 @@ pub fn size_field(words: &mut Words<'_>, most: u32) -> Result<Kbps, FaultKind>
 
 /// The next word as the priority of gateways, 0 to 10.
 pub fn gateway_priority_field(words: &mut Words<'_>) -> Result<u8, FaultKind>
-    ensures { Gives (field FaultKind.Missing (number_of 0 10) FaultKind.BadNumber (words_of words.old))
+    ensures { Gives
+        (field FaultKind.Missing (number_of 0 10) FaultKind.BadNumber (words_of words.old))
         result (words_of words.new) }
 {
     let priority = number_field(words, 0, 10, FaultKind::BadNumber)?;
     Ok(priority as u8)
 }
 
-/// All further words as names; at least one is needed. If memory is refused for one, the words are read to their
-/// end all the same, since a fault of theirs comes first.
+/// All further words as names; at least one is needed. If memory is refused for one, the words are
+/// read to their end all the same, since a fault of theirs comes first.
 pub fn some_names(alloc: Global, words: &mut Words<'_>) -> Result<Names, FaultKind>
     ensures { UnlessMemory Any (some_names_in (words_of words.old)) result }
 {

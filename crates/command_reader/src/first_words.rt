@@ -1,5 +1,5 @@
-//! What one line says, by its first word. Here and in the modules of each kind of line, words are compared by guards:
-//! with several byte strings as patterns of one `match`, no proof is found.
+//! What one line says, by its first word. Here and in the modules of each kind of line, words are
+//! compared by guards: with several byte strings as patterns of one `match`, no proof is found.
 
 ghost use Rattle.std.specs.Prelude.{◌≡◌, None, ◌∷◌};
 ghost use Rattle.gk_terms.specs.Text.{words_of};
@@ -19,9 +19,9 @@ use gk_terms::words::Words;
 use std::alloc::Global;
 
 #[tactic(auto, unfolding(crate::specs::Line::line_of))]
-/// The command of a line, nothing if it is passed over, or its first fault from the left. Memory is taken only
-/// for names of gateways and of hop-off zones. If it is refused, and the line has no fault, the answer is
-/// `NoMemory`.
+/// The command of a line, nothing if it is passed over, or its first fault from the left. Memory is
+/// taken only for names of gateways and of hop-off zones. If it is refused, and the line has no
+/// fault, the answer is `NoMemory`.
 pub fn command_in(alloc: Global, line: &[u8]) -> Result<Option<Command>, FaultKind>
     ensures { UnlessMemory KeptAndDeclaresNone (line_of line.now) result }
 {

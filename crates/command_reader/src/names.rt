@@ -33,7 +33,8 @@ impl Names {
         }
     }
 
-    /// With one more name after them. `AllocError` if memory is refused for it: then the names are gone.
+    /// With one more name after them. `AllocError` if memory is refused for it: then the names are
+    /// gone.
     pub fn with(mut self, name: Name) -> Result<Names, AllocError>
         ensures { IfOk result (λ names. names ≡ self ++ name ∷ []) }
     {

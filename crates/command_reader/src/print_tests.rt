@@ -142,7 +142,8 @@ fn prints_technology_prefixes(rt: HostRuntime) -> Result<(), Fail> {
             "gw-type-prefix 2# hopoff b b a default-technology",
         ),
         (
-            "gw-type-prefix 2# hopoff hopoff blast hopoff blast hopoff default-technology hopoff gw",
+            "gw-type-prefix 2# hopoff hopoff blast hopoff blast \
+            hopoff default-technology hopoff gw",
             "gw-type-prefix 2# hopoff hopoff hopoff blast hopoff default-technology hopoff gw",
         ),
     ] {

@@ -12,12 +12,13 @@ use crate::canonical_lines::make_line;
 use crate::commands::{Command, Commands};
 use gk_lines::{LineBuffer, Sink, WriteFault, write_whole};
 
-/// Prints commands as their canonical lines, in order: the words of each with one space between, and a line feed.
-/// A default is written out, as the port of a remote zone. The text is a configuration of its own: `read` gives the
-/// same commands for it, and no line of it is passed over.
+/// Prints commands as their canonical lines, in order: the words of each with one space between,
+/// and a line feed. A default is written out, as the port of a remote zone. The text is a
+/// configuration of its own: `read` gives the same commands for it, and no line of it is passed
+/// over.
 ///
-/// For a writer that had not failed before, `WriteFault` comes exactly if it fails in this call, and the writer then
-/// holds a front of the text. Takes no memory.
+/// For a writer that had not failed before, `WriteFault` comes exactly if it fails in this call,
+/// and the writer then holds a front of the text. Takes no memory.
 pub fn print<W: Sink>(commands: &Commands, writer: &mut W) -> Result<(), WriteFault>
     ensures whole { OnOk result (Appends (W.contents writer.old) (W.contents writer.new)
         (text_of commands.now.commands)) }

@@ -11,13 +11,14 @@ use std::alloc::Global;
 
 /// Reads a configuration: the bytes of Cisco IOS command lines as its commands, or its first fault.
 ///
-/// First the lines are looked at one by one, in order. The 20,001st line is `TooMany`, and one of more than 512 bytes
-/// `TooLong`; then its fields are read from the left; a zone that is declared a second time is `DuplicateZone`, and the
-/// 1,025th zone `TooMany`. If no line has such a fault, the first that names an undeclared zone is `UnknownZone`.
-/// If there is none either, a configuration without a local zone is `NoLocalZone`, numbered one past its last line.
+/// First the lines are looked at one by one, in order. The 20,001st line is `TooMany`, and one of
+/// more than 512 bytes `TooLong`; then its fields are read from the left; a zone that is declared a
+/// second time is `DuplicateZone`, and the 1,025th zone `TooMany`. If no line has such a fault, the
+/// first that names an undeclared zone is `UnknownZone`. If there is none either, a configuration
+/// without a local zone is `NoLocalZone`, numbered one past its last line.
 ///
-/// `NoMemory` is answered only at a line whose command would be kept, after lines without a fault, whatever comes
-/// after it. It names that line.
+/// `NoMemory` is answered only at a line whose command would be kept, after lines without a fault,
+/// whatever comes after it. It names that line.
 #[tactic(auto, using(crate::proofs::ReadOnLemmas::finishes, crate::proofs::ReadOnLemmas::refuses))]
 pub fn read(alloc: Global, bytes: &[u8]) -> Result<Commands, LineFault>
     ensures { MayRead (lines_of bytes.now) result }

@@ -39,7 +39,8 @@ pub enum TechnologyOption {
     DefaultTechnology,
 }
 
-/// The options so far, and what may come next. The names are held unless memory was refused for one of them.
+/// The options so far, and what may come next. The names are held unless memory was refused for one
+/// of them.
 #[derive(Drop)]
 pub struct OpenOptions {
     /// What may come next.
@@ -50,7 +51,8 @@ pub struct OpenOptions {
     pub is_default: bool,
 }
 
-/// `gw-type-prefix PREFIX [hopoff NAME ...] [seq|blast] [default-technology]`, the options in any order.
+/// `gw-type-prefix PREFIX [hopoff NAME ...] [seq|blast] [default-technology]`, the options in any
+/// order.
 pub fn gw_type_prefix(alloc: Global, words: &mut Words<'_>) -> Result<Command, FaultKind>
     ensures { UnlessMemory DeclaresNone (gw_type_prefix_at (words_of words.old)) result }
 {
@@ -63,8 +65,8 @@ pub fn gw_type_prefix(alloc: Global, words: &mut Words<'_>) -> Result<Command, F
     })
 }
 
-/// The names of all hopoffs, and whether `default-technology` was given. If memory is refused for a name, the words
-/// are read to their end all the same, since a fault of theirs comes first.
+/// The names of all hopoffs, and whether `default-technology` was given. If memory is refused for a
+/// name, the words are read to their end all the same, since a fault of theirs comes first.
 fn options(alloc: Global, words: &mut Words<'_>) -> Result<(Names, bool), FaultKind>
     ensures { UnlessMemory Any
         (hopoffs_and_default (options_at Expected.AnOption (words_of words.old))) result }

@@ -202,7 +202,8 @@ fn zone_prefix(alloc: Global, words: &mut Words<'_>) -> Result<Command, FaultKin
     })
 }
 
-/// The gateways of a `zone prefix` line with their priority, if it has them, and the end of the line.
+/// The gateways of a `zone prefix` line with their priority, if it has them, and the end of the
+/// line.
 fn gateways(alloc: Global, words: &mut Words<'_>) -> Result<Option<GatewayPriority>, FaultKind>
     ensures { UnlessMemory Any (gateways_at (after_hunt_word (words_of words.old))) result }
 {

@@ -25,17 +25,24 @@ parts_of text =
     let digits = prefix_len is_ascii_digit text in
     let others = drop digits text in
     let dots = prefix_len is_dot others in
-    record { literals = take digits text; dots = dots; star = bytes_eq (drop dots others) (42 ∷ []) }
+    record {
+      literals = take digits text;
+      dots = dots;
+      star = bytes_eq (drop dots others) (42 ∷ []);
+    }
 
 -- the pattern that a text spells: its parts, if they are a pattern and are the whole text
 abbrev pub pattern_of : List ℕ → Option PatternParts
-pattern_of text = let p = parts_of text in then_some (is_pattern p && bytes_eq (pattern_text p) text) p
+pattern_of text =
+    let p = parts_of text in
+    then_some (is_pattern p && bytes_eq (pattern_text p) text) p
 
 -- whether the text has as many characters as a pattern wants
 abbrev pub has_count : PatternParts → ℕ → Bool
 has_count p count = if p.star then nat_le (least_count p) count else count == least_count p
 
--- the text begins with the literals, and has a character for each dot; further ones only if there is a star
+-- the text begins with the literals, and has a character for each dot; further ones only if there
+-- is a star
 abbrev pub matches : PatternParts → List ℕ → Bool
 matches p text = starts_with ◌==◌ text p.literals && has_count p (length text)
 
@@ -48,7 +55,8 @@ rank_of p = (length p.literals, p.dots, cond p.star 0 1)
 
 -- the first number that differs is the greater
 abbrev pub is_above : ℕ × ℕ × ℕ → ℕ × ℕ × ℕ → Bool
-is_above r s = nat_lt s.0 r.0 || ((r.0 == s.0) && (nat_lt s.1 r.1 || ((r.1 == s.1) && nat_lt s.2 r.2)))
+is_above r s =
+    nat_lt s.0 r.0 || ((r.0 == s.0) && (nat_lt s.1 r.1 || ((r.1 == s.1) && nat_lt s.2 r.2)))
 
 abbrev pub outranks : PatternParts → PatternParts → Bool
 outranks p q = is_above (rank_of p) (rank_of q)

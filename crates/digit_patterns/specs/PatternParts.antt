@@ -21,7 +21,8 @@ character_count p = least_count p + cond p.star 1 0
 -- the literals are 0 to 9, and there are 1 to 32 characters in all
 abbrev pub is_pattern : PatternParts → Bool
 is_pattern p =
-    list_all is_ascii_digit p.literals && nat_le 1 (character_count p) && nat_le (character_count p) MOST_DIALLED
+    list_all is_ascii_digit p.literals
+    && nat_le 1 (character_count p) && nat_le (character_count p) MOST_DIALLED
 
 abbrev pub IsPattern : PatternParts → Type 0
 IsPattern p = IsTrue (is_pattern p)

@@ -8,10 +8,13 @@ use Rattle.digit_patterns.specs.Pattern.{matches, Matches, outranks, Outranks}
 use Rattle.digit_patterns.specs.declared.tables.Hit.{Hit}
 
 -- the row matches, and its pattern outranks that of each matching row of another pattern
-pub record IsBest {V : Type 0} (rows : List (PatternParts × V)) (text : List ℕ) (best : PatternParts × V) : Type 0 where
+pub record IsBest
+    {V : Type 0} (rows : List (PatternParts × V)) (text : List ℕ) (best : PatternParts × V)
+    : Type 0 where
   pub row : Contains rows best
   pub matching : Matches best.0 text
-  pub longest : All (λ (row : PatternParts × V). Matches row.0 text → (row.0 ≡ best.0) ⊎ Outranks best.0 row.0) rows
+  pub longest : All (λ (row : PatternParts × V). Matches row.0 text
+      → (row.0 ≡ best.0) ⊎ Outranks best.0 row.0) rows
 
 -- whether the pattern of a row outranks that of another
 abbrev pub ranks_above : {V : Type 0} → PatternParts × V → PatternParts × V → Bool
@@ -27,7 +30,12 @@ best_of rows text = first_unbeaten ranks_above (filter (row_matches text) rows)
 
 -- what a table says of a row
 abbrev pub hit_of : PatternParts × ℕ → Hit
-hit_of row = record { value = row.1; literals = length row.0.literals; dots = row.0.dots; star = row.0.star }
+hit_of row = record {
+  value = row.1;
+  literals = length row.0.literals;
+  dots = row.0.dots;
+  star = row.0.star;
+}
 
 abbrev pub best_hit : List (PatternParts × ℕ) → List ℕ → Option Hit
 best_hit rows text = option_map hit_of (best_of rows text)

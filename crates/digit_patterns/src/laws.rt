@@ -21,7 +21,8 @@ pub fn rank_is_total()
 {}
 
 #[tactic(auto, using(crate::proofs::RankLaws::best_is_longest))]
-/// The row that a table finds has the longest pattern that matches; it finds none only if no row matches.
+/// The row that a table finds has the longest pattern that matches; it finds none only if no row
+/// matches.
 pub fn best_is_longest()
     ensures { BestIsLongest }
 {}

@@ -14,9 +14,10 @@ use std::fmt;
 use std::marker::Model;
 use thiserror::Error;
 
-/// A pattern of dialled characters: literals (`0` to `9`), then dots, then a star or none, 1 to 32 characters in all.
-/// A dot stands for any one dialled character, the star for any number of them. It holds its characters in place.
-/// The form is that of Cisco's `zone prefix` command; what may be empty and the limit are this project's profile.
+/// A pattern of dialled characters: literals (`0` to `9`), then dots, then a star or none, 1 to 32
+/// characters in all. A dot stands for any one dialled character, the star for any number of them.
+/// It holds its characters in place. The form is that of Cisco's `zone prefix` command; what may be
+/// empty and the limit are this project's profile.
 #[derive(Clone, Copy, PartialEq, Eq, PartialOrd, Ord, Hash)]
 pub struct Pattern {
     literals: Spelling<MOST_DIALLED>,
@@ -31,7 +32,8 @@ impl Model for Pattern {
 
     ghost view = { λ p. record { literals = p.literals; dots = p.dots; star = p.star } };
 
-    ghost invariant = { λ p. IsPattern (record { literals = p.literals; dots = p.dots; star = p.star }) };
+    ghost invariant = { λ p. IsPattern
+        (record { literals = p.literals; dots = p.dots; star = p.star }) };
 
     ghost inverse = { λ v. record { literals = v.literals; dots = v.dots; star = v.star } };
 }
@@ -63,8 +65,8 @@ impl Pattern {
     }
 
     /// Whether the pattern matches the dialled characters from the place `from` on, counted from 0:
-    /// they begin with the literals, and have as many characters as literals and dots together, or at least
-    /// as many if the pattern has a star.
+    /// they begin with the literals, and have as many characters as literals and dots together, or
+    /// at least as many if the pattern has a star.
     pub fn matches(&self, dialled: &Dialled, from: usize) -> bool
         requires { from ≤ length dialled.now }
         ensures { result ≡ matches self.now (drop from dialled.now) }
@@ -80,14 +82,16 @@ impl Pattern {
     }
 
     /// The rank: how many literals, how many dots, and 1 if no star follows them or 0 if one does.
-    /// Of two patterns that match one text, that with the greater rank, compared in this order, is the longer.
+    /// Of two patterns that match one text, that with the greater rank, compared in this order, is
+    /// the longer.
     pub fn rank(&self) -> (u8, u8, u8)
         ensures { result ≡ rank_of self.now }
     {
         (self.literals().len() as u8, self.dots, u8::from(!self.star))
     }
 
-    /// Whether this pattern has the greater rank: more literals, then more dots, then no star before a star.
+    /// Whether this pattern has the greater rank: more literals, then more dots, then no star
+    /// before a star.
     pub fn outranks(&self, other: &Pattern) -> bool
         ensures { result ≡ outranks self.now other.now }
     {

@@ -51,9 +51,10 @@ pub trait PrefixTable {
     /// The rows, in their order.
     ghost rows: { Self → List (PatternParts × ℕ) };
 
-    /// The row with the longest pattern that matches the dialled characters from the place `from` on, counted
-    /// from 0, or nothing if no row matches. The longest has the most literals, then the most dots, and then no
-    /// star: this project's profile of the longest match of Cisco's `zone prefix` command.
+    /// The row with the longest pattern that matches the dialled characters from the place `from`
+    /// on, counted from 0, or nothing if no row matches. The longest has the most literals, then
+    /// the most dots, and then no star: this project's profile of the longest match of Cisco's
+    /// `zone prefix` command.
     fn best(&self, dialled: &Dialled, from: usize) -> Option<Hit>
         requires { from ≤ length dialled.now }
         ensures { result ≡ best_hit (rows self.now) (drop from dialled.now) };
@@ -78,8 +79,8 @@ impl Model for PlainTable {
 }
 
 impl PlainTable {
-    /// The table of these rows. `Duplicate` names the first row, counted from 0, whose pattern an earlier row has;
-    /// `NoMemory` may come in place of any answer.
+    /// The table of these rows. `Duplicate` names the first row, counted from 0, whose pattern an
+    /// earlier row has; `NoMemory` may come in place of any answer.
     pub fn build(alloc: Global, rows: &[(Pattern, u32)]) -> Result<PlainTable, TableFault>
         ensures built { IfOk result (λ table. table ≡ rows.now) }
         ensures distinct { IsOk result → duplicate_of rows.now ≡ None }

@@ -58,7 +58,14 @@ endpoint_at words = do
   zone ← field_at name_of fault.BadName id.1
   address ← field_at (address_of SIGNALLING_PORT) fault.BadAddress zone.1
   Ok (
-    record { kind = kind.0; id = id.0; zone = zone.0; address = address.0; aliases = []; technologies = [] },
+    record {
+      kind = kind.0;
+      id = id.0;
+      zone = zone.0;
+      address = address.0;
+      aliases = [];
+      technologies = [];
+    },
     address.1,
   )
 
@@ -101,7 +108,8 @@ abbrev pub left_after : OptionsLeft → RegistrationOption → OptionsLeft
 left_after left (Alias digits) = record left { aliases = left.aliases - 1 }
 left_after left (Technology prefix) = record left { technologies = left.technologies - 1 }
 
--- what an endpoint has too many of is a bad option. It does not come: options are counted as written
+-- what an endpoint has too many of is a bad option. It does not come: options are counted as
+-- written
 abbrev pub or_bad_option : Result EndpointParts RegistryFault → Result EndpointParts RequestFault
 or_bad_option (Ok endpoint) = Ok endpoint
 or_bad_option (Err refusal) = Err fault.BadOption

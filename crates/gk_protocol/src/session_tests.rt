@@ -58,8 +58,8 @@ impl Answerer for Refuser {
 const ASKED: &[u8] = b"URQ 1 a\nURQ 2 b\nURQ 3 c\n";
 
 /// The replies to them, of 31 bytes each.
-const REPLIED: &[u8] =
-    b"URJ 1 a notCurrentlyRegistered\nURJ 2 b notCurrentlyRegistered\nURJ 3 c notCurrentlyRegistered\n";
+const REPLIED: &[u8] = b"URJ 1 a notCurrentlyRegistered\nURJ 2 b notCurrentlyRegistered\n\
+    URJ 3 c notCurrentlyRegistered\n";
 
 /// How a session ends, and how many requests it was asked.
 type End = (Result<u64, SessionFault>, u64);
@@ -78,7 +78,8 @@ fn assert_ends<R: Source, W: Sink>(
     assert_eq!(rt; (ended, refuser.asked), want);
 }
 
-/// A session over two requests ends so, after so many calls of this reader, with one whole reply to each request.
+/// A session over two requests ends so, after so many calls of this reader, with one whole reply to
+/// each request.
 fn assert_read(
     rt: &impl Abort,
     alloc: Global,
@@ -135,8 +136,9 @@ fn replies_before_the_reader_fails(rt: HostRuntime) {
     }
 }
 
-/// A session over three requests, which come so many bytes a call, ends so, after so many calls of the reader. The writer
-/// takes so many bytes a call, fails at this one, and holds so many in the end.
+/// A session over three requests, which come so many bytes a call, ends so, after so many calls of
+/// the reader. The writer takes so many bytes a call, fails at this one, and holds so many in the
+/// end.
 fn assert_written(
     rt: &impl Abort,
     alloc: Global,
@@ -177,7 +179,8 @@ fn asks_no_more_after_the_writer_fails(rt: HostRuntime) {
     }
 }
 
-/// A session over these bytes, which come so many a call, writes these, of which so many come from the answerer.
+/// A session over these bytes, which come so many a call, writes these, of which so many come from
+/// the answerer.
 fn assert_session(
     rt: &impl Abort,
     alloc: Global,
@@ -208,7 +211,8 @@ fn one_reply_to_each_request(rt: HostRuntime) {
             b"RRQ 65535 TERM ta gk-a 10.0.1.1 e164=1\nARQ 1 ta 7 8 9\nARQ 1",
             3,
             2,
-            b"RRJ 65535 ta undefinedReason unknown-zone\nARJ 1 7 callerNotRegistered\nERR missing\n",
+            b"RRJ 65535 ta undefinedReason unknown-zone\nARJ 1 7 callerNotRegistered\n\
+            ERR missing\n",
         ),
         (
             b"BRQ 1 ta 7 9\nDRQ 2 ta 7\nDRQ 3 ta",

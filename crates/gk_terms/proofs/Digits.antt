@@ -36,3 +36,6 @@ pub digit_at : (ds : List ℕ) (i d : ℕ) → list_all is_ascii_digit ds ≡ tr
 digit_at [] i d all h = absurd (omega arith)
 digit_at (b ∷ bs) zero d all h = at_least_zero b (and_parts _ _ all).0
 digit_at (b ∷ bs) (suc i) d all h = digit_at bs i d (and_parts _ _ all).1 (omega arith)
+
+-- what a loop over digits has to know of its next digit
+pub ruleset one_digit_more = (value_of_front, value_of_more, digit_at)

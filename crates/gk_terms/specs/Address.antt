@@ -45,7 +45,8 @@ port_of_last (part ∷ next ∷ parts) = None
 abbrev pub address_of_parts : ℕ → List (List ℕ) → Option AddressParts
 address_of_parts default_port [] = None
 address_of_parts default_port (ip ∷ []) = address_from (ip_of ip) (Some default_port)
-address_of_parts default_port (ip ∷ part ∷ parts) = address_from (ip_of ip) (port_of_last (part ∷ parts))
+address_of_parts default_port (ip ∷ part ∷ parts) =
+    address_from (ip_of ip) (port_of_last (part ∷ parts))
 
 -- the address that a text spells
 abbrev pub address_of : ℕ → List ℕ → Option AddressParts

@@ -11,13 +11,15 @@ pub record IsFirstUnbeaten {X : Type 0} (beats : X → X → Bool) (xs : List X)
   pub place : ℕ
   pub stands : slice_get xs place ≡ Some x
   pub unbeaten : All (λ y. beats y x ≡ false) xs
-  pub first : (k : ℕ) (z : X) → k < place → slice_get xs k ≡ Some z → list_any (λ y. beats y z) xs ≡ true
+  pub first : (k : ℕ) (z : X) → k < place → slice_get xs k ≡ Some z
+      → list_any (λ y. beats y z) xs ≡ true
 
 -- the last element, or else d
 abbrev pub last_of : {X : Type 0} → X → List X → X
 last_of d xs = fold (λ _ x. x) d xs
 
--- the one of two that is kept when a list is gone through once: the later only if it beats the earlier
+-- the one of two that is kept when a list is gone through once: the later only if it beats the
+-- earlier
 abbrev pub better : {X : Type 0} → (X → X → Bool) → Option X → X → Option X
 better beats None x = Some x
 better beats (Some best) x = if_beaten (beats x best) x best

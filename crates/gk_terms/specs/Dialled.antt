@@ -11,7 +11,9 @@ is_dialled_byte b = is_ascii_digit b || (b == 35) || (b == 42)
 
 -- 1 to 32 of them
 abbrev pub is_dialled : List ℕ → Bool
-is_dialled text = nat_le 1 (length text) && nat_le (length text) MOST_DIALLED && list_all is_dialled_byte text
+is_dialled text =
+    nat_le 1 (length text) && nat_le (length text) MOST_DIALLED
+    && list_all is_dialled_byte text
 
 abbrev pub IsDialled : List ℕ → Type 0
 IsDialled text = IsTrue (is_dialled text)

@@ -7,7 +7,9 @@ use Rattle.gk_terms.specs.Spelling.{is_visible}
 
 -- 1 to 128 visible bytes
 abbrev pub is_name : List ℕ → Bool
-is_name text = nat_le 1 (length text) && nat_le (length text) MOST_NAME_BYTES && list_all is_visible text
+is_name text =
+    nat_le 1 (length text) && nat_le (length text) MOST_NAME_BYTES
+    && list_all is_visible text
 
 abbrev pub IsName : List ℕ → Type 0
 IsName text = IsTrue (is_name text)

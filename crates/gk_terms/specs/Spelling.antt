@@ -23,9 +23,13 @@ pub record Holds (size : ℕ) (bytes : List ℕ) (len : ℕ) : Type 0 where
   pub visible : IsVisible (take len bytes)
 
 -- an array that holds a text is that text, padded again
-pub padded-take : (size : ℕ) (bytes : List ℕ) (len : ℕ) → Holds size bytes len → padded size (take len bytes) ≡ bytes
+pub padded-take : (size : ℕ) (bytes : List ℕ) (len : ℕ)
+    → Holds size bytes len → padded size (take len bytes) ≡ bytes
 padded-take size bytes len h = sym h.zeros
 
 -- the length of the text that an array holds
-pub length-take-held : (size : ℕ) (bytes : List ℕ) (len : ℕ) → Holds size bytes len → length (take len bytes) ≡ len
-length-take-held size bytes len h = let within : len ≤ length bytes = omega (arith, h.filled, h.fits) in length-take-le len bytes within
+pub length-take-held : (size : ℕ) (bytes : List ℕ) (len : ℕ)
+    → Holds size bytes len → length (take len bytes) ≡ len
+length-take-held size bytes len h =
+    let within : len ≤ length bytes = omega (arith, h.filled, h.fits) in
+    length-take-le len bytes within

@@ -12,7 +12,9 @@ is_technology_byte b = is_ascii_digit b || (b == 35)
 
 -- 1 to 11 of them
 abbrev pub is_tech_prefix : List ℕ → Bool
-is_tech_prefix text = nat_le 1 (length text) && nat_le (length text) MOST_TECHNOLOGY && list_all is_technology_byte text
+is_tech_prefix text =
+    nat_le 1 (length text) && nat_le (length text) MOST_TECHNOLOGY
+    && list_all is_technology_byte text
 
 abbrev pub IsTechPrefix : List ℕ → Type 0
 IsTechPrefix text = IsTrue (is_tech_prefix text)

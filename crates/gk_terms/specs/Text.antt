@@ -17,11 +17,13 @@ words_of line = filter (λ word. not (is_empty word)) (slice_split is_blank line
 -- the lines, each with its line feed; the last may have none, and is not a line if it is empty
 abbrev pub raw_lines_of : List ℕ → List (List ℕ)
 raw_lines_of [] = []
-raw_lines_of (b ∷ bs) = if b == 10 then (b ∷ []) ∷ raw_lines_of bs else onto_first b (raw_lines_of bs)
+raw_lines_of (b ∷ bs) =
+    if b == 10 then (b ∷ []) ∷ raw_lines_of bs else onto_first b (raw_lines_of bs)
 
 -- without one such byte at the end; the last byte of an empty text counts as 0
 abbrev pub strip_end : ℕ → List ℕ → List ℕ
-strip_end byte text = if slice_index text (length text - 1) == byte then take (length text - 1) text else text
+strip_end byte text =
+    if slice_index text (length text - 1) == byte then take (length text - 1) text else text
 
 -- without one carriage return at the end
 abbrev pub strip_carriage_return : List ℕ → List ℕ
@@ -30,7 +32,9 @@ strip_carriage_return line = strip_end 13 line
 -- what a line says: without its line feed and one carriage return just before that
 abbrev pub content_of : List ℕ → List ℕ
 content_of raw =
-    if slice_index raw (length raw - 1) == 10 then strip_carriage_return (take (length raw - 1) raw) else raw
+    if slice_index raw (length raw - 1) == 10
+    then strip_carriage_return (take (length raw - 1) raw)
+    else raw
 
 -- what each line says
 abbrev pub lines_of : List ℕ → List (List ℕ)

@@ -33,7 +33,8 @@ impl Model for Address {
 
 impl Address {
     /// Reads `IP` or `IP:PORT`, `IP` being four numbers from 0 to 255 with single dots between.
-    /// Without a port it has the default one, from 1 to 65535. Any other text is `BadAddress`. Takes no memory.
+    /// Without a port it has the default one, from 1 to 65535. Any other text is `BadAddress`.
+    /// Takes no memory.
     pub fn read(text: &[u8], default_port: u16) -> Result<Address, TermFault>
         requires { 1 ≤ default_port }
         ensures { result ≡ ok_or (address_of default_port text.now) TermFault.BadAddress }

@@ -2,7 +2,8 @@
 
 use thiserror::Error;
 
-/// Why a text could not be read as a term. The same text is refused each time, and nothing else changes.
+/// Why a text could not be read as a term. The same text is refused each time, and nothing else
+/// changes.
 #[derive(Clone, Copy, Debug, PartialEq, Eq, Error)]
 pub enum TermFault {
     /// No name: empty, longer than 128 bytes, or with a byte outside 0x21 to 0x7E.

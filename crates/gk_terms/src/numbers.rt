@@ -8,8 +8,8 @@ ghost use Rattle.gk_terms.specs.Number.{is_numeral, value_of, number_of};
 
 use crate::faults::TermFault;
 
-/// Reads a decimal number from `least` to `most`: digits without sign, and no leading zero but in `0` itself.
-/// Any other text, and a number outside the range, is `BadNumber`. Takes no memory.
+/// Reads a decimal number from `least` to `most`: digits without sign, and no leading zero but in
+/// `0` itself. Any other text, and a number outside the range, is `BadNumber`. Takes no memory.
 pub fn read_number(text: &[u8], least: u32, most: u32) -> Result<u32, TermFault>
     ensures { result ≡ ok_or (number_of least most text.now) TermFault.BadNumber }
 {
@@ -41,7 +41,7 @@ fn are_digits(text: &[u8]) -> bool
     text.iter().all(|byte| byte.is_ascii_digit())
 }
 
-#[tactic(auto, using(crate::proofs::Digits::value_of_front, crate::proofs::Digits::value_of_more, crate::proofs::Digits::digit_at))]
+#[tactic(auto, using(crate::proofs::Digits::one_digit_more))]
 /// What digits say, or nothing if that is 2 ^ 32 or more.
 fn value_of(digits: &[u8]) -> Option<u32>
     requires { IsTrue (list_all is_ascii_digit digits.now) }

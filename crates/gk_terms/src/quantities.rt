@@ -13,7 +13,8 @@ pub struct Units(u32);
 #[derive(Clone, Copy, Debug, PartialEq, Eq, PartialOrd, Ord, Hash)]
 pub struct Kbps(u32);
 
-/// The number of a configuration that was put in force: 1 for the opening one, and one more with each reload.
+/// The number of a configuration that was put in force: 1 for the opening one, and one more with
+/// each reload.
 #[derive(Clone, Copy, Debug, PartialEq, Eq, PartialOrd, Ord, Hash)]
 pub struct Version(u32);
 

@@ -1,4 +1,5 @@
-//! A short text that is held in place: what names, dialled digits and technology prefixes are made of.
+//! A short text that is held in place: what names, dialled digits and technology prefixes are made
+//! of.
 
 ghost use Rattle.std.specs.Prelude.{◌≡◌, ℕ, ◌-◌, ◌<◌, ◌≤◌, ◌++◌, List, length, take, replicate, nat_eq, refl, Some};
 ghost use Rattle.std.specs.List.{list_all};
@@ -113,7 +114,8 @@ impl<const MOST: usize> Eq for Spelling<MOST> {
 impl<const MOST: usize> PartialOrd for Spelling<MOST> {
     ghost partial_cmp = { as_partial_cmp (slice_cmp nat_cmp) };
 
-    ghost laws = { partial_order_from_own_ties (Prim.search (comparing, rules)) (Prim.search (comparing, rules)) };
+    ghost laws = { partial_order_from_own_ties (Prim.search (comparing, rules))
+        (Prim.search (comparing, rules)) };
 
     fn partial_cmp(&self, other: &Self) -> Option<Ordering> {
         Some(self.cmp(other))

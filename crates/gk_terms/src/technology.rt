@@ -33,7 +33,8 @@ impl Model for TechPrefix {
 
 impl TechPrefix {
     #[tactic(auto, using(crate::proofs::Visible::visible_from_tech_prefix))]
-    /// Reads a technology prefix; one star at its end is dropped. Any other text is `BadDigits`. Takes no memory.
+    /// Reads a technology prefix; one star at its end is dropped. Any other text is `BadDigits`.
+    /// Takes no memory.
     pub fn read(text: &[u8]) -> Result<TechPrefix, TermFault>
         ensures { result ≡ ok_or (tech_prefix_of text.now) TermFault.BadDigits }
     {

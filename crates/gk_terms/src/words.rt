@@ -7,7 +7,8 @@ ghost use Rattle.gk_terms.specs.Text.{is_blank, words_of, raw_lines_of, content_
 
 use std::marker::Model;
 
-/// The words of a line, from the left: its parts between spaces and tabs. A contract sees the bytes that are left.
+/// The words of a line, from the left: its parts between spaces and tabs. A contract sees the bytes
+/// that are left.
 #[derive(Drop)]
 pub struct Words<'a> {
     rest: &'a [u8],

@@ -54,7 +54,8 @@ module _ {S : Type 0} (MayAnswer : S → Request → Answer → S → Type 0)
   -- the configuration at the front of these bytes is accepted
   abbrev pub IsAccepted : List ℕ → Type 0
   IsAccepted bytes =
-      (configuration : Configuration) × (reading_in (configuration_of EndLine bytes) ≡ Ok configuration)
+      (configuration : Configuration)
+      × (reading_in (configuration_of EndLine bytes) ≡ Ok configuration)
 
   -- what a run over these bytes wrote, by how it ended, with this rest of its input
   abbrev pub RunEnds : List ℕ → List ℕ → List ℕ → Result ℕ RunFault → Type 0

@@ -138,7 +138,8 @@ fn names_a_reader_that_fails(rt: HostRuntime) {
     assert_failed_read(&rt, rt.alloc(), FAULTY, 21, FAULT);
 }
 
-/// Asserts what is written of the report if the writer, which takes one byte a call, fails at this call.
+/// Asserts what is written of the report if the writer, which takes one byte a call, fails at this
+/// call.
 fn assert_failed_write(rt: &impl Abort, alloc: Global, call: usize) {
     let mut reader = Noted::new(Piecewise::new(CONFIGURATION.as_bytes(), 7));
     let (front, _) = REPORT.as_bytes().split_at(call.min(REPORT.len()));

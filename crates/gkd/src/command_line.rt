@@ -55,7 +55,9 @@ fn check_in<'a>(matches: &ArgMatches<'a>) -> Task<'a> {
 fn commands<'a>(alloc: Global) -> Result<Command<'a>, AllocError> {
     Command::new(alloc, "gkd")
         .about(
-            "Routes and admits calls as an H.323 gatekeeper. Without words it reads a configuration and then requests from standard input, and writes a reply to each request on standard output.",
+            "Routes and admits calls as an H.323 gatekeeper. Without words it reads a \
+            configuration and then requests from standard input, and writes a reply to each \
+            request on standard output.",
         )
         .version(VERSION)
         .disable_help_subcommand(true)
@@ -67,7 +69,8 @@ fn commands<'a>(alloc: Global) -> Result<Command<'a>, AllocError> {
 fn run_command<'a>(alloc: Global) -> Result<Command<'a>, AllocError> {
     Command::new(alloc, "run")
         .about(
-            "Reads the configuration from a file and then requests from standard input, and writes a reply to each request on standard output",
+            "Reads the configuration from a file and then requests from standard input, and \
+            writes a reply to each request on standard output",
         )
         .arg(file(alloc))
 }

@@ -19,7 +19,8 @@ const ZONES: [&str; 4] = [
     "end\n",
 ];
 
-/// What is wrong with one of these lines if it is cut: the last row counts with whose text the rest of it begins.
+/// What is wrong with one of these lines if it is cut: the last row counts with whose text the rest
+/// of it begins.
 const CUT_ZONES: [(&str, FaultKind); 10] = [
     ("z", FaultKind::UnknownCommand),
     ("e", FaultKind::UnknownCommand),
@@ -60,7 +61,8 @@ const DIALOGUE: [(&str, &str); 11] = [
     ("URQ 10 tb\n", "URJ 10 tb notCurrentlyRegistered\n"),
 ];
 
-/// The reply to one of these lines if it is cut: the last row counts with whose text the rest of it begins.
+/// The reply to one of these lines if it is cut: the last row counts with whose text the rest of it
+/// begins.
 const CUT_REPLIES: [(&str, &str); 19] = [
     ("", ""),
     ("A", "ERR word\n"),
@@ -274,7 +276,8 @@ fn requests_are_cut_anywhere(rt: HostRuntime) -> Result<(), Fail> {
     Ok(())
 }
 
-/// Asserts that whole lines are answered if the reader, which gives one byte a call, fails within the line after them.
+/// Asserts that whole lines are answered if the reader, which gives one byte a call, fails within
+/// the line after them.
 fn assert_failed_reads(rt: &impl Abort, alloc: Global, input: &[u8], before: &Input, line: &str) {
     for count in 0..line.len() {
         let call = before.bytes.len() + count + 1;
@@ -325,7 +328,8 @@ fn a_configuration_is_refused_when_its_last_line_was_read(rt: HostRuntime) {
     assert_ends(&rt, rt.alloc(), reader, refused, 24, b"");
 }
 
-/// Asserts how a run ends if the writer, which takes so many bytes a call, fails at this call, and what it took.
+/// Asserts how a run ends if the writer, which takes so many bytes a call, fails at this call, and
+/// what it took.
 fn assert_failed_write(
     rt: &impl Abort,
     alloc: Global,

@@ -26,7 +26,8 @@ pub const REPLIES: &str = "RCF 1 ta gk-a\n\
     ACF 3 1002 ZONE gk-x 10.9.0.1:1719 640\n\
     ARJ 4 1003 calledPartyNotRegistered no-default\n";
 
-/// How many bytes a call of the reader and a call of the writer move at most: all that they are asked for.
+/// How many bytes a call of the reader and a call of the writer move at most: all that they are
+/// asked for.
 pub const WHOLE: (usize, usize) = (10_000, 10_000);
 
 /// The same, and as many as cut an input and its replies anywhere.
@@ -44,7 +45,8 @@ pub fn assert_run(rt: &impl Abort, alloc: Global, limits: Limits, input: &[u8], 
     }
 }
 
-/// Asserts that this input is answered with this text if it comes, and goes, in pieces of at most so many bytes.
+/// Asserts that this input is answered with this text if it comes, and goes, in pieces of at most
+/// so many bytes.
 pub fn assert_run_in_pieces(
     rt: &impl Abort,
     alloc: Global,
@@ -72,7 +74,8 @@ pub fn assert_replies(
     assert_replies_within(rt, alloc, STATED_LIMITS, requests, replies)
 }
 
-/// Asserts that these requests after the configuration get these replies in a run with these limits.
+/// Asserts that these requests after the configuration get these replies in a run with these
+/// limits.
 pub fn assert_replies_within(
     rt: &impl Abort,
     alloc: Global,
