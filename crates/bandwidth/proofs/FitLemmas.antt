@@ -1,7 +1,7 @@
 -- The sums of a call beside the others, and the first of them that is above its limit.
 use Rattle.std.proofs.Common.{◌≡◌, ℕ, ◌+◌, Bool, true, false, cond, List, [], ◌∷◌, ◌++◌, refl, sym, ap, ◌∙◌, arith}
 use Rattle.std.specs.Prelude.{IfSome, Option, Some, None, find, filter, map, option_map, if◌then◌else◌}
-use Rattle.std.specs.Option.{option_or}
+use Rattle.std.specs.Option.{option_or, option_to_list}
 use Rattle.command_reader.specs.declared.commands.Command.{Command}
 use Rattle.command_reader.specs.declared.commands.LimitKind.TheVariants.{Session, Total, Interzone}
 use Rattle.bandwidth.specs.declared.open_call.OpenCall.{OpenCall}
@@ -14,7 +14,7 @@ use Rattle.command_reader.specs.declared.commands.LimitKind.{LimitKind}
 use Rattle.compiler.specs.Limit.{remote_limit_of}
 use Rattle.bandwidth.specs.declared.tried_zones.TriedZone.{TriedZone}
 use Rattle.bandwidth.specs.declared.tried_zones.TriedZones.{TriedZones}
-use Rattle.bandwidth.specs.Trying.{IsTried, AreTried, is_over, names_of, part_found, try_of, sum_beside, first_over, over_if_above, over_in, over_named, over_second, over_tried, over_between, over_remotely}
+use Rattle.bandwidth.specs.Trying.{IsTried, AreTried, is_over, part_found, try_of, sum_beside, first_over, over_if_above, over_in, over_named, over_second, over_tried, over_between, over_remotely}
 use Rattle.bandwidth.proofs.CallLemmas.{closed_if_none, without_none}
 use Rattle.bandwidth.proofs.SumLemmas.{units_without}
 
@@ -135,16 +135,19 @@ pub of_zones : (commands : List Command) (kind : LimitKind) (others : List OpenC
     → over_in commands kind others call ≡ over_tried kind zones
 of_zones commands kind others call zones are =
     ap (λ zs. first_over (map try zs)) are.touched
-    ∙ first_of_two (try zones.first.name.now ∷ []) (map try (names_of zones.second))
-    ∙ ap (λ o. option_or o (first_over (map try (names_of zones.second))))
+    ∙ first_of_two (try zones.first.name.now ∷ []) (map try (names zones.second))
+    ∙ ap (λ o. option_or o (first_over (map try (names zones.second))))
     (over_if_tried commands kind others call zones.first are.first)
     ∙ ap (option_or (over_named kind zones.first)) (of_second zones.second are.second)
   where
     try : List ℕ → Try
     try = try_of commands kind others call
 
+    names : Option TriedZone → List (List ℕ)
+    names zone = option_to_list (option_map (λ z. z.name.now) zone)
+
     of_second : (second : Option TriedZone) → IfSome second (IsTried commands others call)
-        → first_over (map try (names_of second)) ≡ over_second kind second
+        → first_over (map try (names second)) ≡ over_second kind second
     of_second None are = refl
     of_second (Some zone) are = over_if_tried commands kind others call zone are
 

@@ -261,7 +261,8 @@ module _ (old new : List OpenCall) (call : OpenCall) (step : Step)
   -- the sums of a zone
   use_moves : (zone : List ℕ)
       → use_of new zone
-      ≡ (if touches zone call then use_after call step (use_of old zone) else use_of old zone)
+      ≡ (if touches zone call then use_after (is_interzone call) step (use_of old zone)
+      else use_of old zone)
   use_moves zone = by (touches zone call) refl (is_interzone call) refl
     where
       by : (t : Bool) → touches zone call ≡ t → (i : Bool) → is_interzone call ≡ i
@@ -321,12 +322,13 @@ module _ (old new : List OpenCall) (call : OpenCall) (step : Step)
           (count_owned old id)
           ∙ ap kept_count (sym (count_moves_for id));
       used = λ zone. uses zone
-          ∙ ap (λ u. cond (touches zone call) (kept_use (use_after call step u))
+          ∙ ap (λ u. cond (touches zone call) (kept_use (use_after (is_interzone call) step u))
           (use_found zones zone))
           (use_is_at owners zones remote old summed zone)
-          ∙ ap (cond (touches zone call) (kept_use (use_after call step (use_of old zone))))
+          ∙ ap (cond (touches zone call)
+          (kept_use (use_after (is_interzone call) step (use_of old zone))))
           (summed.used zone)
-          ∙ out kept_use (touches zone call) (use_after call step (use_of old zone))
+          ∙ out kept_use (touches zone call) (use_after (is_interzone call) step (use_of old zone))
           (use_of old zone)
           ∙ ap kept_use (sym (use_moves zone));
       remotely = remotely ∙ ap (remote_after call step) summed.remotely ∙ sym remote_moves;
@@ -344,7 +346,8 @@ module _ (old new : List OpenCall) (call : OpenCall) (step : Step)
       owner = may_count (has_owner call.owner) (λ u. nat_list_eq_equiv.refl call.owner)
           (count_at owners call.owner) (count_is_at owners zones remote old summed call.owner);
       zone = λ zone t.
-          subst (MayUse call step) (sym (use_is_at owners zones remote old summed zone))
+          subst (MayUse (is_interzone call) step)
+          (sym (use_is_at owners zones remote old summed zone))
           (record {
             calls = may_count (touches zone) (λ u. t) (count_by (touches zone) old) refl;
             total = may_sum (touches zone) (λ u. t) (total_of old zone) refl;

@@ -1,7 +1,7 @@
 -- The running sums: what is kept for each owner and each zone, and what a change of one call makes
 -- of it.
-use Rattle.std.specs.Prelude.{◌≡◌, ◌≤◌, ◌<◌, ◌^◌, ℕ, ◌+◌, ◌-◌, ◌==◌, Bool, true, List, [], ◌∷◌, count_by, Option, Some, None, bytes_eq, if◌then◌else◌}
-use Rattle.std.specs.Option.{unwrap_or, option_copied}
+use Rattle.std.specs.Prelude.{◌≡◌, ◌≤◌, ◌<◌, ◌^◌, ℕ, ◌+◌, ◌-◌, ◌==◌, Bool, true, List, ◌∷◌, count_by, Option, Some, None, bytes_eq, if◌then◌else◌}
+use Rattle.std.specs.Option.{unwrap_or, option_copied, option_to_list}
 use Rattle.std.specs.Map.{lookup}
 use Rattle.bandwidth.specs.declared.open_call.OpenCall.{OpenCall}
 use Rattle.bandwidth.specs.declared.open_call.ZonesTouched.{ZonesTouched}
@@ -11,12 +11,8 @@ use Rattle.bandwidth.specs.Calls.{has_owner}
 use Rattle.bandwidth.specs.Use.{is_interzone, touches, total_of, interzone_of, remote_of}
 
 -- ---- the zones of a call
-abbrev pub second_of : Option (List ℕ) → List (List ℕ)
-second_of None = []
-second_of (Some zone) = zone ∷ []
-
 abbrev pub zones_in : ZonesTouched → List (List ℕ)
-zones_in zones = zones.first.now ∷ second_of (option_copied zones.second)
+zones_in zones = zones.first.now ∷ option_to_list (option_copied zones.second)
 
 -- ---- what is kept
 -- how many calls the endpoint with this ID owns
@@ -85,16 +81,14 @@ count_after step count = count - once step.before + once step.after
 abbrev pub sum_after : Step → ℕ → ℕ
 sum_after step sum = sum - units_if_open step.before + units_if_open step.after
 
--- what is used of a zone after the step of a call, which is between two zones or not
-abbrev pub use_moved : Bool → Step → ZoneUse → ZoneUse
-use_moved between step sums = record {
+-- what is used of a zone after the step of a call that touches it, by whether that call is between
+-- two zones
+abbrev pub use_after : Bool → Step → ZoneUse → ZoneUse
+use_after between step sums = record {
   calls = count_after step sums.calls;
   total = sum_after step sums.total;
   interzone = if between then sum_after step sums.interzone else sums.interzone;
 }
-
-abbrev pub use_after : OpenCall → Step → ZoneUse → ZoneUse
-use_after call step sums = use_moved (is_interzone call) step sums
 
 -- what a count and a sum have to hold before the step, and the room that they have
 pub record MayCount (step : Step) (count : ℕ) : Type 0 where
@@ -105,19 +99,18 @@ pub record MaySum (step : Step) (sum : ℕ) : Type 0 where
   pub enough : units_if_open step.before ≤ sum
   pub room : sum + units_if_open step.after < 2 ^ 64
 
-pub record MayMove (between : Bool) (step : Step) (sums : ZoneUse) : Type 0 where
+-- the same for what is used of a zone that the call touches
+pub record MayUse (between : Bool) (step : Step) (sums : ZoneUse) : Type 0 where
   pub calls : MayCount step sums.calls
   pub total : MaySum step sums.total
   pub interzone : between ≡ true → MaySum step sums.interzone
-
-abbrev pub MayUse : OpenCall → Step → ZoneUse → Type 0
-MayUse call step sums = MayMove (is_interzone call) step sums
 
 -- each running sum in which the call counts may take the step
 pub record MayPass (owners : Counts) (zones : Uses) (remote : ℕ) (call : OpenCall) (step : Step)
     : Type 0 where
   pub owner : MayCount step (count_at owners call.owner)
-  pub zone : (zone : List ℕ) → touches zone call ≡ true → MayUse call step (use_at zones zone)
+  pub zone : (zone : List ℕ) → touches zone call ≡ true
+      → MayUse (is_interzone call) step (use_at zones zone)
   pub remotely : call.remote ≡ true → MaySum step remote
 
 -- new has what the step leaves, for the owner and for the zones that the call touches
@@ -130,15 +123,16 @@ CountsPass call step old new =
 abbrev pub UsesPass : OpenCall → Step → Uses → Uses → Type 0
 UsesPass call step old new =
     (zone : List ℕ) → use_found new zone
-    ≡ (if touches zone call then kept_use (use_after call step (use_at old zone))
+    ≡ (if touches zone call then kept_use (use_after (is_interzone call) step (use_at old zone))
     else use_found old zone)
 
-abbrev pub remote_after : OpenCall → Step → ℕ → ℕ
-remote_after call step remote = if call.remote then sum_after step remote else remote
-
--- the same for one zone
+-- the same for one zone alone, by whether the call is between two zones
 abbrev pub UsesPassAt : List ℕ → Bool → Step → Uses → Uses → Type 0
 UsesPassAt at between step old new =
     (zone : List ℕ) → use_found new zone
-    ≡ (if bytes_eq at zone then kept_use (use_moved between step (use_at old zone))
+    ≡ (if bytes_eq at zone then kept_use (use_after between step (use_at old zone))
     else use_found old zone)
+
+-- the sum of the calls to remote zones after the step of a call
+abbrev pub remote_after : OpenCall → Step → ℕ → ℕ
+remote_after call step remote = if call.remote then sum_after step remote else remote

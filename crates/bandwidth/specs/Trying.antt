@@ -1,6 +1,6 @@
 -- The sums of a call beside the others, as they are tried.
-use Rattle.std.specs.Prelude.{◌≡◌, ℕ, ◌+◌, Bool, List, [], ◌∷◌, find, Option, Some, None, option_map, IfSome, if◌then◌else◌}
-use Rattle.std.specs.Option.{option_or}
+use Rattle.std.specs.Prelude.{◌≡◌, ℕ, ◌+◌, Bool, List, ◌∷◌, find, Option, Some, None, option_map, IfSome, if◌then◌else◌}
+use Rattle.std.specs.Option.{option_or, option_to_list}
 use Rattle.command_reader.specs.declared.commands.Command.{Command}
 use Rattle.command_reader.specs.declared.commands.LimitKind.{LimitKind}
 use Rattle.command_reader.specs.declared.commands.LimitKind.TheVariants.{Session, Total, Interzone}
@@ -32,11 +32,6 @@ try_of commands kind others call zone = record {
   over = overs.Zone kind zone;
 }
 
--- the name of the second zone, if there is one
-abbrev pub names_of : Option TriedZone → List (List ℕ)
-names_of None = []
-names_of (Some zone) = zone.name.now ∷ []
-
 -- a zone that was tried: each of its sums is said to be above its limit exactly if it is
 pub record IsTried (commands : List Command) (others : List OpenCall) (call : OpenCall)
     (zone : TriedZone) : Type 0 where
@@ -47,7 +42,8 @@ pub record IsTried (commands : List Command) (others : List OpenCall) (call : Op
 -- zones that were tried: those that the call touches
 pub record AreTried (commands : List Command) (others : List OpenCall) (call : OpenCall)
     (zones : TriedZones) : Type 0 where
-  pub touched : zones_touched call ≡ zones.first.name.now ∷ names_of zones.second
+  pub touched : zones_touched call
+      ≡ zones.first.name.now ∷ option_to_list (option_map (λ zone. zone.name.now) zones.second)
   pub first : IsTried commands others call zones.first
   pub second : IfSome zones.second (IsTried commands others call)
 
@@ -64,19 +60,22 @@ abbrev pub over_in : List Command → LimitKind → List OpenCall → OpenCall �
 over_in commands kind others call =
     first_over (tries_of_kind commands kind (sum_beside kind others call) call)
 
--- what a zone that was tried names of one kind, and what both do: the source first
+-- whether the sum of this kind of a zone that was tried is above its limit
 abbrev pub is_over : LimitKind → TriedZone → Bool
 is_over Session zone = zone.session
 is_over Total zone = zone.total
 is_over Interzone zone = zone.interzone
 
+-- the sum of this kind of a zone that was tried, if it is above its limit
 abbrev pub over_named : LimitKind → TriedZone → Option Over
 over_named kind zone = if is_over kind zone then Some (overs.Zone kind zone.name.now) else None
 
+-- the same of the second zone, if there is one
 abbrev pub over_second : LimitKind → Option TriedZone → Option Over
 over_second kind None = None
 over_second kind (Some zone) = over_named kind zone
 
+-- the first sum of this kind that is above its limit, of the zones that were tried
 abbrev pub over_tried : LimitKind → TriedZones → Option Over
 over_tried kind zones = option_or (over_named kind zones.first) (over_second kind zones.second)
 

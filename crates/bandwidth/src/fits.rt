@@ -75,7 +75,7 @@ impl OpenCalls {
         if let Some(over) = zones.over(LimitKind::Total) {
             return Some(over);
         }
-        if let Some(over) = over_between(call, &zones) {
+        if let Some(over) = over_interzone(call, &zones) {
             return Some(over);
         }
         self.over_remotely(tables, call, held)
@@ -126,7 +126,7 @@ fn is_no_raise(held: Option<&OpenCall>, call: &OpenCall) -> bool
 }
 
 /// The first interzone sum that would be above its limit, if the call is between two zones.
-fn over_between(call: &OpenCall, zones: &TriedZones<'_>) -> Option<Over>
+fn over_interzone(call: &OpenCall, zones: &TriedZones<'_>) -> Option<Over>
     ensures { result ≡ (if is_interzone call.now then over_tried Interzone zones.now else None) }
 {
     if call.is_interzone() {

@@ -1,11 +1,10 @@
 //! The open calls: who is found, and what opening, changing and closing a call leaves.
 
-ghost use Rattle.std.specs.Prelude.{◌≡◌, ◌<◌, ◌≤◌, ◌+◌, ◌^◌, [], true, false, Some, length, IfOk, MatchResult, OnOk, OnErr};
+ghost use Rattle.std.specs.Prelude.{◌≡◌, ◌<◌, ◌≤◌, ◌+◌, ◌^◌, [], false, Some, length, IfOk, OnOk, OnErr};
 ghost use Rattle.std.specs.Option.{option_copied};
 ghost use Rattle.gk_terms.specs.Outcome.{Changes, ChangesUnlessMemory};
 ghost use Rattle.bandwidth.specs.declared.faults.CallsFault.TheVariants as faults;
-ghost use Rattle.bandwidth.specs.Calls.{AreOpenCalls, call_of, changed_in, closed_in, has_owner, is_open, opened_in, owns, with_call, with_changed, without_call};
-ghost use Rattle.bandwidth.specs.OpenCalls.{owned_in};
+ghost use Rattle.bandwidth.specs.Calls.{AreOpenCalls, call_of, changed_in, closed_in, is_open, opened_in, owns, with_call};
 ghost use Rattle.bandwidth.specs.Sums.{use_of};
 ghost use Rattle.bandwidth.specs.Use.{interzone_of, remote_of, total_of};
 
@@ -83,7 +82,7 @@ impl OpenCalls {
     pub fn owns(&self, id: &Name) -> bool
         ensures { result ≡ owns self.now.calls id.now }
     {
-        self.sums.owns(id)
+        self.sums.counts_owner(id)
     }
 
     /// The bandwidth of the open calls that touch the zone, each counted once, in units of

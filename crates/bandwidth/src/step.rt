@@ -1,6 +1,6 @@
 //! A change of one call, as it counts in a running sum.
 
-ghost use Rattle.std.specs.Prelude.{◌≡◌, ◌<◌, ◌^◌, Some, None};
+ghost use Rattle.std.specs.Prelude.{◌≡◌, ◌<◌, ◌^◌};
 ghost use Rattle.bandwidth.specs.Sums.{MayCount, MaySum, count_after, once, sum_after, units_if_open};
 
 use gk_terms::Units;

@@ -40,8 +40,8 @@ impl Sums {
         }
     }
 
-    /// Whether the endpoint with this ID owns a call.
-    pub fn owns(&self, id: &Name) -> bool
+    /// Whether a call is counted whose owner is the endpoint with this ID.
+    pub fn counts_owner(&self, id: &Name) -> bool
         ensures { result ≡ is_some (count_found self.now.owners.entries id.now) }
     {
         self.owners.contains_key(id)

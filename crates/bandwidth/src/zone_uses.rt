@@ -2,8 +2,8 @@
 
 ghost use Rattle.std.specs.Prelude.{◌≡◌, ◌≤◌, ◌+◌, true, None};
 ghost use Rattle.std.specs.HashMap.{spare};
-ghost use Rattle.bandwidth.specs.Use.{touches};
-ghost use Rattle.bandwidth.specs.Sums.{MayMove, MayUse, UsesPass, UsesPassAt, kept_use, no_use, use_at, use_found, use_moved};
+ghost use Rattle.bandwidth.specs.Use.{is_interzone, touches};
+ghost use Rattle.bandwidth.specs.Sums.{MayUse, UsesPass, UsesPassAt, kept_use, no_use, use_after, use_at, use_found};
 
 use crate::named;
 use crate::open_call::OpenCall;
@@ -37,8 +37,8 @@ impl ZoneUse {
     /// What is used of a zone after the step of a call that touches it, and that is between two
     /// zones or not.
     fn after(self, between: bool, step: &Step) -> ZoneUse
-        requires { MayMove between step.now self }
-        ensures { result ≡ use_moved between step.now self }
+        requires { MayUse between step.now self }
+        ensures { result ≡ use_after between step.now self }
     {
         ZoneUse {
             calls: step.count_after(self.calls),
@@ -73,7 +73,7 @@ pub fn use_at(zones: &HashMap<Name, ZoneUse>, zone: &Name) -> ZoneUse
 /// zones that have no entry.
 pub fn pass(zones: &mut HashMap<Name, ZoneUse>, call: &OpenCall, step: &Step)
     requires sums { (zone : _) → touches zone call.now ≡ true
-        → MayUse call.now step.now (use_at zones.old.entries zone) }
+        → MayUse (is_interzone call.now) step.now (use_at zones.old.entries zone) }
     requires room { (zone : _) → touches zone call.now ≡ true
         → use_found zones.old.entries zone ≡ None → 2 ≤ spare zones.old }
     ensures { UsesPass call.now step.now zones.old.entries zones.new.entries }
@@ -88,7 +88,7 @@ pub fn pass(zones: &mut HashMap<Name, ZoneUse>, call: &OpenCall, step: &Step)
 
 /// Takes the step of a call that is between two zones or not, for one zone.
 fn pass_at(zones: &mut HashMap<Name, ZoneUse>, zone: &Name, between: bool, step: &Step)
-    requires sums { MayMove between step.now (use_at zones.old.entries zone.now) }
+    requires sums { MayUse between step.now (use_at zones.old.entries zone.now) }
     requires room { use_found zones.old.entries zone.now ≡ None → 1 ≤ spare zones.old }
     ensures zones { UsesPassAt zone.now between step.now zones.old.entries zones.new.entries }
     ensures room { spare zones.old ≤ spare zones.new + 1 }

@@ -1,6 +1,6 @@
 //! The declared technology prefixes by their text.
 
-ghost use Rattle.std.specs.Prelude.{◌≡◌, ◌≤◌, [], List, ℕ, true, length, OnOk, OnErr, Some, option_map, bytes_eq, if◌then◌else◌};
+ghost use Rattle.std.specs.Prelude.{◌≡◌, [], List, ℕ, true, OnOk, OnErr, Some, option_map, bytes_eq, if◌then◌else◌};
 ghost use Rattle.gk_terms.specs.TechPrefix.{is_tech_prefix};
 ghost use Rattle.compiler.specs.TablesIndex.{technology_at};
 

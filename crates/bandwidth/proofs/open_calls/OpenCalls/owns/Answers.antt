@@ -6,6 +6,6 @@ use Rattle.bandwidth.proofs.open_calls.OpenCalls.owns.Goals as goal
 pub returns : goal.returns
 returns c =
     let id = c.args.id.now in
-    c.owns.ensures
+    c.counts_owner.ensures
     ∙ owner_at _ _ _ _ c.self.invariant.summed id
     ∙ ap (λ o. owns o.calls id) c.self.view_is
