@@ -256,12 +256,6 @@ pub core_still : (machine : State) (history : RecordParts) (new : State) (more :
 core_still machine history new more still same =
     ap₂ (λ s (h : RecordParts). core_with s h.entries) still same
 
-pub kept_still : (machine : State) (history : RecordParts) → IsCore machine history
-    → (new : State) (more : RecordParts) → new ≡ machine → more ≡ history → IsCore new more
-kept_still machine history kept new more still same =
-    subst (λ (s : State). IsCore s more) (sym still)
-    (subst (λ (h : RecordParts). IsCore machine h) (sym same) kept)
-
 -- ---- the state of a core
 pub state_opened : (core : CoreParts) (opening : State)
     → core ≡ record { opening = opening; entries = [] } → state_of core ≡ opening

@@ -6,7 +6,7 @@ ghost use Rattle.admission.specs.State.{opening_of};
 ghost use Rattle.admission.specs.Limits.{are_limits};
 ghost use Rattle.compiler.specs.Plan.{plan_of, target_of};
 ghost use Rattle.admission.specs.Ruling.{ruling_of};
-ghost use Rattle.admission.specs.History.{IsLegal, state_of, Steps};
+ghost use Rattle.admission.specs.History.{Enters, IsLegal, MayReply, state_of, Steps};
 ghost use Rattle.admission.specs.HistoryLaws.{IsSound};
 
 use crate::events::Event;
@@ -15,7 +15,7 @@ use crate::machine::Machine;
 use crate::record::{Receipt, Record};
 use crate::replies::Reply;
 use crate::rulings::Ruling;
-use crate::settling::enter;
+use crate::settling::prepare;
 use bandwidth::OpenCalls;
 use compiler::{Plan, Routed, Tables};
 use gk_terms::{Dialled, Name, Units, Version};
@@ -154,20 +154,19 @@ impl Core {
     pub fn answer(&mut self, event: Event) -> Result<(Reply, Receipt), Reply>
         ensures { Steps self.old (Events.plain event) result self.new }
     {
-        match event {
-            Event::Register(endpoint) => self.register(endpoint),
-            Event::Unregister { id } => self.unregister(&id),
-            Event::Admit {
-                id,
-                call,
-                digits,
-                units,
-            } => {
-                let routed = self.route_here(&digits);
-                self.admit(&routed, &id, call, units)
-            }
-            Event::Change { id, call, units } => self.change(&id, call, units),
-            Event::Release { id, call } => self.release(&id, call),
+        let ruling = self.machine().ruling(&event);
+        self.settle(event, &ruling)
+    }
+
+    /// The same for whoever keeps no receipt.
+    #[inline(never)]
+    pub fn reply(&mut self, event: Event) -> Reply
+        ensures { MayReply self.old (Events.plain event) result self.new }
+    {
+        let ruling = self.machine().ruling(&event);
+        match self.enter(event, &ruling) {
+            Ok(_) => ruling.verdict,
+            Err(reply) => reply,
         }
     }
 
@@ -198,11 +197,29 @@ impl Core {
         }
     }
 
-    /// Refuses by a count, or records the event and carries out the ruling on it; a refused release
-    /// is not recorded.
+    /// Records the event and carries out the ruling on it, as `enter` does, and makes the receipt.
     fn settle(&mut self, event: Event, ruling: &Ruling) -> Result<(Reply, Receipt), Reply>
         requires { ruling.now ≡ ruling_of (state_of self.old) (Events.plain event) }
         ensures { Steps self.old (Events.plain event) result self.new }
+    {
+        let unnumbered = ruling.receipt(0, &event);
+        match self.enter(event, ruling) {
+            Ok(number) => Ok((
+                ruling.verdict,
+                Receipt {
+                    number,
+                    ..unnumbered
+                },
+            )),
+            Err(reply) => Err(reply),
+        }
+    }
+
+    /// Refuses by a count, or records the event and carries out the ruling on it; a refused release
+    /// is not recorded. The answer is the number of the entry.
+    fn enter(&mut self, event: Event, ruling: &Ruling) -> Result<u32, Reply>
+        requires { ruling.now ≡ ruling_of (state_of self.old) (Events.plain event) }
+        ensures { Enters self.old (Events.plain event) ruling.now result self.new }
     {
         if let Some(refusal) = self.machine.count_refusal(&event, ruling) {
             return Err(refusal);
@@ -210,10 +227,12 @@ impl Core {
         if !ruling.verdict.is_recorded() {
             return Err(ruling.verdict);
         }
-        let no_memory = event.no_memory_reply();
-        match enter(&mut self.history, &mut self.machine, event, ruling) {
-            Ok(receipt) => Ok((ruling.verdict, receipt)),
-            Err(_) => Err(no_memory.unwrap()),
+        match prepare(&mut self.history, &mut self.machine, &event, ruling) {
+            Ok(number) => {
+                self.history.push(event, ruling);
+                Ok(number)
+            }
+            Err(_) => Err(event.no_memory_reply().unwrap()),
         }
     }
 

@@ -168,6 +168,7 @@ impl Machine {
     }
 
     /// Puts a copy of the endpoint that asks among the endpoints, in the zone that it means.
+    #[inline(never)]
     fn put(&mut self, event: &Event, zone: Name) -> Result<(), AllocError>
         requires founded { IsFounded self.old (plain event.now) (Effect.Put zone) }
         ensures ok { OnOk result (self.new

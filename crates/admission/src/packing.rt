@@ -17,6 +17,7 @@ use gk_terms::{Address, Dialled, Name, Units};
 
 impl Slot {
     /// What was ruled on the event, in few bytes if it can be.
+    #[inline(never)]
     pub(crate) fn of(event: &Event, ruling: &Ruling) -> Option<Slot>
         ensures { IfSome result (λ slot. Spec.entry_meant [] slot
             ≡ Some (entry_by (plain event.now) ruling.now)) }

@@ -223,6 +223,7 @@ impl Record {
     }
 
     /// Puts what was ruled on an event at the end, in a place that was kept.
+    #[inline(never)]
     pub(crate) fn push(&mut self, event: Event, ruling: &Ruling)
         requires kept { 1 ≤ self.old.kept }
         requires few { length self.old.entries < 2 ^ 32 }
@@ -254,6 +255,7 @@ impl Record {
     }
 
     /// Puts an entry whole at the end of the other list, and its place there into a slot.
+    #[inline(never)]
     fn push_whole(&mut self, entry: Entry)
         requires kept { 1 ≤ self.old.kept }
         requires few { length self.old.entries < 2 ^ 32 }

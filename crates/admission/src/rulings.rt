@@ -7,6 +7,7 @@ ghost use Rattle.compiler.specs.Zones.{zone_meant};
 ghost use Rattle.admission.specs.Events as Events;
 ghost use Rattle.admission.specs.Ruling as Spec;
 
+use crate::events::Event;
 use crate::machine::Machine;
 use crate::registering::refusal_of;
 use crate::replies::{
@@ -81,6 +82,28 @@ impl Ruling {
 }
 
 impl Machine {
+    /// The ruling on an event. An admission is planned by the tables in force.
+    #[inline(never)]
+    pub fn ruling(&self, event: &Event) -> Ruling
+        ensures { result ≡ Spec.ruling_of self.now (Events.plain event.now) }
+    {
+        match event {
+            Event::Register(endpoint) => self.registration(endpoint),
+            Event::Unregister { id } => self.unregistration(id),
+            Event::Admit {
+                id,
+                call,
+                digits,
+                units,
+            } => {
+                let plan = self.tables().plan(digits);
+                self.admission(&plan, id, *call, digits, *units)
+            }
+            Event::Change { id, call, units } => self.bandwidth_change(id, *call, *units),
+            Event::Release { id, call } => self.release(id, *call),
+        }
+    }
+
     // ---- registrations
 
     #[tactic(auto, unfolding(crate::specs::Ruling::ruling_of))]

@@ -1,7 +1,6 @@
 //! Who answers requests.
 
 ghost use Rattle.std.specs.Prelude.{◌≡◌};
-ghost use Rattle.admission.specs.History.{Steps};
 ghost use Rattle.gk_protocol.specs.CoreAnswers.{MayAnswer};
 
 use crate::answers::Answer;
@@ -25,10 +24,8 @@ impl Answerer for Core {
     ghost may_answer = { MayAnswer };
 
     fn answer(&mut self, request: Request) -> Answer {
-        let (sequence, event) = request.into_event();
-        match Core::answer(self, event) {
-            Ok((reply, _)) => Answer::Reply { sequence, reply },
-            Err(reply) => Answer::Reply { sequence, reply },
-        }
+        let sequence = request.sequence();
+        let reply = self.reply(request.into_event());
+        Answer::Reply { sequence, reply }
     }
 }

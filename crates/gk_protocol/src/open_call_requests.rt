@@ -11,6 +11,7 @@ use gk_terms::fields::{name_field, nothing_more};
 use gk_terms::words::Words;
 
 /// `BRQ seq id call units`, after its first word.
+#[inline(never)]
 pub(crate) fn change(words: &mut Words<'_>) -> Result<Request, RequestFault>
     ensures { result ≡ Spec.change_at (words_of words.old) }
 {
@@ -28,6 +29,7 @@ pub(crate) fn change(words: &mut Words<'_>) -> Result<Request, RequestFault>
 }
 
 /// `DRQ seq id call`, after its first word.
+#[inline(never)]
 pub(crate) fn release(words: &mut Words<'_>) -> Result<Request, RequestFault>
     ensures { result ≡ Spec.release_at (words_of words.old) }
 {

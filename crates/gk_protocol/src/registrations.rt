@@ -37,6 +37,7 @@ pub(crate) struct OptionsLeft {
 }
 
 /// `RRQ seq KIND id zone addr [e164=D] [tech=P] ..`, after its first word.
+#[inline(never)]
 pub(crate) fn register(alloc: Global, words: &mut Words<'_>) -> Result<Request, NoRequest>
     ensures { MatchResult result
         (λ request. Spec.register_at (words_of words.old) ≡ Ok request)
@@ -61,6 +62,7 @@ fn bare_endpoint(alloc: Global, words: &mut Words<'_>) -> Result<Endpoint, Reque
 }
 
 /// The endpoint with the aliases and technology prefixes of its options.
+#[inline(never)]
 fn with_options(
     sequence: u32,
     mut endpoint: Endpoint,

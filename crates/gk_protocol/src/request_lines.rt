@@ -22,6 +22,7 @@ use std::alloc::Global;
 /// own fault, and a word after the last is `Extra`. A registration may have 16 options `e164=D` and
 /// 8 options `tech=P` in any order, counted as written; one more is `BadOption` before its value is
 /// looked at, and so is any other word. Memory is taken only for these options.
+#[inline(never)]
 pub fn request_in(alloc: Global, line: &[u8]) -> Result<Option<Request>, NoRequest>
     ensures { MatchResult result
         (λ request. Spec.asking_of line.now ≡ Ok (option_map Spec.Whole request))
@@ -62,6 +63,7 @@ fn other_request(word: &[u8], words: &mut Words<'_>) -> Result<Request, RequestF
 }
 
 /// `URQ seq id`, after its first word.
+#[inline(never)]
 fn unregister(words: &mut Words<'_>) -> Result<Request, RequestFault>
     ensures { result ≡ Spec.unregister_at (words_of words.old) }
 {
@@ -71,6 +73,7 @@ fn unregister(words: &mut Words<'_>) -> Result<Request, RequestFault>
 }
 
 /// `ARQ seq id call digits units`, after its first word.
+#[inline(never)]
 fn admit(words: &mut Words<'_>) -> Result<Request, RequestFault>
     ensures { result ≡ Spec.admit_at (words_of words.old) }
 {

@@ -1,7 +1,7 @@
 //! Requests, as they are read.
 
 ghost use Rattle.std.specs.Prelude.{◌≡◌};
-ghost use Rattle.admission.specs.Events.{plain};
+ghost use Rattle.admission.specs.Events.{plain, Unregistering, Admitting, Changing, Releasing};
 ghost use Rattle.gk_protocol.specs.CoreAnswers as Spec;
 
 use admission::Event;
@@ -61,36 +61,82 @@ pub enum Request {
 }
 
 impl Request {
-    /// The sequence number, and the event that the core is asked for.
-    pub fn into_event(self) -> (u32, Event)
-        ensures sequence { result.0 ≡ (Spec.numbered_event self).0 }
-        ensures event { plain result.1 ≡ (Spec.numbered_event self).1 }
+    /// The sequence number, 1 to 65535, which the reply repeats.
+    pub fn sequence(&self) -> u32
+        ensures { result ≡ (Spec.numbered_event self.now).0 }
     {
         match self {
-            Request::Register { sequence, endpoint } => (sequence, Event::Register(endpoint)),
-            Request::Unregister { sequence, id } => (sequence, Event::Unregister { id }),
+            Request::Register { sequence, .. }
+            | Request::Unregister { sequence, .. }
+            | Request::Admit { sequence, .. }
+            | Request::Change { sequence, .. }
+            | Request::Release { sequence, .. } => *sequence,
+        }
+    }
+
+    /// The event that the core is asked for.
+    #[inline(never)]
+    pub fn into_event(self) -> Event
+        ensures { plain result ≡ (Spec.numbered_event self).1 }
+    {
+        match self {
+            Request::Register { endpoint, .. } => Event::Register(endpoint),
+            Request::Unregister { id, .. } => unregistration(&id),
             Request::Admit {
-                sequence,
                 id,
                 call,
                 digits,
                 units,
-            } => {
-                let event = Event::Admit {
-                    id,
-                    call,
-                    digits,
-                    units,
-                };
-                (sequence, event)
-            }
+                ..
+            } => admission(&id, call, &digits, units),
             Request::Change {
-                sequence,
-                id,
-                call,
-                units,
-            } => (sequence, Event::Change { id, call, units }),
-            Request::Release { sequence, id, call } => (sequence, Event::Release { id, call }),
+                id, call, units, ..
+            } => change(&id, call, units),
+            Request::Release { id, call, .. } => release(&id, call),
         }
     }
+}
+
+// What is large is lent to these functions, and they are never inlined: else the compiler takes
+// each name apart and puts it together again.
+
+/// An endpoint asks to be unregistered.
+#[inline(never)]
+fn unregistration(id: &Name) -> Event
+    ensures { plain result ≡ Unregistering id.now }
+{
+    Event::Unregister { id: *id }
+}
+
+/// An endpoint asks for a call to what it dialled.
+#[inline(never)]
+fn admission(id: &Name, call: u32, digits: &Dialled, units: Units) -> Event
+    ensures { plain result ≡ Admitting id.now call digits.now units }
+{
+    Event::Admit {
+        id: *id,
+        call,
+        digits: *digits,
+        units,
+    }
+}
+
+/// An endpoint asks for another bandwidth of an open call.
+#[inline(never)]
+fn change(id: &Name, call: u32, units: Units) -> Event
+    ensures { plain result ≡ Changing id.now call units }
+{
+    Event::Change {
+        id: *id,
+        call,
+        units,
+    }
+}
+
+/// An endpoint asks to be released from an open call.
+#[inline(never)]
+fn release(id: &Name, call: u32) -> Event
+    ensures { plain result ≡ Releasing id.now call }
+{
+    Event::Release { id: *id, call }
 }

@@ -4,7 +4,7 @@ use Rattle.command_reader.proofs.PrintingLemmas.{OnErr-from}
 use Rattle.admission.specs.State.{State}
 use Rattle.admission.specs.History.{RecordParts}
 use Rattle.admission.proofs.FoundedLemmas.{ruled_founded, ruled_lacks, ruled_fits, ruled_one, ruled_enough}
-use Rattle.admission.proofs.settling.enter.Goals as goal
+use Rattle.admission.proofs.settling.prepare.Goals as goal
 
 pub next_number-number-requires : goal.next_number-number-requires
 next_number-number-requires c =
@@ -25,22 +25,13 @@ returns-in_err-keep-clause-err c =
     OnErr-from c.from_residual.result _
     (refl, err.0, ruled_lacks _ _ _ c.requires.ruled c.requires.recordable c.requires.recorded one)
 
-pub push-requires-clause-kept : goal.push-requires-clause-kept
-push-requires-clause-kept c =
-    omega (
-      arith,
-      ap (λ (h : RecordParts). h.kept) c.in_ok-keep.ensures.ok,
-      c.places_needed-places.ensures,
-      ruled_one _ _ _ c.requires.ruled c.requires.recordable _ c.requires.kept,
-    )
-
 pub returns-clause-places : goal.returns-clause-places
 returns-clause-places c =
     omega (
       arith,
       ap (λ (h : RecordParts). h.kept) c.in_ok-keep.ensures.ok,
-      ap (λ (h : RecordParts). h.kept) c.push.ensures,
       ap (λ (s : State). length s.calls) c.in_default.ensures.ok,
       c.places_needed-places.ensures,
+      ruled_one _ _ _ c.requires.ruled c.requires.recordable _ c.requires.kept,
       ruled_enough _ _ _ c.requires.ruled c.requires.recordable _ c.requires.kept,
     )
