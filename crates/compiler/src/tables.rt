@@ -264,8 +264,8 @@ impl Tables {
         ensures { result ≡ local_zone self.now.commands name.now }
     {
         let zone = self.zone_meant(name);
-        if is_local_option(self.zones.get(&zone)) {
-            Some(zone)
+        if is_local_option(self.zones.get(zone)) {
+            Some(*zone)
         } else {
             None
         }
@@ -297,12 +297,12 @@ impl Tables {
     }
 
     /// The zone that a registration means, by its name.
-    fn zone_meant(&self, name: &Name) -> Name
-        ensures { result ≡ zone_meant self.now.commands name.now }
+    fn zone_meant<'a>(&'a self, name: &'a Name) -> &'a Name
+        ensures { result.now ≡ zone_meant self.now.commands name.now }
     {
         match name.as_bytes() {
-            b"-" => self.first_local,
-            _ => *name,
+            b"-" => &self.first_local,
+            _ => name,
         }
     }
 }
