@@ -1,122 +1,224 @@
--- Entries in few bytes, and those that stand whole.
-use Rattle.std.proofs.Common.{◌≡◌, ℕ, zero, suc, ◌+◌, ◌-◌, ◌<◌, ◌≤◌, List, [], ◌∷◌, ◌++◌, length, map, length-append, slice_get, refl, sym, ap, ap₂, subst, ◌∙◌, arith}
+-- Entries in few bytes, registrations, and those that stand whole.
+use Rattle.std.proofs.Common.{◌≡◌, ℕ, ◌-◌, ◌≤◌, List, [], ◌∷◌, ◌++◌, length, map, length-append, slice_get, refl, sym, ap, ap₂, subst, ◌∙◌, inl, inr, arith}
 use Rattle.std.specs.Prelude.{Option, Some, None, IsSome}
 use Rattle.std.specs.Option.{option_and_then, option_map}
 use Rattle.std.specs.List.{cons_option, filter_map}
-use Rattle.std.proofs.lemmas.Option.{none-some, same_Some, slice_get-map}
-use Rattle.std.proofs.lemmas.List.{length-map, map-append}
+use Rattle.std.proofs.lemmas.Bool.{cases_lt}
+use Rattle.std.proofs.lemmas.Option.{none-some, same_Some, slice_get-map, slice_get_past, slice_get_within}
+use Rattle.std.proofs.lemmas.List.{append-nil, length-map, map-append}
 use Rattle.pieces.specs.Pieces.{PiecesParts}
-use Rattle.admission.specs.History.{PlainEntry, plain_entry}
-use Rattle.admission.specs.Slots.{entry_meant}
-use Rattle.admission.specs.RecordIndex.{entries_meant, entries_told, IsStored}
-use Rattle.admission.specs.declared.record.Entry.{Entry}
+use Rattle.pieces.proofs.Filled.{item_in_front, item_after}
+use Rattle.admission.specs.Events.{PlainEvent, plain}
+use Rattle.admission.specs.History.{PlainEntry}
+use Rattle.admission.specs.Slots.{entry_meant, registration_meant}
+use Rattle.admission.specs.RecordIndex.{whole_entry, slot_meant, entries_told, IsStored}
+use Rattle.admission.specs.declared.events.Event.{Event}
+use Rattle.admission.specs.declared.record.WholeEntry.{WholeEntry}
+use Rattle.admission.specs.declared.slots.RegisterOutcome.{RegisterOutcome}
 use Rattle.admission.specs.declared.slots.Slot.{Slot}
 use Rattle.admission.specs.declared.slots.Slot.TheVariants as slot
 
 -- ---- places
-front_place : {X : Type 0} (xs ys : List X) (i : ℕ) (x : X) → slice_get xs i ≡ Some x
-    → slice_get (xs ++ ys) i ≡ Some x
-front_place [] ys i x h = absurd (none-some x h)
-front_place (z ∷ zs) ys zero x h = h
-front_place (z ∷ zs) ys (suc i) x h = front_place zs ys i x h
+-- what is told of an element is told of it if there are more
+still_told : {X Y : Type 0} (f : X → Option Y) (xs ys : List X) (i : ℕ) (y : Y)
+    → option_and_then f (slice_get xs i) ≡ Some y
+    → option_and_then f (slice_get (xs ++ ys) i) ≡ Some y
+still_told f xs ys i y h =
+    elim (cases_lt i (length xs)) [
+      | inl within ↦ ap (option_and_then f) (item_in_front xs ys i within) ∙ h
+      | inr past ↦
+          absurd (none-some y (sym (ap (option_and_then f) (slice_get_past xs i past)) ∙ h))
+    ]
 
-middle_place : {X : Type 0} (xs ys : List X) (x : X)
-    → slice_get (xs ++ x ∷ ys) (length xs) ≡ Some x
-middle_place [] ys x = refl
-middle_place (z ∷ zs) ys x = middle_place zs ys x
+-- the next element stands behind the others
+next_is : {X : Type 0} (xs : List X) (x : X) (i : ℕ) → i ≡ length xs
+    → slice_get (xs ++ x ∷ []) i ≡ Some x
+next_is xs x i at = item_after xs (x ∷ []) 0 i (omega arith)
 
--- ---- what a slot means stays if more entries stand whole
-still_meant : (aside more : List PlainEntry) (s : Slot) (e : PlainEntry)
-    → entry_meant aside s ≡ Some e → entry_meant (aside ++ more) s ≡ Some e
-still_meant aside more (slot.Admitted call units id digits zone to address) e h = h
-still_meant aside more (slot.OverLimit call units id digits zone to address over) e h = h
-still_meant aside more (slot.Refused call units id digits cause) e h = h
-still_meant aside more (slot.Change id call units) e h = h
-still_meant aside more (slot.Release id call) e h = h
-still_meant aside more (slot.Unregistration id) e h = h
-still_meant aside more (slot.Aside place) e h = front_place aside more place e h
+-- ---- what a slot means stays if there are more entries and events
+still_meant : (aside more : List PlainEntry) (events others : List PlainEvent) (s : Slot)
+    (e : PlainEntry)
+    → entry_meant aside events s ≡ Some e
+    → entry_meant (aside ++ more) (events ++ others) s ≡ Some e
+still_meant aside more events others (slot.Admitted call units id digits zone to at) e h = h
+still_meant aside more events others (slot.OverLimit call units id digits zone to at over) e h = h
+still_meant aside more events others (slot.Refused call units id digits cause) e h = h
+still_meant aside more events others (slot.Change id call units) e h = h
+still_meant aside more events others (slot.Release id call) e h = h
+still_meant aside more events others (slot.Unregistration id) e h = h
+still_meant aside more events others (slot.Registration place outcome) e h =
+    still_told (registration_meant outcome) events others place e h
+still_meant aside more events others (slot.Aside place) e h =
+    item_in_front aside more place (slice_get_within aside place e h) ∙ h
 
-all_still_meant : (aside more : List PlainEntry) (slots : List Slot) (entries : List PlainEntry)
-    → map (entry_meant aside) slots ≡ map Some entries
-    → map (entry_meant (aside ++ more)) slots ≡ map Some entries
-all_still_meant aside more [] [] h = refl
-all_still_meant aside more [] (e ∷ es) h = cc
-all_still_meant aside more (s ∷ ss) [] h = cc
-all_still_meant aside more (s ∷ ss) (e ∷ es) h =
-    let first : entry_meant aside s ≡ Some e = cc in
-    let rest : map (entry_meant aside) ss ≡ map Some es = cc in
-    ap₂ (λ o os. o ∷ os) (still_meant aside more s e first)
-    (all_still_meant aside more ss es rest)
+-- the second tells each entry that the first tells
+abbrev TellsAlso : (f g : Slot → Option PlainEntry) → Type 0
+TellsAlso f g = (s : Slot) (e : PlainEntry) → f s ≡ Some e → g s ≡ Some e
+
+with_entry_aside : (aside more : List PlainEntry) (events : List PlainEvent)
+    → TellsAlso (entry_meant aside events) (entry_meant (aside ++ more) events)
+with_entry_aside aside more events s e h =
+    subst (λ es. entry_meant (aside ++ more) es s ≡ Some e) (append-nil events)
+    (still_meant aside more events [] s e h)
+
+with_event : (aside : List PlainEntry) (events others : List PlainEvent)
+    → TellsAlso (entry_meant aside events) (entry_meant aside (events ++ others))
+with_event aside events others s e h =
+    subst (λ es. entry_meant es (events ++ others) s ≡ Some e) (append-nil aside)
+    (still_meant aside [] events others s e h)
+
+all_still_meant : (f g : Slot → Option PlainEntry) → TellsAlso f g → (slots : List Slot)
+    (entries : List PlainEntry)
+    → map f slots ≡ map Some entries → map g slots ≡ map Some entries
+all_still_meant f g also [] [] h = refl
+all_still_meant f g also [] (e ∷ es) h = cc
+all_still_meant f g also (s ∷ ss) [] h = cc
+all_still_meant f g also (s ∷ ss) (e ∷ es) h =
+    let first : f s ≡ Some e = cc in
+    let rest : map f ss ≡ map Some es = cc in
+    ap₂ (λ o os. o ∷ os) (also s e first) (all_still_meant f g also ss es rest)
 
 -- ---- one entry more
-one_more : (f : Slot → Option PlainEntry) (slots : List Slot) (entries : List PlainEntry) (s : Slot)
-    (e : PlainEntry)
-    → map f slots ≡ map Some entries → f s ≡ Some e
-    → map f (slots ++ s ∷ []) ≡ map Some (entries ++ e ∷ [])
-one_more f slots entries s e h is =
-    map-append f slots (s ∷ []) ∙ ap₂ (λ os o. os ++ o ∷ []) h is
+one_more : (f g : Slot → Option PlainEntry) → TellsAlso f g → (slots : List Slot)
+    (entries : List PlainEntry) (s : Slot) (e : PlainEntry)
+    → map f slots ≡ map Some entries → g s ≡ Some e
+    → map g (slots ++ s ∷ []) ≡ map Some (entries ++ e ∷ [])
+one_more f g also slots entries s e h is =
+    map-append g slots (s ∷ [])
+    ∙ ap₂ (λ os o. os ++ o ∷ []) (all_still_meant f g also slots entries h) is
     ∙ sym (map-append Some entries (e ∷ []))
 
-module _ (slots : PiecesParts Slot) (aside : PiecesParts Entry) (entries : List PlainEntry)
-    (kept : ℕ) (stored : IsStored slots aside entries kept) (one : 1 ≤ kept) where
+-- a list with one more element, in room that it had
+abbrev with_item : {X : Type 0} → PiecesParts X → X → PiecesParts X
+with_item xs x = record { items = xs.items ++ x ∷ []; room = xs.room - 1 }
+
+module _ (slots : PiecesParts Slot) (aside : PiecesParts WholeEntry) (events : PiecesParts Event)
+    (entries : List PlainEntry) (kept : ℕ) (stored : IsStored slots aside events entries kept)
+    (one : 1 ≤ kept) where
   -- in few bytes
   short_stored : (s : Slot) (new : PiecesParts Slot) (e : PlainEntry)
-      → entry_meant [] s ≡ Some e
-      → new ≡ record { items = slots.items ++ s ∷ []; room = slots.room - 1 }
-      → IsStored new aside (entries ++ e ∷ []) (kept - 1)
-  short_stored s new e is put = record {
-    meant =
-        ap (λ (n : PiecesParts Slot). entries_meant aside.items n.items) put
-        ∙ one_more (entry_meant (map plain_entry aside.items)) slots.items entries s e stored.meant
-        (still_meant [] (map plain_entry aside.items) s e is);
-    few = omega (arith, length-append entries (e ∷ []), stored.few);
-    room = omega (arith, stored.room, one, ap (λ (n : PiecesParts Slot). n.room) put);
-    room_aside = omega (arith, stored.room_aside, one);
-  }
+      → entry_meant [] [] s ≡ Some e → new ≡ with_item slots s
+      → IsStored new aside events (entries ++ e ∷ []) (kept - 1)
+  short_stored s new e is put =
+      let meaning = slot_meant aside.items events.items in
+      let more = length-append entries (e ∷ []) in
+      record {
+        meant =
+            ap (λ (n : PiecesParts Slot). map meaning n.items) put
+            ∙ one_more meaning meaning (λ _ _ h. h) slots.items entries s e stored.meant
+            (still_meant [] (map whole_entry aside.items) [] (map plain events.items) s e is);
+        few_aside = omega (arith, more, stored.few_aside);
+        few_registrations = omega (arith, more, stored.few_registrations);
+        room = omega (arith, stored.room, one, ap (λ (n : PiecesParts Slot). n.room) put);
+        room_aside = omega (arith, stored.room_aside, one);
+        room_registrations = omega (arith, stored.room_registrations, one);
+      }
 
-  pub slot_stored : (s : Slot) (new : PiecesParts Slot) → IsSome (entry_meant [] s)
-      → new ≡ record { items = slots.items ++ s ∷ []; room = slots.room - 1 }
-      → IsStored new aside (entries ++ cons_option (entry_meant [] s) []) (kept - 1)
-  slot_stored s new some put = by (entry_meant [] s) refl some
+  pub slot_stored : (s : Slot) (new : PiecesParts Slot) → IsSome (entry_meant [] [] s)
+      → new ≡ with_item slots s
+      → IsStored new aside events (entries ++ cons_option (entry_meant [] [] s) []) (kept - 1)
+  slot_stored s new some put = by (entry_meant [] [] s) refl some
     where
-      by : (o : Option PlainEntry) → entry_meant [] s ≡ o → IsSome o
-          → IsStored new aside (entries ++ cons_option o []) (kept - 1)
+      by : (o : Option PlainEntry) → entry_meant [] [] s ≡ o → IsSome o
+          → IsStored new aside events (entries ++ cons_option o []) (kept - 1)
       by None h some = let impossible : ⊥ = cc in absurd impossible
       by (Some e) h some = short_stored s new e h put
 
-  -- or whole
-  pub whole_stored : (place : ℕ) (whole : Entry) (new : PiecesParts Slot)
-      (more : PiecesParts Entry)
-      → place ≡ length aside.items
-      → new ≡ record { items = slots.items ++ slot.Aside place ∷ []; room = slots.room - 1 }
-      → more ≡ record { items = aside.items ++ whole ∷ []; room = aside.room - 1 }
-      → IsStored new more (entries ++ plain_entry whole ∷ []) (kept - 1)
-  whole_stored place whole new more at put also =
-      let plain = map plain_entry aside.items in
-      let e = plain_entry whole in
-      let wider : map plain_entry more.items ≡ plain ++ e ∷ [] =
-      ap (λ (n : PiecesParts Entry). map plain_entry n.items) also
-      ∙ map-append plain_entry aside.items (whole ∷ []) in
-      let counted : place ≡ length plain = at ∙ sym (length-map aside.items plain_entry) in
-      let there : slice_get (plain ++ e ∷ []) place ≡ Some e =
-      ap (slice_get (plain ++ e ∷ [])) counted ∙ middle_place plain [] e in
+  -- a registration
+  event_stored : (place : ℕ) (outcome : RegisterOutcome) (event : Event) (new : PiecesParts Slot)
+      (wider : PiecesParts Event) (e : PlainEntry)
+      → place ≡ length events.items → registration_meant outcome (plain event) ≡ Some e
+      → new ≡ with_item slots (slot.Registration place outcome) → wider ≡ with_item events event
+      → IsStored new aside wider (entries ++ e ∷ []) (kept - 1)
+  event_stored place outcome event new wider e at is put also =
+      let entries_aside = map whole_entry aside.items in
+      let told = map plain events.items in
+      let longer : map plain wider.items ≡ told ++ plain event ∷ [] =
+      ap (λ (n : PiecesParts Event). map plain n.items) also
+      ∙ map-append plain events.items (event ∷ []) in
+      let counted : place ≡ length told = at ∙ sym (length-map events.items plain) in
+      let there : entry_meant entries_aside (told ++ plain event ∷ [])
+      (slot.Registration place outcome) ≡ Some e =
+      ap (option_and_then (registration_meant outcome)) (next_is told (plain event) place counted)
+      ∙ is in
+      let more = length-append entries (e ∷ []) in
       record {
         meant =
-            ap₂ (λ (a : List PlainEntry) (n : PiecesParts Slot). map (entry_meant a) n.items)
-            wider put
-            ∙ one_more (entry_meant (plain ++ e ∷ [])) slots.items entries (slot.Aside place) e
-            (all_still_meant plain (e ∷ []) slots.items entries stored.meant) there;
-        few =
+            ap₂ (λ (a : List PlainEvent) (n : PiecesParts Slot).
+            map (entry_meant entries_aside a) n.items) longer put
+            ∙ one_more (entry_meant entries_aside told)
+            (entry_meant entries_aside (told ++ plain event ∷ []))
+            (with_event entries_aside told (plain event ∷ [])) slots.items entries
+            (slot.Registration place outcome) e stored.meant there;
+        few_aside = omega (arith, more, stored.few_aside);
+        few_registrations =
             omega (
               arith,
-              ap (λ (n : PiecesParts Entry). length n.items) also,
-              length-append aside.items (whole ∷ []),
-              length-append entries (e ∷ []),
-              stored.few,
+              ap (λ (n : PiecesParts Event). length n.items) also,
+              length-append events.items (event ∷ []),
+              more,
+              stored.few_registrations,
             );
         room = omega (arith, stored.room, one, ap (λ (n : PiecesParts Slot). n.room) put);
+        room_aside = omega (arith, stored.room_aside, one);
+        room_registrations =
+            omega (
+              arith,
+              stored.room_registrations,
+              one,
+              ap (λ (n : PiecesParts Event). n.room) also,
+            );
+      }
+
+  pub registration_stored : (place : ℕ) (outcome : RegisterOutcome) (event : Event)
+      (new : PiecesParts Slot) (wider : PiecesParts Event)
+      → place ≡ length events.items → IsSome (registration_meant outcome (plain event))
+      → new ≡ with_item slots (slot.Registration place outcome) → wider ≡ with_item events event
+      → IsStored new aside wider
+      (entries ++ cons_option (registration_meant outcome (plain event)) []) (kept - 1)
+  registration_stored place outcome event new wider at some put also =
+      by (registration_meant outcome (plain event)) refl some
+    where
+      by : (o : Option PlainEntry) → registration_meant outcome (plain event) ≡ o → IsSome o
+          → IsStored new aside wider (entries ++ cons_option o []) (kept - 1)
+      by None h some = let impossible : ⊥ = cc in absurd impossible
+      by (Some e) h some = event_stored place outcome event new wider e at h put also
+
+  -- or whole
+  pub whole_stored : (place : ℕ) (whole : WholeEntry) (new : PiecesParts Slot)
+      (wider : PiecesParts WholeEntry)
+      → place ≡ length aside.items → new ≡ with_item slots (slot.Aside place)
+      → wider ≡ with_item aside whole
+      → IsStored new wider events (entries ++ whole_entry whole ∷ []) (kept - 1)
+  whole_stored place whole new wider at put also =
+      let told = map plain events.items in
+      let entries_aside = map whole_entry aside.items in
+      let e = whole_entry whole in
+      let longer : map whole_entry wider.items ≡ entries_aside ++ e ∷ [] =
+      ap (λ (n : PiecesParts WholeEntry). map whole_entry n.items) also
+      ∙ map-append whole_entry aside.items (whole ∷ []) in
+      let counted : place ≡ length entries_aside = at ∙ sym (length-map aside.items whole_entry) in
+      let more = length-append entries (e ∷ []) in
+      record {
+        meant =
+            ap₂ (λ (a : List PlainEntry) (n : PiecesParts Slot). map (entry_meant a told) n.items)
+            longer put
+            ∙ one_more (entry_meant entries_aside told) (entry_meant (entries_aside ++ e ∷ []) told)
+            (with_entry_aside entries_aside (e ∷ []) told) slots.items entries (slot.Aside place) e
+            stored.meant (next_is entries_aside e place counted);
+        few_aside =
+            omega (
+              arith,
+              ap (λ (n : PiecesParts WholeEntry). length n.items) also,
+              length-append aside.items (whole ∷ []),
+              more,
+              stored.few_aside,
+            );
+        few_registrations = omega (arith, more, stored.few_registrations);
+        room = omega (arith, stored.room, one, ap (λ (n : PiecesParts Slot). n.room) put);
         room_aside =
-            omega (arith, stored.room_aside, one, ap (λ (n : PiecesParts Entry). n.room) also);
+            omega (arith, stored.room_aside, one, ap (λ (n : PiecesParts WholeEntry). n.room) also);
+        room_registrations = omega (arith, stored.room_registrations, one);
       }
 
 -- ---- the entries that are told
@@ -130,26 +232,19 @@ all_told f (s ∷ ss) (e ∷ es) h =
     let rest : map f ss ≡ map Some es = cc in
     ap₂ cons_option first (all_told f ss es rest)
 
-pub told_are : (slots : PiecesParts Slot) (aside : PiecesParts Entry) (entries : List PlainEntry)
-    (kept : ℕ)
-    → IsStored slots aside entries kept → entries_told slots aside ≡ entries
-told_are slots aside entries kept stored =
-    all_told (entry_meant (map plain_entry aside.items)) slots.items entries stored.meant
+module _ (slots : PiecesParts Slot) (aside : PiecesParts WholeEntry) (events : PiecesParts Event)
+    (entries : List PlainEntry) (kept : ℕ) (stored : IsStored slots aside events entries kept) where
+  pub told_are : entries_told slots aside events ≡ entries
+  told_are = all_told (slot_meant aside.items events.items) slots.items entries stored.meant
 
-pub stored_told : (slots : PiecesParts Slot) (aside : PiecesParts Entry)
-    (entries : List PlainEntry) (kept : ℕ)
-    → IsStored slots aside entries kept → IsStored slots aside (entries_told slots aside) kept
-stored_told slots aside entries kept stored =
-    subst (λ es. IsStored slots aside es kept) (sym (told_are slots aside entries kept stored))
-    stored
+  pub stored_told : IsStored slots aside events (entries_told slots aside events) kept
+  stored_told = subst (λ es. IsStored slots aside events es kept) (sym told_are) stored
 
--- ---- as many slots as entries
-pub slots_counted : (slots : PiecesParts Slot) (aside : PiecesParts Entry)
-    (entries : List PlainEntry) (kept : ℕ)
-    → IsStored slots aside entries kept → length slots.items ≡ length entries
-slots_counted slots aside entries kept stored =
-    sym (length-map slots.items (entry_meant (map plain_entry aside.items)))
-    ∙ ap length stored.meant ∙ length-map entries Some
+  -- as many slots as entries
+  pub slots_counted : length slots.items ≡ length entries
+  slots_counted =
+      sym (length-map slots.items (slot_meant aside.items events.items))
+      ∙ ap length stored.meant ∙ length-map entries Some
 
 -- ---- the entry at a place
 some_once : {X : Type 0} (o : Option X) (x : Option X) → option_map Some o ≡ Some x → o ≡ x
@@ -160,17 +255,18 @@ none_once : {X : Type 0} (o : Option X) → option_map {U = Option X} Some o ≡
 none_once None h = refl
 none_once (Some y) h = cc
 
-found_as : (aside : List PlainEntry) (o : Option Slot) (e : Option PlainEntry)
-    → option_map (entry_meant aside) o ≡ option_map Some e → option_and_then (entry_meant aside) o ≡ e
-found_as aside None e h = sym (none_once e (sym h))
-found_as aside (Some s) e h = sym (some_once e (entry_meant aside s) (sym h))
+found_as : (f : Slot → Option PlainEntry) (o : Option Slot) (e : Option PlainEntry)
+    → option_map f o ≡ option_map Some e → option_and_then f o ≡ e
+found_as f None e h = sym (none_once e (sym h))
+found_as f (Some s) e h = sym (some_once e (f s) (sym h))
 
-pub read_at : (slots : PiecesParts Slot) (aside : PiecesParts Entry) (entries : List PlainEntry)
-    (kept : ℕ)
-    → IsStored slots aside entries kept → (place : ℕ)
-    → option_and_then (entry_meant (map plain_entry aside.items)) (slice_get slots.items place)
+pub read_at : (slots : PiecesParts Slot) (aside : PiecesParts WholeEntry)
+    (events : PiecesParts Event) (entries : List PlainEntry) (kept : ℕ)
+    → IsStored slots aside events entries kept → (place : ℕ)
+    → option_and_then (slot_meant aside.items events.items) (slice_get slots.items place)
     ≡ slice_get entries place
-read_at slots aside entries kept stored place =
-    found_as (map plain_entry aside.items) _ _
-    (sym (slice_get-map (entry_meant (map plain_entry aside.items)) slots.items place)
+read_at slots aside events entries kept stored place =
+    let meaning = slot_meant aside.items events.items in
+    found_as meaning _ _
+    (sym (slice_get-map meaning slots.items place)
     ∙ ap (λ os. slice_get os place) stored.meant ∙ slice_get-map Some entries place)

@@ -1,5 +1,6 @@
 -- The record of a core: a legal history, and the state that it leaves.
 use Rattle.std.specs.Prelude.{◌≡◌, ◌⊎◌, ℕ, ◌+◌, ◌-◌, ◌==◌, true, IsTrue, ⊤, List, [], ◌∷◌, ◌++◌, length, slice_get, Option, Some, None, Result, MatchResult, if◌then◌else◌}
+use Rattle.std.specs.Cow.{cow_value}
 use Rattle.admission.specs.State.{State}
 use Rattle.admission.specs.Events.{PlainEvent, plain, kind_of, id_of, call_number_of}
 use Rattle.admission.specs.Ruling.{ruling_of}
@@ -21,7 +22,7 @@ pub record PlainEntry : Type 0 where
 -- the values of an entry
 abbrev pub plain_entry : Entry → PlainEntry
 plain_entry e =
-    record { event = plain e.event; reply = e.reply; zone = e.zone; route = e.route }
+    record { event = plain (cow_value e.event); reply = e.reply; zone = e.zone; route = e.route }
 
 -- what is recorded of an event on which this was ruled
 abbrev pub entry_by : PlainEvent → Ruling → PlainEntry

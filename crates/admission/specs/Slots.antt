@@ -1,9 +1,11 @@
 -- Entries in few bytes: what each means.
 use Rattle.std.specs.Prelude.{ℕ, List, slice_get, Option, Some, None}
+use Rattle.std.specs.Option.{option_map, option_and_then}
 use Rattle.bandwidth.specs.declared.over.Over.{Over}
 use Rattle.bandwidth.specs.declared.over.Over.TheVariants as over
 use Rattle.gk_terms.specs.Address.{AddressParts}
-use Rattle.admission.specs.Events.{PlainEvent, Admitting, Changing, Releasing, Unregistering}
+use Rattle.registry.specs.Endpoint.{EndpointParts}
+use Rattle.admission.specs.Events.{PlainEvent, Registering, Admitting, Changing, Releasing, Unregistering, endpoint_asking}
 use Rattle.admission.specs.History.{PlainEntry}
 use Rattle.admission.specs.declared.slots.Asked.{Asked}
 use Rattle.admission.specs.declared.replies.AdmitRefusal.{AdmitRefusal}
@@ -14,6 +16,8 @@ use Rattle.admission.specs.declared.routes.Destination.{Destination}
 use Rattle.admission.specs.declared.routes.Destination.TheVariants as destination
 use Rattle.admission.specs.declared.routes.Route.{Route}
 use Rattle.admission.specs.declared.routes.Route.TheVariants as route
+use Rattle.admission.specs.declared.slots.RegisterOutcome.{RegisterOutcome}
+use Rattle.admission.specs.declared.slots.RegisterOutcome.TheVariants as outcome
 use Rattle.admission.specs.declared.slots.ShortDestination.{ShortDestination}
 use Rattle.admission.specs.declared.slots.ShortDestination.TheVariants as short
 use Rattle.admission.specs.declared.slots.ShortOver.{ShortOver}
@@ -53,6 +57,11 @@ route_meant unrouted.CallerNotRegistered = None
 route_meant (unrouted.CallOpen zone) = None
 route_meant (unrouted.NoRoute zone refusal) = Some (route.Refused refusal)
 
+-- the reply to a registration: the ID and the zone are those of the endpoint
+abbrev pub register_reply : RegisterOutcome → EndpointParts → Reply
+register_reply outcome.Granted endpoint = reply.Registered endpoint.id endpoint.zone
+register_reply (outcome.Refused reason) endpoint = reply.RegisterRefused endpoint.id reason
+
 -- ---- entries
 -- of an admission
 abbrev pub admission_entry : Asked → Reply → Option (List ℕ) → Option Route → PlainEntry
@@ -73,23 +82,34 @@ abbrev pub other_entry : PlainEvent → Reply → PlainEntry
 other_entry event replied =
     record { event = event; reply = replied; zone = None; route = None }
 
--- of a slot; these are the entries that stand whole
-abbrev pub entry_meant : List PlainEntry → Slot → Option PlainEntry
-entry_meant aside (slot.Admitted call units id digits zone destination address) =
+-- of a registration
+abbrev pub register_entry : RegisterOutcome → EndpointParts → PlainEntry
+register_entry outcome endpoint =
+    other_entry (Registering endpoint) (register_reply outcome endpoint)
+
+-- of an event, if it is a registration
+abbrev pub registration_meant : RegisterOutcome → PlainEvent → Option PlainEntry
+registration_meant outcome event = option_map (register_entry outcome) (endpoint_asking event)
+
+-- of a slot; these are the entries that stand whole, and the events of registrations
+abbrev pub entry_meant : List PlainEntry → List PlainEvent → Slot → Option PlainEntry
+entry_meant aside events (slot.Admitted call units id digits zone destination address) =
     Some (routed_entry (record { call = call; units = units; id = id; digits = digits }) zone
     (destination_meant destination address)
     (reply.Admitted call (destination_meant destination address) units))
-entry_meant aside (slot.OverLimit call units id digits zone destination address over) =
+entry_meant aside events (slot.OverLimit call units id digits zone destination address over) =
     Some (routed_entry (record { call = call; units = units; id = id; digits = digits }) zone
     (destination_meant destination address)
     (reply.AdmitRefused call (admit.OverLimit (over_meant over zone))))
-entry_meant aside (slot.Refused call units id digits cause) =
+entry_meant aside events (slot.Refused call units id digits cause) =
     Some (admission_entry (record { call = call; units = units; id = id; digits = digits })
     (reply.AdmitRefused call (reason_meant cause)) (zone_meant cause) (route_meant cause))
-entry_meant aside (slot.Change id call units) =
+entry_meant aside events (slot.Change id call units) =
     Some (other_entry (Changing id call units) (reply.Changed call units))
-entry_meant aside (slot.Release id call) =
+entry_meant aside events (slot.Release id call) =
     Some (other_entry (Releasing id call) (reply.Released call))
-entry_meant aside (slot.Unregistration id) =
+entry_meant aside events (slot.Unregistration id) =
     Some (other_entry (Unregistering id) (reply.Unregistered id))
-entry_meant aside (slot.Aside place) = slice_get aside place
+entry_meant aside events (slot.Registration place outcome) =
+    option_and_then (registration_meant outcome) (slice_get events place)
+entry_meant aside events (slot.Aside place) = slice_get aside place

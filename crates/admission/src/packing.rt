@@ -1,7 +1,7 @@
 //! What was ruled on an event, put into few bytes.
 
 ghost use Rattle.std.specs.Prelude.{◌≡◌, ◌↔◌, true, false, [], Some, None, IfSome};
-ghost use Rattle.admission.specs.Events.{plain, Unregistering, Admitting, Changing, Releasing};
+ghost use Rattle.admission.specs.Events.{plain, Registering, Unregistering, Admitting, Changing, Releasing};
 ghost use Rattle.admission.specs.History.{entry_by};
 ghost use Rattle.admission.specs.Slots as Spec;
 ghost use Rattle.admission.specs.declared.routes.Route.TheVariants as route;
@@ -11,15 +11,16 @@ use crate::replies::{AdmitRefusal, Reply};
 use crate::routes::{Destination, Route, RouteRefusal};
 use crate::rulings::Ruling;
 use crate::short_texts::{ShortDigits, ShortName};
-use crate::slots::{Asked, ShortDestination, ShortOver, Slot, Unrouted};
+use crate::slots::{Asked, RegisterOutcome, ShortDestination, ShortOver, Slot, Unrouted};
 use bandwidth::Over;
 use gk_terms::{Address, Dialled, Name, Units};
+use registry::Endpoint;
 
 impl Slot {
     /// What was ruled on the event, in few bytes if it can be.
     #[inline(never)]
     pub(crate) fn of(event: &Event, ruling: &Ruling) -> Option<Slot>
-        ensures { IfSome result (λ slot. Spec.entry_meant [] slot
+        ensures { IfSome result (λ slot. Spec.entry_meant [] [] slot
             ≡ Some (entry_by (plain event.now) ruling.now)) }
     {
         match event {
@@ -37,9 +38,42 @@ impl Slot {
     }
 }
 
+impl RegisterOutcome {
+    /// What became of the event, if it is a registration and the reply has the ID and the zone of
+    /// its endpoint.
+    pub(crate) fn of(event: &Event, ruling: &Ruling) -> Option<RegisterOutcome>
+        ensures { IfSome result (λ outcome. Spec.registration_meant outcome (plain event.now)
+            ≡ Some (entry_by (plain event.now) ruling.now)) }
+    {
+        match event {
+            Event::Register(endpoint) => registration(endpoint, ruling),
+            _ => None,
+        }
+    }
+}
+
+/// What became of a registration, if the reply has the ID and the zone of its endpoint.
+fn registration(endpoint: &Endpoint, ruling: &Ruling) -> Option<RegisterOutcome>
+    ensures { IfSome result (λ outcome. Spec.register_entry outcome endpoint.now
+        ≡ entry_by (Registering endpoint.now) ruling.now) }
+{
+    if ruling.tells_of_an_admission() {
+        return None;
+    }
+    match &ruling.verdict {
+        Reply::Registered { id, zone } if *id == endpoint.id() && *zone == endpoint.zone() => {
+            Some(RegisterOutcome::Granted)
+        }
+        Reply::RegisterRefused { id, reason } if *id == endpoint.id() => {
+            Some(RegisterOutcome::Refused { reason: *reason })
+        }
+        _ => None,
+    }
+}
+
 /// The slot of a granted unregistration.
 fn unregistration(id: &Name, ruling: &Ruling) -> Option<Slot>
-    ensures { IfSome result (λ slot. Spec.entry_meant [] slot
+    ensures { IfSome result (λ slot. Spec.entry_meant [] [] slot
         ≡ Some (entry_by (Unregistering id.now) ruling.now)) }
 {
     if ruling.tells_of_an_admission() {
@@ -56,7 +90,7 @@ fn unregistration(id: &Name, ruling: &Ruling) -> Option<Slot>
 
 /// The slot of a granted bandwidth change.
 fn change(id: &Name, call: u32, units: Units, ruling: &Ruling) -> Option<Slot>
-    ensures { IfSome result (λ slot. Spec.entry_meant [] slot
+    ensures { IfSome result (λ slot. Spec.entry_meant [] [] slot
         ≡ Some (entry_by (Changing id.now call units) ruling.now)) }
 {
     if ruling.tells_of_an_admission() {
@@ -76,7 +110,7 @@ fn change(id: &Name, call: u32, units: Units, ruling: &Ruling) -> Option<Slot>
 
 /// The slot of a granted release.
 fn release(id: &Name, call: u32, ruling: &Ruling) -> Option<Slot>
-    ensures { IfSome result (λ slot. Spec.entry_meant [] slot
+    ensures { IfSome result (λ slot. Spec.entry_meant [] [] slot
         ≡ Some (entry_by (Releasing id.now call) ruling.now)) }
 {
     if ruling.tells_of_an_admission() {
@@ -93,7 +127,7 @@ fn release(id: &Name, call: u32, ruling: &Ruling) -> Option<Slot>
 
 /// The slot of an admission.
 fn admission(id: &Name, call: u32, digits: &Dialled, units: Units, ruling: &Ruling) -> Option<Slot>
-    ensures { IfSome result (λ slot. Spec.entry_meant [] slot
+    ensures { IfSome result (λ slot. Spec.entry_meant [] [] slot
         ≡ Some (entry_by (Admitting id.now call digits.now units) ruling.now)) }
 {
     let asked = Asked::new(call, units, ShortName::of(id)?, ShortDigits::of(digits)?);
@@ -114,7 +148,7 @@ fn admission(id: &Name, call: u32, digits: &Dialled, units: Units, ruling: &Ruli
 impl Asked {
     /// The slot if the caller is not registered.
     fn by_a_stranger(&self, verdict: &Reply) -> Option<Slot>
-        ensures { IfSome result (λ slot. Spec.entry_meant [] slot
+        ensures { IfSome result (λ slot. Spec.entry_meant [] [] slot
             ≡ Some (Spec.admission_entry self.now verdict.now None None)) }
     {
         match verdict {
@@ -128,7 +162,7 @@ impl Asked {
 
     /// The slot if a call of the number is open.
     fn of_an_open_call(&self, zone: ShortName, verdict: &Reply) -> Option<Slot>
-        ensures { IfSome result (λ slot. Spec.entry_meant [] slot
+        ensures { IfSome result (λ slot. Spec.entry_meant [] [] slot
             ≡ Some (Spec.admission_entry self.now verdict.now (Some zone) None)) }
     {
         match verdict {
@@ -147,7 +181,7 @@ impl Asked {
         refusal: RouteRefusal,
         verdict: &Reply,
     ) -> Option<Slot>
-        ensures { IfSome result (λ slot. Spec.entry_meant [] slot
+        ensures { IfSome result (λ slot. Spec.entry_meant [] [] slot
             ≡ Some (Spec.admission_entry self.now verdict.now (Some zone)
             (Some (route.Refused refusal)))) }
     {
@@ -164,7 +198,7 @@ impl Asked {
 
     /// The slot of an admission that leads to no destination.
     fn refused(&self, cause: Unrouted) -> Slot
-        ensures { Spec.entry_meant [] result ≡ Some (Spec.admission_entry self.now
+        ensures { Spec.entry_meant [] [] result ≡ Some (Spec.admission_entry self.now
             (Reply.AdmitRefused self.now.call (Spec.reason_meant cause))
             (Spec.zone_meant cause) (Spec.route_meant cause)) }
     {
@@ -184,7 +218,7 @@ impl Asked {
         destination: &Destination,
         verdict: &Reply,
     ) -> Option<Slot>
-        ensures { IfSome result (λ slot. Spec.entry_meant [] slot
+        ensures { IfSome result (λ slot. Spec.entry_meant [] [] slot
             ≡ Some (Spec.routed_entry self.now zone destination.now verdict.now)) }
     {
         let (short, address) = short_destination(destination)?;
@@ -211,7 +245,7 @@ impl Asked {
 
     /// The slot of a granted admission.
     fn admitted(&self, zone: ShortName, destination: ShortDestination, address: Address) -> Slot
-        ensures { Spec.entry_meant [] result ≡ Some (Spec.routed_entry self.now zone
+        ensures { Spec.entry_meant [] [] result ≡ Some (Spec.routed_entry self.now zone
             (Spec.destination_meant destination address)
             (Reply.Admitted self.now.call (Spec.destination_meant destination address)
             self.now.units)) }
@@ -235,7 +269,7 @@ impl Asked {
         address: Address,
         over: ShortOver,
     ) -> Slot
-        ensures { Spec.entry_meant [] result ≡ Some (Spec.routed_entry self.now zone
+        ensures { Spec.entry_meant [] [] result ≡ Some (Spec.routed_entry self.now zone
             (Spec.destination_meant destination address)
             (Reply.AdmitRefused self.now.call
             (AdmitRefusal.OverLimit (Spec.over_meant over zone)))) }

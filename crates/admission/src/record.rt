@@ -2,17 +2,17 @@
 
 ghost use Rattle.std.specs.Prelude.{◌≡◌, ◌↔◌, ◌<◌, ◌≤◌, ◌+◌, ◌-◌, ◌^◌, ◌++◌, ◌∷◌, [], true, length, take, slice_get, OnOk, OnErr, IfErr, IfNone, IfSome, IsSome, map, option_map};
 ghost use Rattle.std.specs.List.{All, cons_option};
-ghost use Rattle.std.specs.Cow.{cow_value};
 ghost use Rattle.std.specs.Option.{option_and_then};
 ghost use Rattle.admission.specs.Events.{plain};
-ghost use Rattle.admission.specs.Slots.{entry_meant, other_entry};
+ghost use Rattle.admission.specs.Slots.{entry_meant, other_entry, registration_meant};
+ghost use Rattle.admission.specs.RecordIndex.{slot_meant, whole_entry};
 ghost use Rattle.admission.specs.History.{plain_entry, entry_by, entry_of_number, receipt_of, Stands};
 
 use crate::events::{Event, EventKind};
 use crate::replies::Reply;
 use crate::routes::Route;
 use crate::rulings::Ruling;
-use crate::slots::{HeldSlot, Slot};
+use crate::slots::{HeldSlot, RegisterOutcome, Slot};
 use gk_terms::Name;
 use pieces::Pieces;
 use std::alloc::{AllocError, Global};
@@ -21,9 +21,9 @@ use std::marker::Model;
 
 /// One recorded event with its reply.
 #[derive(Drop)]
-pub struct Entry {
+pub struct Entry<'a> {
     /// What was asked.
-    pub event: Event,
+    pub event: Cow<'a, Event>,
     /// What was replied.
     pub reply: Reply,
     /// Of an admission: the zone of the caller, if it was registered.
@@ -32,12 +32,41 @@ pub struct Entry {
     pub route: Option<Route>,
 }
 
-impl Entry {
+impl Entry<'_> {
     /// The receipt of this entry, if it has this number.
     pub fn receipt(&self, number: u32) -> Receipt
         ensures { result ≡ receipt_of number (plain_entry self.now) }
     {
         Receipt::of(number, &self.event, self.reply)
+    }
+}
+
+/// An entry as the record keeps it whole.
+#[derive(Drop)]
+pub(crate) struct WholeEntry {
+    event: Event,
+    reply: Reply,
+    zone: Option<Name>,
+    route: Option<Route>,
+}
+
+impl WholeEntry {
+    /// The entry, with the event lent.
+    pub(crate) fn lent(&self) -> Entry<'_>
+        ensures { plain_entry result ≡ whole_entry self.now }
+    {
+        let WholeEntry {
+            event,
+            reply,
+            zone,
+            route,
+        } = self;
+        Entry {
+            event: Cow::Borrowed(event),
+            reply: *reply,
+            zone: *zone,
+            route: *route,
+        }
     }
 }
 
@@ -58,10 +87,10 @@ pub struct Receipt {
 
 impl Ruling {
     /// The entry of the event on which this was ruled.
-    pub(crate) fn entry(&self, event: Event) -> Entry
-        ensures { plain_entry result ≡ entry_by (plain event) self.now }
+    pub(crate) fn entry(&self, event: Event) -> WholeEntry
+        ensures { whole_entry result ≡ entry_by (plain event) self.now }
     {
-        Entry {
+        WholeEntry {
             event,
             reply: self.verdict,
             zone: self.zone,
@@ -95,13 +124,15 @@ impl Receipt {
 /// The recorded events in order. A contract sees them by their values alone, and how many further
 /// ones find room without memory: the places that are kept.
 ///
-/// `slots` has one slot for each entry, in few bytes; an entry that does not fit into a slot stands
-/// whole in `aside`, and its slot has its place there. Both grow piece by piece, so that no entry
-/// is ever moved, and both have room for each kept place.
+/// `slots` has one slot for each entry, in few bytes. The event of a registration stands in
+/// `registrations`, and its slot has its place there; an entry that does not fit into a slot
+/// otherwise stands whole in `aside`, and its slot has its place there. All three grow piece by
+/// piece, so that no entry is ever moved, and each has room for every kept place.
 #[derive(Drop)]
 pub struct Record {
     slots: Pieces<HeldSlot>,
-    aside: Pieces<Entry>,
+    aside: Pieces<WholeEntry>,
+    registrations: Pieces<Event>,
     kept: usize,
 }
 
@@ -111,9 +142,13 @@ impl Model for Record {
 
     ghost Value = { RecordParts };
 
-    ghost view = { λ r. record { entries = entries_told r.slots r.aside; kept = r.kept } };
+    ghost view = { λ r. record {
+      entries = entries_told r.slots r.aside r.registrations;
+      kept = r.kept;
+    } };
 
-    ghost invariant = { λ r. IsStored r.slots r.aside (entries_told r.slots r.aside) r.kept };
+    ghost invariant = { λ r. IsStored r.slots r.aside r.registrations
+        (entries_told r.slots r.aside r.registrations) r.kept };
 }
 
 impl Record {
@@ -124,6 +159,7 @@ impl Record {
         Record {
             slots: Pieces::new(alloc),
             aside: Pieces::new(alloc),
+            registrations: Pieces::new(alloc),
             kept: 0,
         }
     }
@@ -136,20 +172,18 @@ impl Record {
     }
 
     /// The entry of this number. The first has number 1.
-    pub fn get(&self, number: u32) -> Option<Cow<'_, Entry>>
-        ensures { option_map (λ e. plain_entry (cow_value e)) result
-            ≡ entry_of_number self.now.entries number }
+    pub fn get(&self, number: u32) -> Option<Entry<'_>>
+        ensures { option_map plain_entry result ≡ entry_of_number self.now.entries number }
     {
         let place = number.checked_sub(1)?;
         self.at(place as usize)
     }
 
     /// The entry at this place, from 0.
-    fn at(&self, place: usize) -> Option<Cow<'_, Entry>>
-        ensures { option_map (λ e. plain_entry (cow_value e)) result
-            ≡ slice_get self.now.entries place }
+    fn at(&self, place: usize) -> Option<Entry<'_>>
+        ensures { option_map plain_entry result ≡ slice_get self.now.entries place }
     {
-        entry_at(&self.slots, &self.aside, place)
+        entry_at(&self.slots, &self.aside, &self.registrations, place)
     }
 
     /// `Ok` if each receipt is that of the entry at its number; else the place, from 0, of the
@@ -209,6 +243,7 @@ impl Record {
         let kept = self.kept + places;
         self.slots.reserve(kept)?;
         self.aside.reserve(kept)?;
+        self.registrations.reserve(kept)?;
         self.kept = kept;
         Ok(())
     }
@@ -223,7 +258,6 @@ impl Record {
     }
 
     /// Puts what was ruled on an event at the end, in a place that was kept.
-    #[inline(never)]
     pub(crate) fn push(&mut self, event: Event, ruling: &Ruling)
         requires kept { 1 ≤ self.old.kept }
         requires few { length self.old.entries < 2 ^ 32 }
@@ -234,6 +268,22 @@ impl Record {
     {
         match Slot::of(&event, ruling) {
             Some(slot) => self.push_slot(slot),
+            None => self.push_event(event, ruling),
+        }
+    }
+
+    /// Puts what was ruled on an event at the end, with the event itself.
+    #[inline(never)]
+    fn push_event(&mut self, event: Event, ruling: &Ruling)
+        requires kept { 1 ≤ self.old.kept }
+        requires few { length self.old.entries < 2 ^ 32 }
+        ensures { self.new ≡ record {
+          entries = self.old.entries ++ entry_by (plain event) ruling.now ∷ [];
+          kept = self.old.kept - 1;
+        } }
+    {
+        match RegisterOutcome::of(&event, ruling) {
+            Some(outcome) => self.push_registration(event, outcome),
             None => {
                 let entry = ruling.entry(event);
                 self.push_whole(entry);
@@ -244,9 +294,9 @@ impl Record {
     /// Puts an entry at the end in few bytes.
     fn push_slot(&mut self, slot: Slot)
         requires kept { 1 ≤ self.old.kept }
-        requires meant { IsSome (entry_meant [] slot) }
+        requires meant { IsSome (entry_meant [] [] slot) }
         ensures { self.new ≡ record {
-          entries = self.old.entries ++ cons_option (entry_meant [] slot) [];
+          entries = self.old.entries ++ cons_option (entry_meant [] [] slot) [];
           kept = self.old.kept - 1;
         } }
     {
@@ -254,13 +304,30 @@ impl Record {
         self.kept -= 1;
     }
 
-    /// Puts an entry whole at the end of the other list, and its place there into a slot.
-    #[inline(never)]
-    fn push_whole(&mut self, entry: Entry)
+    /// Puts a registration at the end of their list, and its place there into a slot.
+    fn push_registration(&mut self, event: Event, outcome: RegisterOutcome)
+        requires kept { 1 ≤ self.old.kept }
+        requires few { length self.old.entries < 2 ^ 32 }
+        requires meant { IsSome (registration_meant outcome (plain event)) }
+        ensures { self.new ≡ record {
+          entries = self.old.entries
+              ++ cons_option (registration_meant outcome (plain event)) [];
+          kept = self.old.kept - 1;
+        } }
+    {
+        let place = self.registrations.len() as u32;
+        self.slots
+            .push(HeldSlot::new(Slot::Registration { place, outcome }));
+        self.registrations.push(event);
+        self.kept -= 1;
+    }
+
+    /// Puts an entry at the end of the list of whole entries, and its place there into a slot.
+    fn push_whole(&mut self, entry: WholeEntry)
         requires kept { 1 ≤ self.old.kept }
         requires few { length self.old.entries < 2 ^ 32 }
         ensures { self.new ≡ record {
-          entries = self.old.entries ++ plain_entry entry ∷ [];
+          entries = self.old.entries ++ whole_entry entry ∷ [];
           kept = self.old.kept - 1;
         } }
     {
@@ -273,39 +340,18 @@ impl Record {
 
 /// The entry of the slot at this place.
 fn entry_at<'a>(
-    slots: &'a Pieces<HeldSlot>,
-    aside: &'a Pieces<Entry>,
+    slots: &Pieces<HeldSlot>,
+    aside: &'a Pieces<WholeEntry>,
+    registrations: &'a Pieces<Event>,
     place: usize,
-) -> Option<Cow<'a, Entry>>
-    ensures { option_map (λ e. plain_entry (cow_value e)) result
-        ≡ option_and_then (entry_meant (map plain_entry aside.now.items))
+) -> Option<Entry<'a>>
+    ensures { option_map plain_entry result
+        ≡ option_and_then (slot_meant aside.now.items registrations.now.items)
         (slice_get slots.now.items place) }
 {
     match slots.get(place) {
         None => None,
-        Some(held) => entry_in(aside, held.slot()),
-    }
-}
-
-/// The entry of a slot.
-fn entry_in<'a>(aside: &'a Pieces<Entry>, slot: &Slot) -> Option<Cow<'a, Entry>>
-    ensures { option_map (λ e. plain_entry (cow_value e)) result
-        ≡ entry_meant (map plain_entry aside.now.items) slot.now }
-{
-    match slot.entry() {
-        Ok(entry) => Some(Cow::Owned(entry)),
-        Err(place) => whole_at(aside, place as usize),
-    }
-}
-
-/// The entry that stands whole at this place.
-fn whole_at(aside: &Pieces<Entry>, place: usize) -> Option<Cow<'_, Entry>>
-    ensures { option_map (λ e. plain_entry (cow_value e)) result
-        ≡ slice_get (map plain_entry aside.now.items) place }
-{
-    match aside.get(place) {
-        None => None,
-        Some(entry) => Some(Cow::Borrowed(entry)),
+        Some(held) => held.slot().entry(aside, registrations),
     }
 }
 

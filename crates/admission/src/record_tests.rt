@@ -3,13 +3,14 @@
 use crate::cores::Core;
 use crate::events::{Event, EventKind};
 use crate::limits::STATED_LIMITS;
-use crate::record::Receipt;
-use crate::replies::{AdmitRefusal, ChangeRefusal, Reply, UnregisterRefusal};
+use crate::record::{Entry, Receipt};
+use crate::replies::{AdmitRefusal, ChangeRefusal, RegisterRefusal, Reply, UnregisterRefusal};
 use crate::routes::Route;
 use crate::short_texts::{ShortDigits, ShortName};
 use crate::slots::HeldSlot;
 use crate::test_cores::{admission, away, core_within, entry, five_events, receipt_of, terminal};
 use gk_terms::{Dialled, Name, Units};
+use registry::{Duplicate, Endpoint};
 use std::alloc::Global;
 use std::mem::size_of;
 use std::process::Abort;
@@ -287,6 +288,135 @@ fn events_of(alloc: Global, core: &mut Core, id: &[u8]) -> Result<[Receipt; 5], 
         receipt_of(core, Event::Release { id: name, call })?,
         receipt_of(core, Event::Unregister { id: name })?,
     ])
+}
+
+/// A registration: the ID, the zone and the last byte of the address of a terminal, and why it is
+/// refused, if it is.
+#[derive(Clone, Copy)]
+struct Registration {
+    id: &'static [u8],
+    zone: &'static [u8],
+    host: u8,
+    refusal: Option<RegisterRefusal>,
+}
+
+impl Registration {
+    /// The terminal, with one alias.
+    fn endpoint(&self, alloc: Global) -> Result<Endpoint, Fail> {
+        let endpoint = terminal(alloc, self.id, self.host, &[b"4085551000"])?;
+        Ok(endpoint.in_zone(Name::read(self.zone)?))
+    }
+
+    /// The reply.
+    fn reply(&self) -> Result<Reply, Fail> {
+        let id = Name::read(self.id)?;
+        match self.refusal {
+            None => {
+                let zone = Name::read(b"gk-a")?;
+                Ok(Reply::Registered { id, zone })
+            }
+            Some(reason) => Ok(Reply::RegisterRefused { id, reason }),
+        }
+    }
+}
+
+#[test]
+fn registrations_read_back(rt: HostRuntime) -> Result<(), Fail> {
+    for registration in [
+        Registration {
+            id: b"ta",
+            zone: b"gk-a",
+            host: 1,
+            refusal: None,
+        },
+        // A long ID.
+        Registration {
+            id: b"terminal-0123456789a",
+            zone: b"gk-a",
+            host: 2,
+            refusal: None,
+        },
+        // The first local zone, which the reply names.
+        Registration {
+            id: b"tb",
+            zone: b"-",
+            host: 3,
+            refusal: None,
+        },
+        Registration {
+            id: b"tc",
+            zone: b"gk-x",
+            host: 4,
+            refusal: Some(RegisterRefusal::UnknownZone),
+        },
+    ] {
+        let mut core = core_within(rt.alloc(), STATED_LIMITS)?;
+        assert_registration(&rt, rt.alloc(), &mut core, &registration)?;
+    }
+    Ok(())
+}
+
+#[test]
+fn refused_duplicates_read_back(rt: HostRuntime) -> Result<(), Fail> {
+    let mut core = core_within(rt.alloc(), STATED_LIMITS)?;
+    for (id, host, refusal) in [
+        (b"ta".as_slice(), 1, None),
+        (
+            b"ta",
+            2,
+            Some(RegisterRefusal::DuplicateAlias(Duplicate::Id)),
+        ),
+        (
+            b"tb",
+            2,
+            Some(RegisterRefusal::DuplicateAlias(Duplicate::E164)),
+        ),
+        (b"ta", 1, None),
+    ] {
+        let registration = Registration {
+            id,
+            zone: b"gk-a",
+            host,
+            refusal,
+        };
+        assert_registration(&rt, rt.alloc(), &mut core, &registration)?;
+    }
+    Ok(())
+}
+
+/// Asserts that the registration has its reply, and that its entry is read back as it was put in.
+fn assert_registration(
+    rt: &impl Abort,
+    alloc: Global,
+    core: &mut Core,
+    registration: &Registration,
+) -> Result<(), Fail> {
+    let asked = registration.endpoint(alloc)?;
+    let receipt = receipt_of(core, Event::Register(registration.endpoint(alloc)?))?;
+    let entry = entry(core.record(), receipt.number)?;
+    assert_eq!(rt; entry.reply, registration.reply()?);
+    assert_eq!(rt; entry.receipt(receipt.number), receipt);
+    assert_eq!(rt; (entry.zone, entry.route), (None, None));
+    assert_same_endpoint(rt, registering(&entry)?, &asked);
+    Ok(())
+}
+
+/// The endpoint that asks to be registered.
+fn registering<'a>(entry: &'a Entry<'_>) -> Result<&'a Endpoint, Fail> {
+    match &*entry.event {
+        Event::Register(endpoint) => Ok(endpoint),
+        _ => Err(Fail::new("not a registration")),
+    }
+}
+
+/// Asserts that two endpoints are the same.
+fn assert_same_endpoint(rt: &impl Abort, endpoint: &Endpoint, same: &Endpoint) {
+    assert_eq!(rt; endpoint.kind(), same.kind());
+    assert_eq!(rt; endpoint.id(), same.id());
+    assert_eq!(rt; endpoint.zone(), same.zone());
+    assert_eq!(rt; endpoint.address(), same.address());
+    assert_eq!(rt; endpoint.aliases(), same.aliases());
+    assert_eq!(rt; endpoint.technologies(), same.technologies());
 }
 
 #[test]

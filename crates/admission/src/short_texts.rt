@@ -1,6 +1,6 @@
 //! Names and dialled digits in few bytes, as the record keeps them.
 
-ghost use Rattle.std.specs.Prelude.{◌≡◌, ◌↔◌, true, IfSome};
+ghost use Rattle.std.specs.Prelude.{◌≡◌, ◌↔◌, ◌<◌, true, length, None, IfSome};
 
 use gk_terms::spelling::Spelling;
 use gk_terms::{Dialled, Name};
@@ -34,7 +34,8 @@ impl Model for ShortName {
 impl ShortName {
     /// The same name, if it is short.
     pub(crate) fn of(name: &Name) -> Option<ShortName>
-        ensures { IfSome result (λ short. short ≡ name.now) }
+        ensures same { IfSome result (λ short. short ≡ name.now) }
+        ensures long { (result ≡ None) ↔ (19 < length name.now) }
     {
         let text = name.as_bytes();
         if text.len() > SHORT_NAME {
@@ -86,7 +87,8 @@ impl ShortDigits {
     #[tactic(auto, using(gk_terms::proofs::Visible::visible_from_dialled))]
     /// The same digits, if they are few.
     pub(crate) fn of(digits: &Dialled) -> Option<ShortDigits>
-        ensures { IfSome result (λ short. short ≡ digits.now) }
+        ensures same { IfSome result (λ short. short ≡ digits.now) }
+        ensures long { (result ≡ None) ↔ (15 < length digits.now) }
     {
         let text = digits.as_bytes();
         if text.len() > SHORT_DIGITS {

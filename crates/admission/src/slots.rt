@@ -1,19 +1,24 @@
 //! Entries in few bytes, as the record keeps them.
 
-ghost use Rattle.std.specs.Prelude.{◌≡◌, List, Some, MatchResult, slice_get};
+ghost use Rattle.std.specs.Prelude.{◌≡◌, Some, map, slice_get, option_map};
+ghost use Rattle.std.specs.Option.{option_and_then};
 ghost use Rattle.admission.specs.Events.{plain, Unregistering, Changing, Releasing};
-ghost use Rattle.admission.specs.History.{PlainEntry, plain_entry};
+ghost use Rattle.admission.specs.History.{plain_entry};
+ghost use Rattle.admission.specs.RecordIndex.{slot_meant, whole_entry};
 ghost use Rattle.admission.specs.Slots as Spec;
 
 use crate::events::Event;
-use crate::record::Entry;
-use crate::replies::{AdmitRefusal, Reply};
+use crate::record::{Entry, WholeEntry};
+use crate::replies::{AdmitRefusal, RegisterRefusal, Reply};
 use crate::routes::{Destination, Route, RouteRefusal};
 use crate::rulings::Ruling;
 use crate::short_texts::{ShortDigits, ShortName};
 use bandwidth::Over;
 use command_reader::LimitKind;
 use gk_terms::{Address, Name, Units};
+use pieces::Pieces;
+use registry::Endpoint;
+use std::borrow::Cow;
 use std::marker::Model;
 
 /// Where dialled digits lead, but for the address.
@@ -46,9 +51,17 @@ pub(crate) enum Unrouted {
     },
 }
 
+/// What became of a registration, beside what its event tells: in the reply are the ID and the zone
+/// of the endpoint that asked.
+#[derive(Clone, Copy)]
+pub(crate) enum RegisterOutcome {
+    Granted,
+    Refused { reason: RegisterRefusal },
+}
+
 /// An entry in few bytes: of most admissions whose names and digits are short, and of a granted
-/// change, release or unregistration whose ID is; or the place of an entry that stands whole in a
-/// list beside.
+/// change, release or unregistration whose ID is; or the place of a registration in the list of
+/// registrations, or that of an entry that stands whole in the list of whole entries.
 #[derive(Clone, Copy)]
 pub(crate) enum Slot {
     /// A granted admission.
@@ -94,6 +107,12 @@ pub(crate) enum Slot {
     /// A granted unregistration.
     Unregistration {
         id: ShortName,
+    },
+    /// A registration.
+    Registration {
+        /// The place, from 0, of the event in the list of registrations.
+        place: u32,
+        outcome: RegisterOutcome,
     },
     /// The place, from 0, of the entry in the list of whole entries.
     Aside {
@@ -228,11 +247,14 @@ impl Unrouted {
 }
 
 impl Slot {
-    /// The entry, or its place in the list of whole entries.
-    pub(crate) fn entry(&self) -> Result<Entry, u32>
-        ensures { (aside : List PlainEntry) → MatchResult result
-            (λ entry. Spec.entry_meant aside self.now ≡ Some (plain_entry entry))
-            (λ place. Spec.entry_meant aside self.now ≡ slice_get aside place) }
+    /// The entry, if these are the entries that stand whole, and the registrations.
+    pub(crate) fn entry<'a>(
+        &self,
+        aside: &'a Pieces<WholeEntry>,
+        registrations: &'a Pieces<Event>,
+    ) -> Option<Entry<'a>>
+        ensures { option_map plain_entry result
+            ≡ slot_meant aside.now.items registrations.now.items self.now }
     {
         match self {
             Slot::Admitted {
@@ -245,7 +267,7 @@ impl Slot {
                 address,
             } => {
                 let asked = Asked::new(*call, *units, *id, *digits);
-                Ok(admitted(&asked, zone, &destination.at(*address)))
+                Some(admitted(&asked, zone, &destination.at(*address)))
             }
             Slot::OverLimit {
                 call,
@@ -259,7 +281,7 @@ impl Slot {
             } => {
                 let asked = Asked::new(*call, *units, *id, *digits);
                 let over = over.of_zone(zone);
-                Ok(over_limit(&asked, zone, &destination.at(*address), &over))
+                Some(over_limit(&asked, zone, &destination.at(*address), &over))
             }
             Slot::Refused {
                 call,
@@ -269,18 +291,83 @@ impl Slot {
                 cause,
             } => {
                 let asked = Asked::new(*call, *units, *id, *digits);
-                Ok(refused(&asked, cause))
+                Some(refused(&asked, cause))
             }
-            Slot::Change { id, call, units } => Ok(changed(id, *call, *units)),
-            Slot::Release { id, call } => Ok(released(id, *call)),
-            Slot::Unregistration { id } => Ok(unregistered(id)),
-            Slot::Aside { place } => Err(*place),
+            Slot::Change { id, call, units } => Some(changed(id, *call, *units)),
+            Slot::Release { id, call } => Some(released(id, *call)),
+            Slot::Unregistration { id } => Some(unregistered(id)),
+            Slot::Registration { place, outcome } => {
+                registration_at(registrations, *place as usize, outcome)
+            }
+            Slot::Aside { place } => whole_at(aside, *place as usize),
         }
     }
 }
 
+impl RegisterOutcome {
+    /// The reply to this endpoint.
+    fn reply(&self, endpoint: &Endpoint) -> Reply
+        ensures { result ≡ Spec.register_reply self.now endpoint.now }
+    {
+        let id = endpoint.id();
+        match self {
+            RegisterOutcome::Granted => Reply::Registered {
+                id,
+                zone: endpoint.zone(),
+            },
+            RegisterOutcome::Refused { reason } => Reply::RegisterRefused {
+                id,
+                reason: *reason,
+            },
+        }
+    }
+
+    /// The entry of this event, if it is a registration.
+    fn entry<'a>(&self, event: &'a Event) -> Option<Entry<'a>>
+        ensures { option_map plain_entry result
+            ≡ Spec.registration_meant self.now (plain event.now) }
+    {
+        match event {
+            Event::Register(endpoint) => Some(Entry {
+                event: Cow::Borrowed(event),
+                reply: self.reply(endpoint),
+                zone: None,
+                route: None,
+            }),
+            _ => None,
+        }
+    }
+}
+
+/// The entry of the registration at this place.
+fn registration_at<'a>(
+    registrations: &'a Pieces<Event>,
+    place: usize,
+    outcome: &RegisterOutcome,
+) -> Option<Entry<'a>>
+    ensures { option_map plain_entry result
+        ≡ option_and_then (Spec.registration_meant outcome.now)
+        (slice_get (map plain registrations.now.items) place) }
+{
+    match registrations.get(place) {
+        None => None,
+        Some(event) => outcome.entry(event),
+    }
+}
+
+/// The entry that stands whole at this place.
+fn whole_at(aside: &Pieces<WholeEntry>, place: usize) -> Option<Entry<'_>>
+    ensures { option_map plain_entry result
+        ≡ slice_get (map whole_entry aside.now.items) place }
+{
+    match aside.get(place) {
+        None => None,
+        Some(whole) => Some(whole.lent()),
+    }
+}
+
 /// The entry of a granted admission.
-fn admitted(asked: &Asked, zone: &ShortName, destination: &Destination) -> Entry
+fn admitted(asked: &Asked, zone: &ShortName, destination: &Destination) -> Entry<'static>
     ensures { plain_entry result ≡ Spec.routed_entry asked.now zone.now destination.now
         (Reply.Admitted asked.now.call destination.now asked.now.units) }
 {
@@ -298,7 +385,12 @@ fn admitted(asked: &Asked, zone: &ShortName, destination: &Destination) -> Entry
 }
 
 /// The entry of an admission that was refused for a limit.
-fn over_limit(asked: &Asked, zone: &ShortName, destination: &Destination, over: &Over) -> Entry
+fn over_limit(
+    asked: &Asked,
+    zone: &ShortName,
+    destination: &Destination,
+    over: &Over,
+) -> Entry<'static>
     ensures { plain_entry result ≡ Spec.routed_entry asked.now zone.now destination.now
         (Reply.AdmitRefused asked.now.call (AdmitRefusal.OverLimit over.now)) }
 {
@@ -315,7 +407,7 @@ fn over_limit(asked: &Asked, zone: &ShortName, destination: &Destination, over: 
 }
 
 /// The entry of an admission that leads to no destination.
-fn refused(asked: &Asked, cause: &Unrouted) -> Entry
+fn refused(asked: &Asked, cause: &Unrouted) -> Entry<'static>
     ensures { plain_entry result ≡ Spec.admission_entry asked.now
         (Reply.AdmitRefused asked.now.call (Spec.reason_meant cause.now))
         (Spec.zone_meant cause.now) (Spec.route_meant cause.now) }
@@ -328,16 +420,22 @@ fn refused(asked: &Asked, cause: &Unrouted) -> Entry
 }
 
 /// The entry of an admission.
-fn admission(asked: &Asked, reply: Reply, zone: Option<Name>, route: Option<Route>) -> Entry
+fn admission(
+    asked: &Asked,
+    reply: Reply,
+    zone: Option<Name>,
+    route: Option<Route>,
+) -> Entry<'static>
     ensures { plain_entry result ≡ Spec.admission_entry asked.now reply zone route }
 {
+    let event = Event::Admit {
+        id: asked.id.name(),
+        call: asked.call,
+        digits: asked.digits.digits(),
+        units: asked.units,
+    };
     Entry {
-        event: Event::Admit {
-            id: asked.id.name(),
-            call: asked.call,
-            digits: asked.digits.digits(),
-            units: asked.units,
-        },
+        event: Cow::Owned(event),
         reply,
         zone,
         route,
@@ -345,7 +443,7 @@ fn admission(asked: &Asked, reply: Reply, zone: Option<Name>, route: Option<Rout
 }
 
 /// The entry of a granted bandwidth change.
-fn changed(id: &ShortName, call: u32, units: Units) -> Entry
+fn changed(id: &ShortName, call: u32, units: Units) -> Entry<'static>
     ensures { plain_entry result ≡ Spec.other_entry (Changing id.now call units)
         (Reply.Changed call units) }
 {
@@ -358,7 +456,7 @@ fn changed(id: &ShortName, call: u32, units: Units) -> Entry
 }
 
 /// The entry of a granted release.
-fn released(id: &ShortName, call: u32) -> Entry
+fn released(id: &ShortName, call: u32) -> Entry<'static>
     ensures { plain_entry result ≡ Spec.other_entry (Releasing id.now call)
         (Reply.Released call) }
 {
@@ -370,7 +468,7 @@ fn released(id: &ShortName, call: u32) -> Entry
 }
 
 /// The entry of a granted unregistration.
-fn unregistered(id: &ShortName) -> Entry
+fn unregistered(id: &ShortName) -> Entry<'static>
     ensures { plain_entry result ≡ Spec.other_entry (Unregistering id.now)
         (Reply.Unregistered id.now) }
 {
@@ -379,11 +477,11 @@ fn unregistered(id: &ShortName) -> Entry
 }
 
 /// The entry of an event that is not an admission.
-fn other(event: Event, reply: Reply) -> Entry
+fn other(event: Event, reply: Reply) -> Entry<'static>
     ensures { plain_entry result ≡ Spec.other_entry (plain event) reply }
 {
     Entry {
-        event,
+        event: Cow::Owned(event),
         reply,
         zone: None,
         route: None,

@@ -11,7 +11,6 @@ use compiler::Tables;
 use gk_terms::{Address, Dialled, Name, Units};
 use registry::{Endpoint, EndpointKind};
 use std::alloc::Global;
-use std::borrow::Cow;
 use std::test::Fail;
 
 /// Two zones: `gk-a` here, and `gk-x` of another gatekeeper.
@@ -133,7 +132,7 @@ pub fn away() -> Result<Destination, Fail> {
 }
 
 /// The entry of this number.
-pub fn entry(record: &Record, number: u32) -> Result<Cow<'_, Entry>, Fail> {
+pub fn entry(record: &Record, number: u32) -> Result<Entry<'_>, Fail> {
     match record.get(number) {
         Some(entry) => Ok(entry),
         None => Err(Fail::new("no such entry")),

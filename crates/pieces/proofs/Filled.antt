@@ -11,13 +11,13 @@ use Rattle.pieces.specs.Filled.{HasFirst, AreFilled}
 
 -- an item of the first of two lists, and one of the second
 module _ {X : Type 0} where
-  item_in_front : (xs ys : List X) (k : ℕ) → k < length xs
+  pub item_in_front : (xs ys : List X) (k : ℕ) → k < length xs
       → slice_get (xs ++ ys) k ≡ slice_get xs k
   item_in_front [] ys k within = absurd (omega arith)
   item_in_front (x ∷ xs) ys zero within = refl
   item_in_front (x ∷ xs) ys (suc k) within = item_in_front xs ys k (omega arith)
 
-  item_after : (xs ys : List X) (k place : ℕ) → place ≡ length xs + k
+  pub item_after : (xs ys : List X) (k place : ℕ) → place ≡ length xs + k
       → slice_get (xs ++ ys) place ≡ slice_get ys k
   item_after [] ys k place at = ap (slice_get ys) (omega arith)
   item_after (x ∷ xs) ys k zero at = absurd (omega arith)

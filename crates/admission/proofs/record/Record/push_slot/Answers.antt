@@ -1,4 +1,4 @@
-use Rattle.std.proofs.Common.{◌≡◌, ◌≤◌, ◌-◌, ◌++◌, [], ◌∷◌, ap, ap₂, ◌∙◌, arith}
+use Rattle.std.proofs.Common.{◌≤◌, ◌-◌, ◌++◌, [], ◌∷◌, ap, ap₂, ◌∙◌, arith}
 use Rattle.std.specs.List.{cons_option}
 use Rattle.admission.specs.History.{RecordParts}
 use Rattle.admission.specs.Slots.{entry_meant}
@@ -9,26 +9,26 @@ use Rattle.admission.proofs.record.Record.push_slot.Goals as goal
 
 -- what is stored with the slot
 stored : (c : goal.After-self-1)
-    → IsStored c.push.new.self c.self.inside.aside
-    (entries_told c.self.inside.slots c.self.inside.aside
-    ++ cons_option (entry_meant [] c.args.slot) [])
+    → IsStored c.push.new.self c.self.inside.aside c.self.inside.registrations
+    (entries_told c.self.inside.slots c.self.inside.aside c.self.inside.registrations
+    ++ cons_option (entry_meant [] [] c.args.slot) [])
     (c.self.inside.kept - 1)
 stored c =
     let one : 1 ≤ c.self.inside.kept =
     omega (arith, c.requires.kept, ap (λ (h : RecordParts). h.kept) c.self.view_is) in
-    slot_stored _ _ _ _ c.self.invariant one c.args.slot c.push.new.self c.requires.meant
+    slot_stored _ _ _ _ _ c.self.invariant one c.args.slot c.push.new.self c.requires.meant
     (c.push.ensures ∙ ap (λ (s : Slot). record {
       items = c.self.inside.slots.items ++ s ∷ [];
       room = c.self.inside.slots.room - 1;
     }) c.new.ensures)
 
 pub invariant_of-self : goal.invariant_of-self
-invariant_of-self c = stored_told _ _ _ _ (stored c)
+invariant_of-self c = stored_told _ _ _ _ _ (stored c)
 
 pub returns : goal.returns
 returns c =
     ap₂ (λ es kept. record { entries = es; kept = kept })
-    (told_are _ _ _ _ (stored c)
-    ∙ ap (λ (h : RecordParts). h.entries ++ cons_option (entry_meant [] c.args.slot) [])
+    (told_are _ _ _ _ _ (stored c)
+    ∙ ap (λ (h : RecordParts). h.entries ++ cons_option (entry_meant [] [] c.args.slot) [])
     c.self.view_is)
     (ap (λ (h : RecordParts). h.kept - 1) c.self.view_is)

@@ -1,19 +1,20 @@
-use Rattle.std.proofs.Common.{◌≡◌, ◌≤◌, ◌-◌, ◌++◌, [], ◌∷◌, ap, ap₂, ◌∙◌, arith}
-use Rattle.admission.specs.History.{plain_entry, RecordParts}
-use Rattle.admission.specs.RecordIndex.{entries_told, IsStored}
+use Rattle.std.proofs.Common.{◌≤◌, ◌-◌, ◌++◌, [], ◌∷◌, ap, ap₂, ◌∙◌, arith}
+use Rattle.admission.specs.History.{RecordParts}
+use Rattle.admission.specs.RecordIndex.{whole_entry, entries_told, IsStored}
 use Rattle.admission.specs.declared.slots.Slot.{Slot}
 use Rattle.admission.proofs.StoredLemmas.{whole_stored, told_are, stored_told}
 use Rattle.admission.proofs.record.Record.push_whole.Goals as goal
 
 -- what is stored with the entry
 stored : (c : goal.After-self-1)
-    → IsStored c.push.new.self c.push-2.new.self
-    (entries_told c.self.inside.slots c.self.inside.aside ++ plain_entry c.args.entry ∷ [])
+    → IsStored c.push.new.self c.push-2.new.self c.self.inside.registrations
+    (entries_told c.self.inside.slots c.self.inside.aside c.self.inside.registrations
+    ++ whole_entry c.args.entry ∷ [])
     (c.self.inside.kept - 1)
 stored c =
     let one : 1 ≤ c.self.inside.kept =
     omega (arith, c.requires.kept, ap (λ (h : RecordParts). h.kept) c.self.view_is) in
-    whole_stored _ _ _ _ c.self.invariant one c.len-place.result c.args.entry c.push.new.self
+    whole_stored _ _ _ _ _ c.self.invariant one c.len-place.result c.args.entry c.push.new.self
     c.push-2.new.self c.len-place.ensures.value
     (c.push.ensures ∙ ap (λ (s : Slot). record {
       items = c.self.inside.slots.items ++ s ∷ [];
@@ -22,11 +23,11 @@ stored c =
     c.push-2.ensures
 
 pub invariant_of-self : goal.invariant_of-self
-invariant_of-self c = stored_told _ _ _ _ (stored c)
+invariant_of-self c = stored_told _ _ _ _ _ (stored c)
 
 pub returns : goal.returns
 returns c =
     ap₂ (λ es kept. record { entries = es; kept = kept })
-    (told_are _ _ _ _ (stored c)
-    ∙ ap (λ (h : RecordParts). h.entries ++ plain_entry c.args.entry ∷ []) c.self.view_is)
+    (told_are _ _ _ _ _ (stored c)
+    ∙ ap (λ (h : RecordParts). h.entries ++ whole_entry c.args.entry ∷ []) c.self.view_is)
     (ap (λ (h : RecordParts). h.kept - 1) c.self.view_is)
