@@ -256,22 +256,7 @@ pub core_still : (machine : State) (history : RecordParts) (new : State) (more :
 core_still machine history new more still same =
     ap₂ (λ s (h : RecordParts). core_with s h.entries) still same
 
--- ---- the state of a core
-pub state_opened : (core : CoreParts) (opening : State)
-    → core ≡ record { opening = opening; entries = [] } → state_of core ≡ opening
-unfolding state_of
-state_opened core opening h = ap state_of h
-
 -- ---- what a core may reply
-pub recorded_may_reply : (old : CoreParts) (event : PlainEvent) (reply : Reply) (receipt : Receipt)
-    (new : CoreParts)
-    → IsRecorded old event reply receipt new → MayReply old event reply new
-recorded_may_reply old event reply receipt new recorded = inl (receipt, recorded)
-
-pub unrecorded_may_reply : (old : CoreParts) (event : PlainEvent) (reply : Reply) (new : CoreParts)
-    → IsUnrecorded old event reply new → MayReply old event reply new
-unrecorded_may_reply old event reply new unrecorded = inr unrecorded
-
 -- the machine's own reply is one that a core may give
 pub answers_as_the_machine : (old : CoreParts) (event : PlainEvent)
     → MayReply old event (step (state_of old) event).reply (core_after old event)

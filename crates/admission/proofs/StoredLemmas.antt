@@ -11,10 +11,10 @@ use Rattle.pieces.proofs.Filled.{item_in_front, item_after}
 use Rattle.admission.specs.Events.{PlainEvent, plain}
 use Rattle.admission.specs.History.{PlainEntry}
 use Rattle.admission.specs.Slots.{entry_meant, registration_meant}
-use Rattle.admission.specs.RecordIndex.{whole_entry, slot_meant, entries_told, IsStored}
+use Rattle.admission.specs.RecordIndex.{plain_whole, slot_meant, entries_told, IsStored}
 use Rattle.admission.specs.declared.events.Event.{Event}
 use Rattle.admission.specs.declared.record.WholeEntry.{WholeEntry}
-use Rattle.admission.specs.declared.slots.RegisterOutcome.{RegisterOutcome}
+use Rattle.admission.specs.declared.slots.ShortReply.{ShortReply}
 use Rattle.admission.specs.declared.slots.Slot.{Slot}
 use Rattle.admission.specs.declared.slots.Slot.TheVariants as slot
 
@@ -30,7 +30,7 @@ still_told f xs ys i y h =
           absurd (none-some y (sym (ap (option_and_then f) (slice_get_past xs i past)) ∙ h))
     ]
 
--- the next element stands behind the others
+-- the next element comes after the others
 next_is : {X : Type 0} (xs : List X) (x : X) (i : ℕ) → i ≡ length xs
     → slice_get (xs ++ x ∷ []) i ≡ Some x
 next_is xs x i at = item_after xs (x ∷ []) 0 i (omega arith)
@@ -46,8 +46,8 @@ still_meant aside more events others (slot.Refused call units id digits cause) e
 still_meant aside more events others (slot.Change id call units) e h = h
 still_meant aside more events others (slot.Release id call) e h = h
 still_meant aside more events others (slot.Unregistration id) e h = h
-still_meant aside more events others (slot.Registration place outcome) e h =
-    still_told (registration_meant outcome) events others place e h
+still_meant aside more events others (slot.Registration place replied) e h =
+    still_told (registration_meant replied) events others place e h
 still_meant aside more events others (slot.Aside place) e h =
     item_in_front aside more place (slice_get_within aside place e h) ∙ h
 
@@ -106,7 +106,7 @@ module _ (slots : PiecesParts Slot) (aside : PiecesParts WholeEntry) (events : P
         meant =
             ap (λ (n : PiecesParts Slot). map meaning n.items) put
             ∙ one_more meaning meaning (λ _ _ h. h) slots.items entries s e stored.meant
-            (still_meant [] (map whole_entry aside.items) [] (map plain events.items) s e is);
+            (still_meant [] (map plain_whole aside.items) [] (map plain events.items) s e is);
         few_aside = omega (arith, more, stored.few_aside);
         few_registrations = omega (arith, more, stored.few_registrations);
         room = omega (arith, stored.room, one, ap (λ (n : PiecesParts Slot). n.room) put);
@@ -125,21 +125,21 @@ module _ (slots : PiecesParts Slot) (aside : PiecesParts WholeEntry) (events : P
       by (Some e) h some = short_stored s new e h put
 
   -- a registration
-  event_stored : (place : ℕ) (outcome : RegisterOutcome) (event : Event) (new : PiecesParts Slot)
+  event_stored : (place : ℕ) (replied : ShortReply) (event : Event) (new : PiecesParts Slot)
       (wider : PiecesParts Event) (e : PlainEntry)
-      → place ≡ length events.items → registration_meant outcome (plain event) ≡ Some e
-      → new ≡ with_item slots (slot.Registration place outcome) → wider ≡ with_item events event
+      → place ≡ length events.items → registration_meant replied (plain event) ≡ Some e
+      → new ≡ with_item slots (slot.Registration place replied) → wider ≡ with_item events event
       → IsStored new aside wider (entries ++ e ∷ []) (kept - 1)
-  event_stored place outcome event new wider e at is put also =
-      let entries_aside = map whole_entry aside.items in
+  event_stored place replied event new wider e at is put also =
+      let entries_aside = map plain_whole aside.items in
       let told = map plain events.items in
       let longer : map plain wider.items ≡ told ++ plain event ∷ [] =
       ap (λ (n : PiecesParts Event). map plain n.items) also
       ∙ map-append plain events.items (event ∷ []) in
       let counted : place ≡ length told = at ∙ sym (length-map events.items plain) in
       let there : entry_meant entries_aside (told ++ plain event ∷ [])
-      (slot.Registration place outcome) ≡ Some e =
-      ap (option_and_then (registration_meant outcome)) (next_is told (plain event) place counted)
+      (slot.Registration place replied) ≡ Some e =
+      ap (option_and_then (registration_meant replied)) (next_is told (plain event) place counted)
       ∙ is in
       let more = length-append entries (e ∷ []) in
       record {
@@ -149,7 +149,7 @@ module _ (slots : PiecesParts Slot) (aside : PiecesParts WholeEntry) (events : P
             ∙ one_more (entry_meant entries_aside told)
             (entry_meant entries_aside (told ++ plain event ∷ []))
             (with_event entries_aside told (plain event ∷ [])) slots.items entries
-            (slot.Registration place outcome) e stored.meant there;
+            (slot.Registration place replied) e stored.meant there;
         few_aside = omega (arith, more, stored.few_aside);
         few_registrations =
             omega (
@@ -170,34 +170,34 @@ module _ (slots : PiecesParts Slot) (aside : PiecesParts WholeEntry) (events : P
             );
       }
 
-  pub registration_stored : (place : ℕ) (outcome : RegisterOutcome) (event : Event)
+  pub registration_stored : (place : ℕ) (replied : ShortReply) (event : Event)
       (new : PiecesParts Slot) (wider : PiecesParts Event)
-      → place ≡ length events.items → IsSome (registration_meant outcome (plain event))
-      → new ≡ with_item slots (slot.Registration place outcome) → wider ≡ with_item events event
+      → place ≡ length events.items → IsSome (registration_meant replied (plain event))
+      → new ≡ with_item slots (slot.Registration place replied) → wider ≡ with_item events event
       → IsStored new aside wider
-      (entries ++ cons_option (registration_meant outcome (plain event)) []) (kept - 1)
-  registration_stored place outcome event new wider at some put also =
-      by (registration_meant outcome (plain event)) refl some
+      (entries ++ cons_option (registration_meant replied (plain event)) []) (kept - 1)
+  registration_stored place replied event new wider at some put also =
+      by (registration_meant replied (plain event)) refl some
     where
-      by : (o : Option PlainEntry) → registration_meant outcome (plain event) ≡ o → IsSome o
+      by : (o : Option PlainEntry) → registration_meant replied (plain event) ≡ o → IsSome o
           → IsStored new aside wider (entries ++ cons_option o []) (kept - 1)
       by None h some = let impossible : ⊥ = cc in absurd impossible
-      by (Some e) h some = event_stored place outcome event new wider e at h put also
+      by (Some e) h some = event_stored place replied event new wider e at h put also
 
   -- or whole
   pub whole_stored : (place : ℕ) (whole : WholeEntry) (new : PiecesParts Slot)
       (wider : PiecesParts WholeEntry)
       → place ≡ length aside.items → new ≡ with_item slots (slot.Aside place)
       → wider ≡ with_item aside whole
-      → IsStored new wider events (entries ++ whole_entry whole ∷ []) (kept - 1)
+      → IsStored new wider events (entries ++ plain_whole whole ∷ []) (kept - 1)
   whole_stored place whole new wider at put also =
       let told = map plain events.items in
-      let entries_aside = map whole_entry aside.items in
-      let e = whole_entry whole in
-      let longer : map whole_entry wider.items ≡ entries_aside ++ e ∷ [] =
-      ap (λ (n : PiecesParts WholeEntry). map whole_entry n.items) also
-      ∙ map-append whole_entry aside.items (whole ∷ []) in
-      let counted : place ≡ length entries_aside = at ∙ sym (length-map aside.items whole_entry) in
+      let entries_aside = map plain_whole aside.items in
+      let e = plain_whole whole in
+      let longer : map plain_whole wider.items ≡ entries_aside ++ e ∷ [] =
+      ap (λ (n : PiecesParts WholeEntry). map plain_whole n.items) also
+      ∙ map-append plain_whole aside.items (whole ∷ []) in
+      let counted : place ≡ length entries_aside = at ∙ sym (length-map aside.items plain_whole) in
       let more = length-append entries (e ∷ []) in
       record {
         meant =
@@ -239,12 +239,6 @@ module _ (slots : PiecesParts Slot) (aside : PiecesParts WholeEntry) (events : P
 
   pub stored_told : IsStored slots aside events (entries_told slots aside events) kept
   stored_told = subst (λ es. IsStored slots aside events es kept) (sym told_are) stored
-
-  -- as many slots as entries
-  pub slots_counted : length slots.items ≡ length entries
-  slots_counted =
-      sym (length-map slots.items (slot_meant aside.items events.items))
-      ∙ ap length stored.meant ∙ length-map entries Some
 
 -- ---- the entry at a place
 some_once : {X : Type 0} (o : Option X) (x : Option X) → option_map Some o ≡ Some x → o ≡ x

@@ -9,13 +9,13 @@ use Rattle.admission.specs.declared.record.WholeEntry.{WholeEntry}
 use Rattle.admission.specs.declared.slots.Slot.{Slot}
 
 -- the values of an entry that stands whole
-abbrev pub whole_entry : WholeEntry → PlainEntry
-whole_entry e =
+abbrev pub plain_whole : WholeEntry → PlainEntry
+plain_whole e =
     record { event = plain e.event; reply = e.reply; zone = e.zone; route = e.route }
 
 -- what a slot means beside the entries that stand whole and the registrations
 abbrev pub slot_meant : List WholeEntry → List Event → Slot → Option PlainEntry
-slot_meant aside registrations = entry_meant (map whole_entry aside) (map plain registrations)
+slot_meant aside registrations = entry_meant (map plain_whole aside) (map plain registrations)
 
 -- the entries, in order
 abbrev pub entries_told
@@ -23,7 +23,7 @@ abbrev pub entries_told
 entries_told slots aside registrations =
     filter_map (slot_meant aside.items registrations.items) slots.items
 
--- the slots mean these entries, each list beside has no more than there are, and all three have
+-- the slots mean these entries, neither of the other lists is longer than them, and all three have
 -- room for the kept places
 pub record IsStored
     (slots : PiecesParts Slot) (aside : PiecesParts WholeEntry) (registrations : PiecesParts Event)

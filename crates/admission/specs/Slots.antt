@@ -16,8 +16,8 @@ use Rattle.admission.specs.declared.routes.Destination.{Destination}
 use Rattle.admission.specs.declared.routes.Destination.TheVariants as destination
 use Rattle.admission.specs.declared.routes.Route.{Route}
 use Rattle.admission.specs.declared.routes.Route.TheVariants as route
-use Rattle.admission.specs.declared.slots.RegisterOutcome.{RegisterOutcome}
-use Rattle.admission.specs.declared.slots.RegisterOutcome.TheVariants as outcome
+use Rattle.admission.specs.declared.slots.ShortReply.{ShortReply}
+use Rattle.admission.specs.declared.slots.ShortReply.TheVariants as short_reply
 use Rattle.admission.specs.declared.slots.ShortDestination.{ShortDestination}
 use Rattle.admission.specs.declared.slots.ShortDestination.TheVariants as short
 use Rattle.admission.specs.declared.slots.ShortOver.{ShortOver}
@@ -57,10 +57,10 @@ route_meant unrouted.CallerNotRegistered = None
 route_meant (unrouted.CallOpen zone) = None
 route_meant (unrouted.NoRoute zone refusal) = Some (route.Refused refusal)
 
--- the reply to a registration: the ID and the zone are those of the endpoint
-abbrev pub register_reply : RegisterOutcome → EndpointParts → Reply
-register_reply outcome.Granted endpoint = reply.Registered endpoint.id endpoint.zone
-register_reply (outcome.Refused reason) endpoint = reply.RegisterRefused endpoint.id reason
+-- the reply to a registration: the names in it are those of the endpoint that asked
+abbrev pub register_reply : ShortReply → EndpointParts → Reply
+register_reply short_reply.Granted endpoint = reply.Registered endpoint.id endpoint.zone
+register_reply (short_reply.Refused reason) endpoint = reply.RegisterRefused endpoint.id reason
 
 -- ---- entries
 -- of an admission
@@ -83,33 +83,34 @@ other_entry event replied =
     record { event = event; reply = replied; zone = None; route = None }
 
 -- of a registration
-abbrev pub register_entry : RegisterOutcome → EndpointParts → PlainEntry
-register_entry outcome endpoint =
-    other_entry (Registering endpoint) (register_reply outcome endpoint)
+abbrev pub register_entry : ShortReply → EndpointParts → PlainEntry
+register_entry replied endpoint =
+    other_entry (Registering endpoint) (register_reply replied endpoint)
 
 -- of an event, if it is a registration
-abbrev pub registration_meant : RegisterOutcome → PlainEvent → Option PlainEntry
-registration_meant outcome event = option_map (register_entry outcome) (endpoint_asking event)
+abbrev pub registration_meant : ShortReply → PlainEvent → Option PlainEntry
+registration_meant replied event = option_map (register_entry replied) (endpoint_asking event)
 
 -- of a slot; these are the entries that stand whole, and the events of registrations
 abbrev pub entry_meant : List PlainEntry → List PlainEvent → Slot → Option PlainEntry
-entry_meant aside events (slot.Admitted call units id digits zone destination address) =
+entry_meant aside registrations (slot.Admitted call units id digits zone destination address) =
     Some (routed_entry (record { call = call; units = units; id = id; digits = digits }) zone
     (destination_meant destination address)
     (reply.Admitted call (destination_meant destination address) units))
-entry_meant aside events (slot.OverLimit call units id digits zone destination address over) =
+entry_meant aside registrations
+    (slot.OverLimit call units id digits zone destination address over) =
     Some (routed_entry (record { call = call; units = units; id = id; digits = digits }) zone
     (destination_meant destination address)
     (reply.AdmitRefused call (admit.OverLimit (over_meant over zone))))
-entry_meant aside events (slot.Refused call units id digits cause) =
+entry_meant aside registrations (slot.Refused call units id digits cause) =
     Some (admission_entry (record { call = call; units = units; id = id; digits = digits })
     (reply.AdmitRefused call (reason_meant cause)) (zone_meant cause) (route_meant cause))
-entry_meant aside events (slot.Change id call units) =
+entry_meant aside registrations (slot.Change id call units) =
     Some (other_entry (Changing id call units) (reply.Changed call units))
-entry_meant aside events (slot.Release id call) =
+entry_meant aside registrations (slot.Release id call) =
     Some (other_entry (Releasing id call) (reply.Released call))
-entry_meant aside events (slot.Unregistration id) =
+entry_meant aside registrations (slot.Unregistration id) =
     Some (other_entry (Unregistering id) (reply.Unregistered id))
-entry_meant aside events (slot.Registration place outcome) =
-    option_and_then (registration_meant outcome) (slice_get events place)
-entry_meant aside events (slot.Aside place) = slice_get aside place
+entry_meant aside registrations (slot.Registration place replied) =
+    option_and_then (registration_meant replied) (slice_get registrations place)
+entry_meant aside registrations (slot.Aside place) = slice_get aside place

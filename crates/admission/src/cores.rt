@@ -158,7 +158,7 @@ impl Core {
         self.settle(event, &ruling)
     }
 
-    /// The same for whoever keeps no receipt.
+    /// Answers an event as `answer` does, for a caller that keeps no receipt.
     #[inline(never)]
     pub fn reply(&mut self, event: Event) -> Reply
         ensures { MayReply self.old (Events.plain event) result self.new }

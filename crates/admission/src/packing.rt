@@ -11,7 +11,7 @@ use crate::replies::{AdmitRefusal, Reply};
 use crate::routes::{Destination, Route, RouteRefusal};
 use crate::rulings::Ruling;
 use crate::short_texts::{ShortDigits, ShortName};
-use crate::slots::{Asked, RegisterOutcome, ShortDestination, ShortOver, Slot, Unrouted};
+use crate::slots::{Asked, ShortDestination, ShortOver, ShortReply, Slot, Unrouted};
 use bandwidth::Over;
 use gk_terms::{Address, Dialled, Name, Units};
 use registry::Endpoint;
@@ -38,23 +38,26 @@ impl Slot {
     }
 }
 
-impl RegisterOutcome {
-    /// What became of the event, if it is a registration and the reply has the ID and the zone of
-    /// its endpoint.
-    pub(crate) fn of(event: &Event, ruling: &Ruling) -> Option<RegisterOutcome>
-        ensures { IfSome result (λ outcome. Spec.registration_meant outcome (plain event.now)
+impl ShortReply {
+    /// The reply to the event, if it is a registration and the names in the reply are those of the
+    /// endpoint that asked.
+    pub(crate) fn of(event: &Event, ruling: &Ruling) -> Option<ShortReply>
+        ensures { IfSome result (λ replied. Spec.registration_meant replied (plain event.now)
             ≡ Some (entry_by (plain event.now) ruling.now)) }
     {
         match event {
             Event::Register(endpoint) => registration(endpoint, ruling),
-            _ => None,
+            Event::Unregister { .. }
+            | Event::Admit { .. }
+            | Event::Change { .. }
+            | Event::Release { .. } => None,
         }
     }
 }
 
-/// What became of a registration, if the reply has the ID and the zone of its endpoint.
-fn registration(endpoint: &Endpoint, ruling: &Ruling) -> Option<RegisterOutcome>
-    ensures { IfSome result (λ outcome. Spec.register_entry outcome endpoint.now
+/// The reply to a registration, if the names in it are those of the endpoint that asked.
+fn registration(endpoint: &Endpoint, ruling: &Ruling) -> Option<ShortReply>
+    ensures { IfSome result (λ replied. Spec.register_entry replied endpoint.now
         ≡ entry_by (Registering endpoint.now) ruling.now) }
 {
     if ruling.tells_of_an_admission() {
@@ -62,10 +65,10 @@ fn registration(endpoint: &Endpoint, ruling: &Ruling) -> Option<RegisterOutcome>
     }
     match &ruling.verdict {
         Reply::Registered { id, zone } if *id == endpoint.id() && *zone == endpoint.zone() => {
-            Some(RegisterOutcome::Granted)
+            Some(ShortReply::Granted)
         }
         Reply::RegisterRefused { id, reason } if *id == endpoint.id() => {
-            Some(RegisterOutcome::Refused { reason: *reason })
+            Some(ShortReply::Refused { reason: *reason })
         }
         _ => None,
     }

@@ -5,14 +5,14 @@ ghost use Rattle.std.specs.List.{All, cons_option};
 ghost use Rattle.std.specs.Option.{option_and_then};
 ghost use Rattle.admission.specs.Events.{plain};
 ghost use Rattle.admission.specs.Slots.{entry_meant, other_entry, registration_meant};
-ghost use Rattle.admission.specs.RecordIndex.{slot_meant, whole_entry};
+ghost use Rattle.admission.specs.RecordIndex.{slot_meant, plain_whole};
 ghost use Rattle.admission.specs.History.{plain_entry, entry_by, entry_of_number, receipt_of, Stands};
 
 use crate::events::{Event, EventKind};
 use crate::replies::Reply;
 use crate::routes::Route;
 use crate::rulings::Ruling;
-use crate::slots::{HeldSlot, RegisterOutcome, Slot};
+use crate::slots::{HeldSlot, ShortReply, Slot};
 use gk_terms::Name;
 use pieces::Pieces;
 use std::alloc::{AllocError, Global};
@@ -53,7 +53,7 @@ pub(crate) struct WholeEntry {
 impl WholeEntry {
     /// The entry, with the event lent.
     pub(crate) fn lent(&self) -> Entry<'_>
-        ensures { plain_entry result ≡ whole_entry self.now }
+        ensures { plain_entry result ≡ plain_whole self.now }
     {
         let WholeEntry {
             event,
@@ -88,7 +88,7 @@ pub struct Receipt {
 impl Ruling {
     /// The entry of the event on which this was ruled.
     pub(crate) fn entry(&self, event: Event) -> WholeEntry
-        ensures { whole_entry result ≡ entry_by (plain event) self.now }
+        ensures { plain_whole result ≡ entry_by (plain event) self.now }
     {
         WholeEntry {
             event,
@@ -125,9 +125,10 @@ impl Receipt {
 /// ones find room without memory: the places that are kept.
 ///
 /// `slots` has one slot for each entry, in few bytes. The event of a registration stands in
-/// `registrations`, and its slot has its place there; an entry that does not fit into a slot
-/// otherwise stands whole in `aside`, and its slot has its place there. All three grow piece by
-/// piece, so that no entry is ever moved, and each has room for every kept place.
+/// `registrations` if the reply names the ID and the zone as the event does, and its slot has its
+/// place there; any other entry that does not fit into a slot stands whole in `aside`, and its slot
+/// has its place there. All three grow piece by piece, so that no entry is ever moved, and each has
+/// room for every kept place.
 #[derive(Drop)]
 pub struct Record {
     slots: Pieces<HeldSlot>,
@@ -272,7 +273,7 @@ impl Record {
         }
     }
 
-    /// Puts what was ruled on an event at the end, with the event itself.
+    /// Puts an entry that does not fit into a slot at the end: a registration, or whole.
     #[inline(never)]
     fn push_event(&mut self, event: Event, ruling: &Ruling)
         requires kept { 1 ≤ self.old.kept }
@@ -282,8 +283,8 @@ impl Record {
           kept = self.old.kept - 1;
         } }
     {
-        match RegisterOutcome::of(&event, ruling) {
-            Some(outcome) => self.push_registration(event, outcome),
+        match ShortReply::of(&event, ruling) {
+            Some(replied) => self.push_registration(event, replied),
             None => {
                 let entry = ruling.entry(event);
                 self.push_whole(entry);
@@ -304,20 +305,21 @@ impl Record {
         self.kept -= 1;
     }
 
-    /// Puts a registration at the end of their list, and its place there into a slot.
-    fn push_registration(&mut self, event: Event, outcome: RegisterOutcome)
+    /// Puts the event of a registration at the end of the list of registrations, and its place
+    /// there into a slot.
+    fn push_registration(&mut self, event: Event, replied: ShortReply)
         requires kept { 1 ≤ self.old.kept }
         requires few { length self.old.entries < 2 ^ 32 }
-        requires meant { IsSome (registration_meant outcome (plain event)) }
+        requires meant { IsSome (registration_meant replied (plain event)) }
         ensures { self.new ≡ record {
           entries = self.old.entries
-              ++ cons_option (registration_meant outcome (plain event)) [];
+              ++ cons_option (registration_meant replied (plain event)) [];
           kept = self.old.kept - 1;
         } }
     {
         let place = self.registrations.len() as u32;
         self.slots
-            .push(HeldSlot::new(Slot::Registration { place, outcome }));
+            .push(HeldSlot::new(Slot::Registration { place, replied }));
         self.registrations.push(event);
         self.kept -= 1;
     }
@@ -327,7 +329,7 @@ impl Record {
         requires kept { 1 ≤ self.old.kept }
         requires few { length self.old.entries < 2 ^ 32 }
         ensures { self.new ≡ record {
-          entries = self.old.entries ++ whole_entry entry ∷ [];
+          entries = self.old.entries ++ plain_whole entry ∷ [];
           kept = self.old.kept - 1;
         } }
     {

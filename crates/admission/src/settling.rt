@@ -3,7 +3,7 @@
 ghost use Rattle.std.specs.Prelude.{◌≡◌, ◌≤◌, ◌<◌, ◌+◌, ◌^◌, true, None, length, OnOk, OnErr, IfOk, IsSome};
 ghost use Rattle.admission.specs.Events.{plain};
 ghost use Rattle.admission.specs.Ruling.{ruling_of};
-ghost use Rattle.admission.specs.Step.{count_refusal, is_recorded, state_after, no_memory_reply_of};
+ghost use Rattle.admission.specs.Step.{count_refusal, is_recorded, state_after, no_memory_reply_of, places_needed};
 ghost use Rattle.admission.specs.HistoryLaws.{IsWithinLimits};
 
 use crate::events::Event;
@@ -34,6 +34,8 @@ pub(crate) fn prepare(
     ensures entries { OnOk result (history.new.entries ≡ history.old.entries) }
     ensures few { OnOk result (length history.new.entries < 2 ^ 32) }
     ensures places { OnOk result (length machine.new.calls + 1 ≤ history.new.kept) }
+    ensures kept { OnOk result (history.new.kept
+        ≡ history.old.kept + places_needed ruling.now.effect) }
     ensures err { OnErr result ((machine.new ≡ machine.old) × (history.new ≡ history.old)
         × IsSome (no_memory_reply_of (plain event.now))) }
 {

@@ -4,14 +4,13 @@ ghost use Rattle.std.specs.Prelude.{◌≡◌, Some, map, slice_get, option_map}
 ghost use Rattle.std.specs.Option.{option_and_then};
 ghost use Rattle.admission.specs.Events.{plain, Unregistering, Changing, Releasing};
 ghost use Rattle.admission.specs.History.{plain_entry};
-ghost use Rattle.admission.specs.RecordIndex.{slot_meant, whole_entry};
+ghost use Rattle.admission.specs.RecordIndex.{slot_meant, plain_whole};
 ghost use Rattle.admission.specs.Slots as Spec;
 
 use crate::events::Event;
 use crate::record::{Entry, WholeEntry};
 use crate::replies::{AdmitRefusal, RegisterRefusal, Reply};
 use crate::routes::{Destination, Route, RouteRefusal};
-use crate::rulings::Ruling;
 use crate::short_texts::{ShortDigits, ShortName};
 use bandwidth::Over;
 use command_reader::LimitKind;
@@ -51,10 +50,10 @@ pub(crate) enum Unrouted {
     },
 }
 
-/// What became of a registration, beside what its event tells: in the reply are the ID and the zone
-/// of the endpoint that asked.
+/// The reply to a registration, but for the names: those in it are those of the endpoint that
+/// asked.
 #[derive(Clone, Copy)]
-pub(crate) enum RegisterOutcome {
+pub(crate) enum ShortReply {
     Granted,
     Refused { reason: RegisterRefusal },
 }
@@ -112,7 +111,7 @@ pub(crate) enum Slot {
     Registration {
         /// The place, from 0, of the event in the list of registrations.
         place: u32,
-        outcome: RegisterOutcome,
+        replied: ShortReply,
     },
     /// The place, from 0, of the entry in the list of whole entries.
     Aside {
@@ -247,7 +246,7 @@ impl Unrouted {
 }
 
 impl Slot {
-    /// The entry, if these are the entries that stand whole, and the registrations.
+    /// The entry that the slot means, by the entries that stand whole and the registrations.
     pub(crate) fn entry<'a>(
         &self,
         aside: &'a Pieces<WholeEntry>,
@@ -296,26 +295,26 @@ impl Slot {
             Slot::Change { id, call, units } => Some(changed(id, *call, *units)),
             Slot::Release { id, call } => Some(released(id, *call)),
             Slot::Unregistration { id } => Some(unregistered(id)),
-            Slot::Registration { place, outcome } => {
-                registration_at(registrations, *place as usize, outcome)
+            Slot::Registration { place, replied } => {
+                registration_at(registrations, *place as usize, replied)
             }
             Slot::Aside { place } => whole_at(aside, *place as usize),
         }
     }
 }
 
-impl RegisterOutcome {
+impl ShortReply {
     /// The reply to this endpoint.
     fn reply(&self, endpoint: &Endpoint) -> Reply
         ensures { result ≡ Spec.register_reply self.now endpoint.now }
     {
         let id = endpoint.id();
         match self {
-            RegisterOutcome::Granted => Reply::Registered {
+            ShortReply::Granted => Reply::Registered {
                 id,
                 zone: endpoint.zone(),
             },
-            RegisterOutcome::Refused { reason } => Reply::RegisterRefused {
+            ShortReply::Refused { reason } => Reply::RegisterRefused {
                 id,
                 reason: *reason,
             },
@@ -334,7 +333,10 @@ impl RegisterOutcome {
                 zone: None,
                 route: None,
             }),
-            _ => None,
+            Event::Unregister { .. }
+            | Event::Admit { .. }
+            | Event::Change { .. }
+            | Event::Release { .. } => None,
         }
     }
 }
@@ -343,22 +345,22 @@ impl RegisterOutcome {
 fn registration_at<'a>(
     registrations: &'a Pieces<Event>,
     place: usize,
-    outcome: &RegisterOutcome,
+    replied: &ShortReply,
 ) -> Option<Entry<'a>>
     ensures { option_map plain_entry result
-        ≡ option_and_then (Spec.registration_meant outcome.now)
+        ≡ option_and_then (Spec.registration_meant replied.now)
         (slice_get (map plain registrations.now.items) place) }
 {
     match registrations.get(place) {
         None => None,
-        Some(event) => outcome.entry(event),
+        Some(event) => replied.entry(event),
     }
 }
 
 /// The entry that stands whole at this place.
 fn whole_at(aside: &Pieces<WholeEntry>, place: usize) -> Option<Entry<'_>>
     ensures { option_map plain_entry result
-        ≡ slice_get (map whole_entry aside.now.items) place }
+        ≡ slice_get (map plain_whole aside.now.items) place }
 {
     match aside.get(place) {
         None => None,

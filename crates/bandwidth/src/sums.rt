@@ -40,7 +40,7 @@ impl Sums {
         }
     }
 
-    /// Whether a call is counted whose owner is the endpoint with this ID.
+    /// Whether any counted call belongs to the endpoint with this ID.
     pub fn counts_owner(&self, id: &Name) -> bool
         ensures { result ≡ is_some (count_found self.now.owners.entries id.now) }
     {

@@ -90,7 +90,10 @@ impl Request {
                 ..
             } => admission(&id, call, &digits, units),
             Request::Change {
-                id, call, units, ..
+                id,
+                call,
+                units,
+                ..
             } => change(&id, call, units),
             Request::Release { id, call, .. } => release(&id, call),
         }

@@ -87,6 +87,7 @@ impl<T: Drop> Pieces<T> {
         requires near { places ≤ self.old.room + PIECE_ITEMS }
         ensures items { self.new.items ≡ self.old.items }
         ensures ok { OnOk result ((places ≤ self.new.room) × (self.old.room ≤ self.new.room)) }
+        ensures still { places ≤ self.old.room → self.new ≡ self.old }
         ensures most { OnOk result (self.new.room ≤ self.old.room + PIECE_ITEMS) }
         ensures err { OnErr result ((self.new ≡ self.old) × (self.old.room < places)) }
     {

@@ -12,12 +12,12 @@ use Rattle.admission.proofs.record.Record.push_registration.Goals as goal
 stored : (c : goal.After-self-1)
     → IsStored c.push.new.self c.self.inside.aside c.push-2.new.self
     (entries_told c.self.inside.slots c.self.inside.aside c.self.inside.registrations
-    ++ cons_option (registration_meant c.args.outcome (plain c.args.event)) [])
+    ++ cons_option (registration_meant c.args.replied (plain c.args.event)) [])
     (c.self.inside.kept - 1)
 stored c =
     let one : 1 ≤ c.self.inside.kept =
     omega (arith, c.requires.kept, ap (λ (h : RecordParts). h.kept) c.self.view_is) in
-    registration_stored _ _ _ _ _ c.self.invariant one c.len-place.result c.args.outcome
+    registration_stored _ _ _ _ _ c.self.invariant one c.len-place.result c.args.replied
     c.args.event c.push.new.self c.push-2.new.self c.len-place.ensures.value c.requires.meant
     (c.push.ensures ∙ ap (λ (s : Slot). record {
       items = c.self.inside.slots.items ++ s ∷ [];
@@ -33,6 +33,6 @@ returns c =
     ap₂ (λ es kept. record { entries = es; kept = kept })
     (told_are _ _ _ _ _ (stored c)
     ∙ ap (λ (h : RecordParts).
-    h.entries ++ cons_option (registration_meant c.args.outcome (plain c.args.event)) [])
+    h.entries ++ cons_option (registration_meant c.args.replied (plain c.args.event)) [])
     c.self.view_is)
     (ap (λ (h : RecordParts). h.kept - 1) c.self.view_is)

@@ -1,6 +1,6 @@
 use Rattle.std.proofs.Common.{◌≤◌, ◌-◌, ◌++◌, [], ◌∷◌, ap, ap₂, ◌∙◌, arith}
 use Rattle.admission.specs.History.{RecordParts}
-use Rattle.admission.specs.RecordIndex.{whole_entry, entries_told, IsStored}
+use Rattle.admission.specs.RecordIndex.{plain_whole, entries_told, IsStored}
 use Rattle.admission.specs.declared.slots.Slot.{Slot}
 use Rattle.admission.proofs.StoredLemmas.{whole_stored, told_are, stored_told}
 use Rattle.admission.proofs.record.Record.push_whole.Goals as goal
@@ -9,7 +9,7 @@ use Rattle.admission.proofs.record.Record.push_whole.Goals as goal
 stored : (c : goal.After-self-1)
     → IsStored c.push.new.self c.push-2.new.self c.self.inside.registrations
     (entries_told c.self.inside.slots c.self.inside.aside c.self.inside.registrations
-    ++ whole_entry c.args.entry ∷ [])
+    ++ plain_whole c.args.entry ∷ [])
     (c.self.inside.kept - 1)
 stored c =
     let one : 1 ≤ c.self.inside.kept =
@@ -29,5 +29,5 @@ pub returns : goal.returns
 returns c =
     ap₂ (λ es kept. record { entries = es; kept = kept })
     (told_are _ _ _ _ _ (stored c)
-    ∙ ap (λ (h : RecordParts). h.entries ++ whole_entry c.args.entry ∷ []) c.self.view_is)
+    ∙ ap (λ (h : RecordParts). h.entries ++ plain_whole c.args.entry ∷ []) c.self.view_is)
     (ap (λ (h : RecordParts). h.kept - 1) c.self.view_is)
