@@ -83,16 +83,14 @@ impl Core {
     pub fn register(&mut self, endpoint: Endpoint) -> Result<(Reply, Receipt), Reply>
         ensures { Steps self.old (Events.Registering endpoint) result self.new }
     {
-        let ruling = self.machine().registration(&endpoint);
-        self.settle(Event::Register(endpoint), &ruling)
+        self.answer(Event::Register(endpoint))
     }
 
     /// Takes a registration away. Ok and Err are as of `answer`.
     pub fn unregister(&mut self, id: &Name) -> Result<(Reply, Receipt), Reply>
         ensures { Steps self.old (Events.Unregistering id.now) result self.new }
     {
-        let ruling = self.machine().unregistration(id);
-        self.settle(Event::Unregister { id: *id }, &ruling)
+        self.answer(Event::Unregister { id: *id })
     }
 
     /// Admits a call to where its digits were routed. If that was done under the version in force,
@@ -127,13 +125,11 @@ impl Core {
     pub fn change(&mut self, id: &Name, call: u32, units: Units) -> Result<(Reply, Receipt), Reply>
         ensures { Steps self.old (Events.Changing id.now call units) result self.new }
     {
-        let ruling = self.machine().bandwidth_change(id, call, units);
-        let event = Event::Change {
+        self.answer(Event::Change {
             id: *id,
             call,
             units,
-        };
-        self.settle(event, &ruling)
+        })
     }
 
     /// Releases an open call. Ok and Err are as of `answer`. Takes no memory, and meets no full
@@ -141,8 +137,7 @@ impl Core {
     pub fn release(&mut self, id: &Name, call: u32) -> Result<(Reply, Receipt), Reply>
         ensures { Steps self.old (Events.Releasing id.now call) result self.new }
     {
-        let ruling = self.machine().release(id, call);
-        self.settle(Event::Release { id: *id, call }, &ruling)
+        self.answer(Event::Release { id: *id, call })
     }
 
     /// Answers an event. An admission is planned by the tables in force.
