@@ -11,14 +11,14 @@ use std::alloc::AllocError;
 #[tactic(auto, using(crate::proofs::CallingLemmas::opens))]
 /// Opens a call whose number is not that of an open call, and for which there is room. If memory
 /// runs out, nothing changes.
-pub(crate) fn open_in(calls: &mut OpenCalls, call: OpenCall) -> Result<(), AllocError>
-    requires closed { is_open calls.old.calls call.number ≡ false }
+pub(crate) fn open_in(calls: &mut OpenCalls, call: &OpenCall) -> Result<(), AllocError>
+    requires closed { is_open calls.old.calls call.now.number ≡ false }
     requires room { nat_le calls.old.most (length calls.old.calls) ≡ false }
     ensures ok { OnOk result (calls.new
-        ≡ record calls.old { calls = with_call calls.old.calls call }) }
+        ≡ record calls.old { calls = with_call calls.old.calls call.now }) }
     ensures err { OnErr result (calls.new ≡ calls.old) }
 {
-    match calls.open(call) {
+    match calls.open(*call) {
         Ok(()) => Ok(()),
         Err(CallsFault::NoMemory) => Err(AllocError),
         Err(_) => unreachable!(),

@@ -225,7 +225,10 @@ fn assert_order(rt: &impl Abort, alloc: Global, core: &mut Core) -> Result<(), F
     core.register(terminal(alloc, b"tb", 2, &[b"7"])?)?;
     core.register(terminal(alloc, b"ta", 1, &[])?)?;
     for (place, id) in [(0, Some(tb)), (1, Some(ta)), (2, None)] {
-        assert_eq!(rt; core.registry().at(place).map(|endpoint| endpoint.id()), id);
+        assert_eq!(rt;
+            core.registry().at(place).map(|endpoint| *endpoint.id()),
+            id
+        );
     }
     Ok(())
 }

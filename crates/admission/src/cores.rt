@@ -158,8 +158,8 @@ impl Core {
     pub fn reply(&mut self, event: Event) -> Reply
         ensures { MayReply self.old (Events.plain event) result self.new }
     {
-        let ruling = self.machine().ruling(&event);
-        match self.enter(event, &ruling) {
+        let ruling = &self.machine().ruling(&event);
+        match self.enter(event, ruling) {
             Ok(_) => ruling.verdict,
             Err(reply) => reply,
         }

@@ -39,7 +39,7 @@ impl Machine {
             Event::Register(endpoint) => {
                 if self.are_endpoints_full(endpoint, &ruling.verdict) {
                     let reason = RegisterRefusal::EndpointsFull;
-                    let id = endpoint.id();
+                    let id = *endpoint.id();
                     return Some(Reply::RegisterRefused { id, reason });
                 }
             }
@@ -62,7 +62,7 @@ impl Machine {
         ensures { result ≡ Spec.are_endpoints_full self.now endpoint.now verdict.now }
     {
         verdict.is_granted()
-            && !self.registry().is_registered(&endpoint.id())
+            && !self.registry().is_registered(endpoint.id())
             && self.limits().endpoints as usize <= self.registry().len()
     }
 

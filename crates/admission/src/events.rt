@@ -79,7 +79,7 @@ impl Event {
         ensures { result ≡ id_of (plain self.now) }
     {
         match self {
-            Event::Register(endpoint) => Some(endpoint.id()),
+            Event::Register(endpoint) => Some(*endpoint.id()),
             Event::Unregister { id }
             | Event::Admit { id, .. }
             | Event::Change { id, .. }

@@ -22,7 +22,6 @@ pub mod routes;
 pub mod routing;
 mod rulings;
 mod settling;
-mod short_texts;
 mod slots;
 #[cfg(test)]
 mod test_cores;

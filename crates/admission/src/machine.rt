@@ -155,7 +155,7 @@ impl Machine {
                 self.remove(id);
                 Ok(())
             }
-            Effect::Open(call) => self.open(*call),
+            Effect::Open(call) => self.open(call),
             Effect::Resize { call, id, units } => {
                 self.resize(*call, id, *units);
                 Ok(())
@@ -209,11 +209,11 @@ impl Machine {
     }
 
     /// Opens a call whose number is not that of an open call, and for which there is room.
-    fn open(&mut self, call: OpenCall) -> Result<(), AllocError>
-        requires closed { is_open self.old.calls call.number ≡ false }
+    fn open(&mut self, call: &OpenCall) -> Result<(), AllocError>
+        requires closed { is_open self.old.calls call.now.number ≡ false }
         requires room { nat_le self.old.limits.calls (length self.old.calls) ≡ false }
         ensures ok { OnOk result (self.new
-            ≡ record self.old { calls = with_call self.old.calls call }) }
+            ≡ record self.old { calls = with_call self.old.calls call.now }) }
         ensures err { OnErr result (self.new ≡ self.old) }
     {
         open_in(&mut self.calls, call)

@@ -1,6 +1,6 @@
 //! What was ruled on an event, put into few bytes.
 
-ghost use Rattle.std.specs.Prelude.{◌≡◌, ◌↔◌, true, false, [], Some, None, IfSome};
+ghost use Rattle.std.specs.Prelude.{◌≡◌, ◌≢◌, ◌↔◌, true, false, [], Some, None, IfSome, IfNone};
 ghost use Rattle.admission.specs.Events.{plain, Registering, Unregistering, Admitting, Changing, Releasing};
 ghost use Rattle.admission.specs.History.{entry_by};
 ghost use Rattle.admission.specs.Slots as Spec;
@@ -10,11 +10,11 @@ use crate::events::Event;
 use crate::replies::{AdmitRefusal, Reply};
 use crate::routes::{Destination, Route, RouteRefusal};
 use crate::rulings::Ruling;
-use crate::short_texts::{ShortDigits, ShortName};
 use crate::slots::{Asked, ShortDestination, ShortOver, ShortReply, Slot, Unrouted};
 use bandwidth::Over;
 use gk_terms::{Address, Dialled, Name, Units};
 use registry::Endpoint;
+use short_texts::{PackedDigits, ShortName};
 
 impl Slot {
     /// What was ruled on the event, in few bytes if it can be.
@@ -40,10 +40,12 @@ impl Slot {
 
 impl ShortReply {
     /// The reply to the event, if it is a registration and the names in the reply are those of the
-    /// endpoint that asked.
+    /// endpoint that asked: nothing only if no short reply tells the entry.
     pub(crate) fn of(event: &Event, ruling: &Ruling) -> Option<ShortReply>
-        ensures { IfSome result (λ replied. Spec.registration_meant replied (plain event.now)
+        ensures told { IfSome result (λ replied. Spec.registration_meant replied (plain event.now)
             ≡ Some (entry_by (plain event.now) ruling.now)) }
+        ensures none { IfNone result ((replied : _) → Spec.registration_meant replied
+            (plain event.now) ≢ Some (entry_by (plain event.now) ruling.now)) }
     {
         match event {
             Event::Register(endpoint) => registration(endpoint, ruling),
@@ -57,17 +59,19 @@ impl ShortReply {
 
 /// The reply to a registration, if the names in it are those of the endpoint that asked.
 fn registration(endpoint: &Endpoint, ruling: &Ruling) -> Option<ShortReply>
-    ensures { IfSome result (λ replied. Spec.register_entry replied endpoint.now
+    ensures told { IfSome result (λ replied. Spec.register_entry replied endpoint.now
         ≡ entry_by (Registering endpoint.now) ruling.now) }
+    ensures none { IfNone result ((replied : _) → Spec.register_entry replied endpoint.now
+        ≢ entry_by (Registering endpoint.now) ruling.now) }
 {
     if ruling.tells_of_an_admission() {
         return None;
     }
     match &ruling.verdict {
-        Reply::Registered { id, zone } if *id == endpoint.id() && *zone == endpoint.zone() => {
+        Reply::Registered { id, zone } if *id == *endpoint.id() && *zone == *endpoint.zone() => {
             Some(ShortReply::Granted)
         }
-        Reply::RegisterRefused { id, reason } if *id == endpoint.id() => {
+        Reply::RegisterRefused { id, reason } if *id == *endpoint.id() => {
             Some(ShortReply::Refused { reason: *reason })
         }
         _ => None,
@@ -133,7 +137,7 @@ fn admission(id: &Name, call: u32, digits: &Dialled, units: Units, ruling: &Ruli
     ensures { IfSome result (λ slot. Spec.entry_meant [] [] slot
         ≡ Some (entry_by (Admitting id.now call digits.now units) ruling.now)) }
 {
-    let asked = Asked::new(call, units, ShortName::of(id)?, ShortDigits::of(digits)?);
+    let asked = Asked::new(call, units, ShortName::of(id)?, PackedDigits::of(digits));
     let verdict = &ruling.verdict;
     match (&ruling.zone, &ruling.route) {
         (None, None) => asked.by_a_stranger(verdict),

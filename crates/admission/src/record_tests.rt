@@ -6,7 +6,6 @@ use crate::limits::STATED_LIMITS;
 use crate::record::{Entry, Receipt};
 use crate::replies::{AdmitRefusal, ChangeRefusal, RegisterRefusal, Reply, UnregisterRefusal};
 use crate::routes::Route;
-use crate::short_texts::{ShortDigits, ShortName};
 use crate::slots::HeldSlot;
 use crate::test_cores::{admission, away, core_within, entry, five_events, receipt_of, terminal};
 use gk_terms::{Dialled, Name, Units};
@@ -422,13 +421,4 @@ fn assert_same_endpoint(rt: &impl Abort, endpoint: &Endpoint, same: &Endpoint) {
 #[test]
 fn a_slot_takes_at_most_100_bytes(rt: HostRuntime) {
     assert!(rt; size_of::<HeldSlot>() <= 100, "{}", size_of::<HeldSlot>());
-}
-
-#[test]
-fn names_and_digits_are_short_up_to_a_length(rt: HostRuntime) -> Result<(), Fail> {
-    assert!(rt; ShortName::of(&Name::read(b"terminal-0123456789")?).is_some());
-    assert!(rt; ShortName::of(&Name::read(b"terminal-0123456789a")?).is_none());
-    assert!(rt; ShortDigits::of(&Dialled::read(b"912345678901234")?).is_some());
-    assert!(rt; ShortDigits::of(&Dialled::read(b"9123456789012345")?).is_none());
-    Ok(())
 }

@@ -1,9 +1,8 @@
 //! Where dialled digits lead: the plan of the tables, and then an endpoint of the target zone.
 
-ghost use Rattle.std.specs.Prelude.{◌≡◌, ◌<◌, List, length, Some, None, IfSome, IsSome, option_map, option_and_then};
+ghost use Rattle.std.specs.Prelude.{◌≡◌, List, Some, None, IfSome, IsSome, option_and_then};
 ghost use Rattle.std.specs.Option.{option_copied};
 ghost use Rattle.command_reader.specs.declared.commands.Command.{Command};
-ghost use Rattle.command_reader.specs.Zones.{zones_of};
 ghost use Rattle.compiler.specs.Plan as Plans;
 ghost use Rattle.compiler.specs.Zones.{zone_at};
 ghost use Rattle.compiler.specs.Technology.{default_technology_of};
@@ -51,8 +50,14 @@ pub(crate) fn route_of_plan(
             technology,
             row,
         } => {
-            let name = zone_name(tables, *zone);
-            in_local_zone(tables, registry, &name, *row, digits, technology)
+            in_local_zone(
+                tables,
+                registry,
+                tables.zone_name(*zone),
+                *row,
+                digits,
+                technology,
+            )
         }
         Plan::Caller { technology } => {
             in_local_zone(tables, registry, caller, None, digits, technology)
@@ -62,14 +67,14 @@ pub(crate) fn route_of_plan(
 }
 
 /// The zone to which a plan leads a caller of this zone.
-pub(crate) fn target_zone(tables: &Tables, plan: &Plan, caller: &Name) -> Name
+pub(crate) fn target_zone<'a>(tables: &'a Tables, plan: &Plan, caller: &'a Name) -> &'a Name
     requires { IsSome (Plans.target_of tables.now.commands plan.now) }
     ensures { IfSome (Plans.target_of tables.now.commands plan.now)
-        (λ target. result ≡ Plans.zone_of_target caller.now target) }
+        (λ target. result.now ≡ Plans.zone_of_target caller.now target) }
 {
     match plan {
-        Plan::Remote(zone) | Plan::Local { zone, .. } => zone_name(tables, *zone),
-        Plan::Caller { .. } | Plan::UnknownPrefix => *caller,
+        Plan::Remote(zone) | Plan::Local { zone, .. } => tables.zone_name(*zone),
+        Plan::Caller { .. } | Plan::UnknownPrefix => caller,
     }
 }
 
@@ -79,14 +84,6 @@ pub(crate) fn is_remote(plan: &Plan) -> bool
         (λ target. result ≡ Plans.is_remote target) }
 {
     matches!(plan, Plan::Remote(_))
-}
-
-/// The name of a zone.
-fn zone_name(tables: &Tables, zone: ZoneNo) -> Name
-    requires { zone < length (zones_of tables.now.commands) }
-    ensures { option_map (λ found. found.0) (zone_at tables.now.commands zone) ≡ Some result }
-{
-    tables.zone(zone).name
 }
 
 /// To the gatekeeper of a remote zone.
@@ -153,7 +150,7 @@ fn to_gateway(chosen: Option<&Endpoint>) -> Route
 fn destination_of(endpoint: &Endpoint) -> Destination
     ensures { result ≡ Spec.destination_of endpoint.now.kind endpoint.now }
 {
-    let id = endpoint.id();
+    let id = *endpoint.id();
     let address = endpoint.address();
     match endpoint.kind() {
         EndpointKind::Gateway => Destination::Gateway { id, address },

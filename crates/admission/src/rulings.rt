@@ -64,17 +64,17 @@ impl Ruling {
     }
 
     /// A refused admission of a registered caller.
-    fn refused(zone: Name, route: Option<Route>, call: u32, reason: AdmitRefusal) -> Ruling
+    fn refused(zone: &Name, route: Option<Route>, call: u32, reason: AdmitRefusal) -> Ruling
         ensures { result ≡ record {
           verdict = Reply.AdmitRefused call reason;
-          zone = Some zone;
+          zone = Some zone.now;
           route = route;
           effect = Effect.Nothing;
         } }
     {
         Ruling {
             verdict: Reply::AdmitRefused { call, reason },
-            zone: Some(zone),
+            zone: Some(*zone),
             route,
             effect: Effect::Nothing,
         }
@@ -112,7 +112,7 @@ impl Machine {
     pub fn registration(&self, endpoint: &Endpoint) -> Ruling
         ensures { result ≡ Spec.ruling_of self.now (Events.Registering endpoint.now) }
     {
-        let id = endpoint.id();
+        let id = *endpoint.id();
         match self.placement(endpoint) {
             Ok(zone) => Ruling::unrouted(Reply::Registered { id, zone }, Effect::Put { zone }),
             Err(reason) => {
@@ -131,7 +131,7 @@ impl Machine {
         if let Some(fault) = self.registry().fault_of(endpoint, self.tables()) {
             return Err(refusal_of(fault));
         }
-        match self.tables().local_zone(&endpoint.zone()) {
+        match self.tables().local_zone(endpoint.zone()) {
             Some(zone) => Ok(zone),
             None => unreachable!(),
         }
@@ -184,14 +184,14 @@ impl Machine {
         if self.calls().is_open(call) {
             return Ruling::refused(zone, None, call, AdmitRefusal::CallOpen);
         }
-        match route_of_plan(self.tables(), self.registry(), plan, &zone, digits) {
+        match &route_of_plan(self.tables(), self.registry(), plan, zone, digits) {
             Route::Refused(refusal) => {
-                let route = Some(Route::Refused(refusal));
-                Ruling::refused(zone, route, call, AdmitRefusal::NoRoute(refusal))
+                let route = Some(Route::Refused(*refusal));
+                Ruling::refused(zone, route, call, AdmitRefusal::NoRoute(*refusal))
             }
             Route::To(destination) => {
-                let admitted = self.admitted_call(caller, call, units, plan);
-                self.admission_to(zone, &destination, &admitted)
+                let admitted = &self.admitted_call(caller, call, units, plan);
+                self.admission_to(zone, destination, admitted)
             }
         }
     }
@@ -204,31 +204,32 @@ impl Machine {
     {
         OpenCall {
             number,
-            owner: caller.id(),
-            source: caller.zone(),
-            target: target_zone(self.tables(), plan, &caller.zone()),
+            owner: *caller.id(),
+            source: *caller.zone(),
+            target: *target_zone(self.tables(), plan, caller.zone()),
             remote: is_remote(plan),
             units,
         }
     }
 
     /// The ruling on an admission to a destination, by the limits.
-    fn admission_to(&self, zone: Name, destination: &Destination, call: &OpenCall) -> Ruling
-        ensures { result ≡ Spec.admission_unless zone destination.now call.now
+    fn admission_to(&self, zone: &Name, destination: &Destination, call: &OpenCall) -> Ruling
+        ensures { result ≡ Spec.admission_unless zone.now destination.now call.now
             (over_of self.now.commands self.now.calls call.now) }
     {
-        let number = call.number;
-        let route = Some(Route::To(*destination));
-        match self.calls().fits(self.tables(), call) {
-            Err(over) => Ruling::refused(zone, route, number, AdmitRefusal::OverLimit(over)),
+        match &self.calls().fits(self.tables(), call) {
+            Err(over) => {
+                let route = Some(Route::To(*destination));
+                Ruling::refused(zone, route, call.number, AdmitRefusal::OverLimit(*over))
+            }
             Ok(()) => Ruling {
                 verdict: Reply::Admitted {
-                    call: number,
+                    call: call.number,
                     destination: *destination,
                     units: call.units,
                 },
-                zone: Some(zone),
-                route,
+                zone: Some(*zone),
+                route: Some(Route::To(*destination)),
                 effect: Effect::Open(*call),
             },
         }
@@ -255,8 +256,8 @@ impl Machine {
             (over_of self.now.commands self.now.calls changed.now) }
     {
         let units = changed.units;
-        match self.calls().fits(self.tables(), changed) {
-            Err(over) => change_refused(call, ChangeRefusal::OverLimit(over)),
+        match &self.calls().fits(self.tables(), changed) {
+            Err(over) => change_refused(call, ChangeRefusal::OverLimit(*over)),
             Ok(()) => {
                 let effect = Effect::Resize {
                     call,

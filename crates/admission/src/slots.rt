@@ -11,12 +11,12 @@ use crate::events::Event;
 use crate::record::{Entry, WholeEntry};
 use crate::replies::{AdmitRefusal, RegisterRefusal, Reply};
 use crate::routes::{Destination, Route, RouteRefusal};
-use crate::short_texts::{ShortDigits, ShortName};
 use bandwidth::Over;
 use command_reader::LimitKind;
 use gk_terms::{Address, Name, Units};
 use pieces::Pieces;
 use registry::Endpoint;
+use short_texts::{PackedDigits, ShortName};
 use std::borrow::Cow;
 use std::marker::Model;
 
@@ -58,7 +58,7 @@ pub(crate) enum ShortReply {
     Refused { reason: RegisterRefusal },
 }
 
-/// An entry in few bytes: of most admissions whose names and digits are short, and of a granted
+/// An entry in few bytes: of most admissions whose names are short, and of a granted
 /// change, release or unregistration whose ID is; or the place of a registration in the list of
 /// registrations, or that of an entry that stands whole in the list of whole entries.
 #[derive(Clone, Copy)]
@@ -68,7 +68,7 @@ pub(crate) enum Slot {
         call: u32,
         units: Units,
         id: ShortName,
-        digits: ShortDigits,
+        digits: PackedDigits,
         zone: ShortName,
         destination: ShortDestination,
         address: Address,
@@ -78,7 +78,7 @@ pub(crate) enum Slot {
         call: u32,
         units: Units,
         id: ShortName,
-        digits: ShortDigits,
+        digits: PackedDigits,
         zone: ShortName,
         destination: ShortDestination,
         address: Address,
@@ -89,7 +89,7 @@ pub(crate) enum Slot {
         call: u32,
         units: Units,
         id: ShortName,
-        digits: ShortDigits,
+        digits: PackedDigits,
         cause: Unrouted,
     },
     /// A granted bandwidth change.
@@ -125,12 +125,12 @@ pub(crate) struct Asked {
     pub(crate) call: u32,
     pub(crate) units: Units,
     pub(crate) id: ShortName,
-    pub(crate) digits: ShortDigits,
+    pub(crate) digits: PackedDigits,
 }
 
 impl Asked {
     /// What an admission asks for.
-    pub(crate) fn new(call: u32, units: Units, id: ShortName, digits: ShortDigits) -> Asked
+    pub(crate) fn new(call: u32, units: Units, id: ShortName, digits: PackedDigits) -> Asked
         ensures { result ≡ record { call = call; units = units; id = id; digits = digits } }
     {
         Asked {
@@ -308,11 +308,11 @@ impl ShortReply {
     fn reply(&self, endpoint: &Endpoint) -> Reply
         ensures { result ≡ Spec.register_reply self.now endpoint.now }
     {
-        let id = endpoint.id();
+        let id = *endpoint.id();
         match self {
             ShortReply::Granted => Reply::Registered {
                 id,
-                zone: endpoint.zone(),
+                zone: *endpoint.zone(),
             },
             ShortReply::Refused { reason } => Reply::RegisterRefused {
                 id,

@@ -52,7 +52,7 @@ impl Event {
     {
         match self {
             Event::Register(endpoint) => Some(Reply::RegisterRefused {
-                id: endpoint.id(),
+                id: *endpoint.id(),
                 reason: RegisterRefusal::RecordFull,
             }),
             Event::Unregister { id } => Some(Reply::UnregisterRefused {
@@ -77,7 +77,7 @@ impl Event {
     {
         match self {
             Event::Register(endpoint) => Some(Reply::RegisterRefused {
-                id: endpoint.id(),
+                id: *endpoint.id(),
                 reason: RegisterRefusal::NoMemory,
             }),
             Event::Unregister { id } => Some(Reply::UnregisterRefused {

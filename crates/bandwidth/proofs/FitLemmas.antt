@@ -1,7 +1,7 @@
 -- The sums of a call beside the others, and the first of them that is above its limit.
-use Rattle.std.proofs.Common.{◌≡◌, ℕ, ◌+◌, Bool, true, false, cond, List, [], ◌∷◌, ◌++◌, refl, sym, ap, ◌∙◌, arith}
-use Rattle.std.specs.Prelude.{IfSome, Option, Some, None, find, filter, map, option_map, if◌then◌else◌}
-use Rattle.std.specs.Option.{option_or, option_to_list}
+use Rattle.std.proofs.Common.{◌≡◌, ℕ, ◌+◌, Bool, true, false, cond, List, [], ◌∷◌, ◌++◌, refl, ap, ◌∙◌, arith}
+use Rattle.std.specs.Prelude.{Option, Some, None, find, filter, option_map, if◌then◌else◌}
+use Rattle.std.specs.Option.{option_or}
 use Rattle.command_reader.specs.declared.commands.Command.{Command}
 use Rattle.command_reader.specs.declared.commands.LimitKind.TheVariants.{Session, Total, Interzone}
 use Rattle.bandwidth.specs.declared.open_call.OpenCall.{OpenCall}
@@ -10,11 +10,8 @@ use Rattle.bandwidth.specs.Calls.{AreInOrder, call_of, without_call}
 use Rattle.bandwidth.specs.Use.{is_interzone, units_of, remote_of}
 use Rattle.bandwidth.specs.Fits.{Try, fails, is_no_raise, tries_of_kind, remote_try, tries_of, over_of}
 use Rattle.bandwidth.specs.declared.over.Over.TheVariants as overs
-use Rattle.command_reader.specs.declared.commands.LimitKind.{LimitKind}
 use Rattle.compiler.specs.Limit.{remote_limit_of}
-use Rattle.bandwidth.specs.declared.tried_zones.TriedZone.{TriedZone}
-use Rattle.bandwidth.specs.declared.tried_zones.TriedZones.{TriedZones}
-use Rattle.bandwidth.specs.Trying.{IsTried, AreTried, is_over, part_found, try_of, sum_beside, first_over, over_if_above, over_in, over_named, over_second, over_tried, over_between, over_remotely}
+use Rattle.bandwidth.specs.Trying.{part_found, sum_beside, first_over, over_if_above, over_in, over_between, over_remotely}
 use Rattle.bandwidth.proofs.CallLemmas.{closed_if_none, without_none}
 use Rattle.bandwidth.proofs.SumLemmas.{units_without}
 
@@ -116,40 +113,6 @@ in_turn commands others call =
         (over_if_above (remote_of others + call.units) (remote_limit_of commands) overs.Remote) None
     if_remote true = one_try (remote_try commands others call)
     if_remote false = refl
-
--- for the zones that were tried
-over_if_tried : (commands : List Command) (kind : LimitKind) (others : List OpenCall)
-    (call : OpenCall) (zone : TriedZone) → IsTried commands others call zone
-    → first_over (try_of commands kind others call zone.name.now ∷ []) ≡ over_named kind zone
-over_if_tried commands kind others call zone tried =
-    one_try (try_of commands kind others call zone.name.now)
-    ∙ ap (λ t. cond t (Some (overs.Zone kind zone.name.now)) None) (sym (by kind))
-  where
-    by : (k : LimitKind) → is_over k zone ≡ fails (try_of commands k others call zone.name.now)
-    by Session = tried.session
-    by Total = tried.total
-    by Interzone = tried.interzone
-
-pub of_zones : (commands : List Command) (kind : LimitKind) (others : List OpenCall)
-    (call : OpenCall) (zones : TriedZones) → AreTried commands others call zones
-    → over_in commands kind others call ≡ over_tried kind zones
-of_zones commands kind others call zones are =
-    ap (λ zs. first_over (map try zs)) are.touched
-    ∙ first_of_two (try zones.first.name.now ∷ []) (map try (names zones.second))
-    ∙ ap (λ o. option_or o (first_over (map try (names zones.second))))
-    (over_if_tried commands kind others call zones.first are.first)
-    ∙ ap (option_or (over_named kind zones.first)) (of_second zones.second are.second)
-  where
-    try : List ℕ → Try
-    try = try_of commands kind others call
-
-    names : Option TriedZone → List (List ℕ)
-    names zone = option_to_list (option_map (λ z. z.name.now) zone)
-
-    of_second : (second : Option TriedZone) → IfSome second (IsTried commands others call)
-        → first_over (map try (names second)) ≡ over_second kind second
-    of_second None are = refl
-    of_second (Some zone) are = over_if_tried commands kind others call zone are
 
 -- ---- the whole
 module _ (commands : List Command) (calls : List OpenCall) (call : OpenCall) where

@@ -133,15 +133,6 @@ module _ (owners : Counts) (zones : Uses) (remote : ℕ) (calls : List OpenCall)
     remotely = same_remote ∙ summed.remotely;
   }
 
--- the sums of no calls
-pub sums_of_none : (owners : Counts) (zones : Uses) (remote : ℕ) → owners ≡ [] → zones ≡ []
-    → remote ≡ 0 → AreSumsOf owners zones remote []
-sums_of_none owners zones remote no_owners no_zones none = record {
-  owned = λ id. ap (λ es. count_found es id) no_owners;
-  used = λ zone. ap (λ es. use_found es zone) no_zones;
-  remotely = none;
-}
-
 -- ---- a change of one call
 -- what a call counts with this bandwidth, if it is open
 abbrev pub part_of : (OpenCall → ℕ) → OpenCall → Option ℕ → ℕ

@@ -1,6 +1,6 @@
 //! The open calls in order of number.
 
-ghost use Rattle.std.specs.Prelude.{◌≡◌, ◌≤◌, ◌*◌, [], false, length, OnOk, OnErr};
+ghost use Rattle.std.specs.Prelude.{◌≡◌, ◌≤◌, ◌*◌, [], false, length, IfErr, OnOk, OnErr};
 ghost use Rattle.std.specs.Option.{option_copied};
 ghost use Rattle.std.specs.Result.{result_map_both};
 ghost use Rattle.bandwidth.specs.Calls.{AreInOrder, call_of, is_open, with_call, with_changed, without_call};
@@ -8,16 +8,19 @@ ghost use Rattle.bandwidth.specs.OpenCalls.{owned_in};
 ghost use Rattle.bandwidth.specs.Use.{units_of};
 
 use crate::faults::CallsFault;
+use crate::held_call::HeldCall;
 use crate::open_call::OpenCall;
 use gk_terms::{Name, Units};
 use std::alloc::{AllocError, Global};
 use std::collections::BTreeMap;
 use std::marker::Model;
 
-/// Calls in order of number: a map has each one under its number. A contract sees the list.
+/// Calls in order of number: a map has each one under its number, in a place of its own. A contract
+/// sees the list.
 #[derive(Drop)]
 pub struct CallList {
-    calls: BTreeMap<u32, OpenCall>,
+    calls: BTreeMap<u32, HeldCall>,
+    alloc: Global,
 }
 
 impl Model for CallList {
@@ -40,6 +43,7 @@ impl CallList {
     {
         CallList {
             calls: BTreeMap::new(alloc),
+            alloc,
         }
     }
 
@@ -56,7 +60,10 @@ impl CallList {
     pub fn get(&self, number: u32) -> Option<&OpenCall>
         ensures { option_copied result ≡ call_of self.now number }
     {
-        self.calls.get(&number)
+        match self.calls.get(&number) {
+            Some(held) => Some(held.call()),
+            None => None,
+        }
     }
 
     /// The call with this number, if it belongs to this ID. It is refused as `NoCall`, if no call
@@ -90,11 +97,29 @@ impl CallList {
         ensures ok { OnOk result (self.new ≡ with_call self.old call.now) }
         ensures err { OnErr result (self.new ≡ self.old) }
     {
+        match HeldCall::new(self.alloc, call) {
+            Ok(held) => match self.put(held) {
+                Ok(_) => Ok(()),
+                Err(_) => Err(AllocError),
+            },
+            Err(error) => Err(error),
+        }
+    }
+
+    /// Adds a call with a new number, which stands in its own place; nothing had that number. If
+    /// memory runs out it gives the call back, and nothing has changed.
+    fn put(&mut self, held: HeldCall) -> Result<Option<HeldCall>, HeldCall>
+        requires fresh { is_open self.old held.number ≡ false }
+        ensures ok { OnOk result (self.new ≡ with_call self.old held) }
+        ensures err { OnErr result (self.new ≡ self.old) }
+        ensures back { IfErr result (λ back. back ≡ held) }
+    {
+        let number = held.call().number;
         // So it is known that it fits 32 bits.
-        let _units = call.units.value();
-        match self.calls.insert(call.number, *call) {
-            Ok(_) => Ok(()),
-            Err(_) => Err(AllocError),
+        let _units = held.call().units.value();
+        match self.calls.insert(number, held) {
+            Ok(replaced) => Ok(replaced),
+            Err(failed) => Err(failed.value.1),
         }
     }
 
@@ -105,7 +130,7 @@ impl CallList {
         // So it is known that it fits 32 bits.
         let _units = units.value();
         if let Some(held) = self.calls.get_mut(&number) {
-            held.units = units;
+            held.set_units(units);
         }
     }
 

@@ -1,10 +1,11 @@
 //! Whether a call fits the limits in force. From Cisco's `bandwidth` command; the order in which
 //! the sums are tried is this project's profile.
 
-ghost use Rattle.std.specs.Prelude.{◌≡◌, ◌≤◌, ◌<◌, ◌+◌, ◌^◌, None, if◌then◌else◌};
+ghost use Rattle.std.specs.Prelude.{◌≡◌, ◌≤◌, ◌<◌, ◌+◌, ◌^◌, None, option_map, if◌then◌else◌};
 ghost use Rattle.std.specs.Option.{option_copied};
 ghost use Rattle.std.specs.Result.{result_err};
 ghost use Rattle.command_reader.specs.declared.commands.LimitKind.TheVariants.{Interzone};
+ghost use Rattle.bandwidth.specs.declared.over.Over.TheVariants as overs;
 ghost use Rattle.bandwidth.specs.Calls.{call_of, without_call};
 ghost use Rattle.bandwidth.specs.Fits.{is_no_raise, over_of, tries_of};
 ghost use Rattle.bandwidth.specs.Trying.{first_over, over_remotely, over_tried, part_found};
@@ -16,6 +17,7 @@ use crate::over::Over;
 use crate::tried_zones::{TriedZones, is_above};
 use command_reader::LimitKind;
 use compiler::Tables;
+use gk_terms::Name;
 
 impl OpenCalls {
     /// Whether the call fits the limits in force beside the open calls, or which sum would be the
@@ -69,14 +71,14 @@ impl OpenCalls {
             (without_call self.now.calls call.now.number) call.now) }
     {
         let zones = self.tried_zones(tables, call, held);
-        if let Some(over) = zones.over(LimitKind::Session) {
-            return Some(over);
+        if let Some(zone) = zones.over(LimitKind::Session) {
+            return Some(Over::of(LimitKind::Session, zone));
         }
-        if let Some(over) = zones.over(LimitKind::Total) {
-            return Some(over);
+        if let Some(zone) = zones.over(LimitKind::Total) {
+            return Some(Over::of(LimitKind::Total, zone));
         }
-        if let Some(over) = over_interzone(call, &zones) {
-            return Some(over);
+        if let Some(zone) = over_interzone(call, &zones) {
+            return Some(Over::of(LimitKind::Interzone, zone));
         }
         self.over_remotely(tables, call, held)
     }
@@ -125,9 +127,11 @@ fn is_no_raise(held: Option<&OpenCall>, call: &OpenCall) -> bool
     }
 }
 
-/// The first interzone sum that would be above its limit, if the call is between two zones.
-fn over_interzone(call: &OpenCall, zones: &TriedZones<'_>) -> Option<Over>
-    ensures { result ≡ (if is_interzone call.now then over_tried Interzone zones.now else None) }
+/// The name of the first zone whose interzone sum would be above its limit, if the call is between
+/// two zones.
+fn over_interzone<'a>(call: &OpenCall, zones: &TriedZones<'a>) -> Option<&'a Name>
+    ensures { option_map (λ zone. overs.Zone Interzone zone.now) result
+        ≡ (if is_interzone call.now then over_tried Interzone zones.now else None) }
 {
     if call.is_interzone() {
         zones.over(LimitKind::Interzone)

@@ -9,6 +9,7 @@ pub mod faults;
 pub mod fits;
 #[cfg(test)]
 mod fits_tests;
+mod held_call;
 pub mod laws;
 mod named;
 pub mod open_call;

@@ -1,5 +1,7 @@
 //! The sum that would be above its limit.
 
+ghost use Rattle.std.specs.Prelude.{◌≡◌};
+
 use command_reader::LimitKind;
 use gk_terms::Name;
 
@@ -15,4 +17,13 @@ pub enum Over {
     },
     /// The sum of all calls to zones of other gatekeepers.
     Remote,
+}
+
+impl Over {
+    /// A sum of this kind, of this zone.
+    pub(crate) fn of(kind: LimitKind, zone: &Name) -> Over
+        ensures { result ≡ Over.Zone kind zone.now }
+    {
+        Over::Zone { kind, zone: *zone }
+    }
 }

@@ -1,8 +1,9 @@
 //! The zones that a call touches, and which of their sums would be above their limits.
 
-ghost use Rattle.std.specs.Prelude.{◌≡◌, ◌&&◌, if◌then◌else◌};
+ghost use Rattle.std.specs.Prelude.{◌≡◌, ◌&&◌, option_map, if◌then◌else◌};
 ghost use Rattle.std.specs.Option.{option_copied};
 ghost use Rattle.command_reader.specs.declared.commands.LimitKind.TheVariants.{Total, Interzone};
+ghost use Rattle.bandwidth.specs.declared.over.Over.TheVariants as overs;
 ghost use Rattle.bandwidth.specs.Calls.{call_of, without_call};
 ghost use Rattle.bandwidth.specs.Fits.{is_above};
 ghost use Rattle.bandwidth.specs.Trying.{AreTried, IsTried, over_named, over_tried, part_found, sum_beside};
@@ -10,7 +11,6 @@ ghost use Rattle.bandwidth.specs.Use.{is_interzone, touches};
 
 use crate::open_call::OpenCall;
 use crate::open_calls::OpenCalls;
-use crate::over::Over;
 use command_reader::LimitKind;
 use compiler::Tables;
 use gk_terms::Name;
@@ -28,24 +28,17 @@ pub(crate) struct TriedZone<'a> {
     pub interzone: bool,
 }
 
-impl TriedZone<'_> {
-    /// The sum of this kind, if it would be above its limit.
-    fn over(&self, kind: LimitKind) -> Option<Over>
-        ensures { result ≡ over_named kind self.now }
+impl<'a> TriedZone<'a> {
+    /// The name of the zone, if its sum of this kind would be above its limit.
+    fn over(&self, kind: LimitKind) -> Option<&'a Name>
+        ensures { option_map (λ zone. overs.Zone kind zone.now) result ≡ over_named kind self.now }
     {
         let is_over = match kind {
             LimitKind::Session => self.session,
             LimitKind::Total => self.total,
             LimitKind::Interzone => self.interzone,
         };
-        if is_over {
-            Some(Over::Zone {
-                kind,
-                zone: *self.name,
-            })
-        } else {
-            None
-        }
+        if is_over { Some(self.name) } else { None }
     }
 }
 
@@ -56,13 +49,13 @@ pub(crate) struct TriedZones<'a> {
     pub second: Option<TriedZone<'a>>,
 }
 
-impl TriedZones<'_> {
-    /// The first sum of this kind that would be above its limit.
-    pub fn over(&self, kind: LimitKind) -> Option<Over>
-        ensures { result ≡ over_tried kind self.now }
+impl<'a> TriedZones<'a> {
+    /// The name of the first zone whose sum of this kind would be above its limit.
+    pub fn over(&self, kind: LimitKind) -> Option<&'a Name>
+        ensures { option_map (λ zone. overs.Zone kind zone.now) result ≡ over_tried kind self.now }
     {
-        if let Some(over) = self.first.over(kind) {
-            return Some(over);
+        if let Some(zone) = self.first.over(kind) {
+            return Some(zone);
         }
         match &self.second {
             Some(second) => second.over(kind),

@@ -9,7 +9,7 @@ ghost use Rattle.compiler.specs.Plan.{plan_of, target_of, row_meant, rejects_unk
 ghost use Rattle.compiler.specs.Priority.{priority_of, AreNamedFor, entries_of};
 ghost use Rattle.compiler.specs.Rows.{row_for};
 ghost use Rattle.compiler.specs.Technology.{technology_of, hopoffs_of, default_technology_of};
-ghost use Rattle.compiler.specs.Zones.{zone_meant, local_zone, view_at, view_of_name};
+ghost use Rattle.compiler.specs.Zones.{zone_meant, local_zone, view_at, view_of_name, zone_at};
 ghost use Rattle.compiler.specs.TablesIndex as Index;
 
 use crate::limit_table::{limits_at, limits_in, remote_limit_in};
@@ -247,6 +247,18 @@ impl Tables {
     {
         match self.zones.get_index(number.place() as usize) {
             Some((name, kind)) => view_of(number, name, kind),
+            None => unreachable!(),
+        }
+    }
+
+    /// The name of the zone of a number, which is to be one of these tables'.
+    pub fn zone_name(&self, number: ZoneNo) -> &Name
+        requires { number < length (zones_of self.now.commands) }
+        ensures { option_map (λ zone. zone.0) (zone_at self.now.commands number)
+            ≡ Some result.now }
+    {
+        match self.zones.get_index(number.place() as usize) {
+            Some((name, _)) => name,
             None => unreachable!(),
         }
     }

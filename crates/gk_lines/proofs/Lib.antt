@@ -1,3 +1,4 @@
+pub mod FeedLemmas
 pub mod KeptLines
 pub mod LineBufferLemmas
 pub mod LinesRead

@@ -9,6 +9,7 @@ ghost use Rattle.gk_lines.specs.LineReader.{work_left, length_in_line, left_of, 
 
 use crate::line_buffer::LineBuffer;
 use crate::streams::Source;
+use memchr::memchr;
 use std::marker::Model;
 use thiserror::Error;
 
@@ -227,5 +228,8 @@ fn bytes_before_feed(bytes: &[u8]) -> usize
     ensures value { result ≡ position_or_len (λ b. b == 10) bytes.now }
     ensures within { result ≤ length bytes.now }
 {
-    bytes.iter().take_while(|byte| **byte != b'\n').count()
+    match memchr(b'\n', bytes) {
+        Some(place) => place,
+        None => bytes.len(),
+    }
 }

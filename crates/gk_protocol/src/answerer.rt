@@ -24,8 +24,9 @@ impl Answerer for Core {
     ghost may_answer = { MayAnswer };
 
     fn answer(&mut self, request: Request) -> Answer {
-        let sequence = request.sequence();
-        let reply = self.reply(request.into_event());
-        Answer::Reply { sequence, reply }
+        Answer::Reply {
+            sequence: request.sequence(),
+            reply: self.reply(request.into_event()),
+        }
     }
 }

@@ -72,7 +72,7 @@ fn with_options(
         (λ filled. Spec.options_at Spec.all_options endpoint (words_of words.old) ≡ Ok filled)
         (Spec.AreNoOptionsAt sequence endpoint (words_of words.old)) }
 {
-    let id = endpoint.id();
+    let id = *endpoint.id();
     let mut left = OptionsLeft {
         aliases: MOST_ALIASES,
         technologies: MOST_TECHNOLOGIES,

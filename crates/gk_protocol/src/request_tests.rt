@@ -124,8 +124,8 @@ fn registrations(rt: HostRuntime) -> Result<(), Fail> {
     };
     assert_eq!(rt; sequence, 65_535);
     assert_eq!(rt; endpoint.kind(), EndpointKind::Gateway);
-    assert_eq!(rt; endpoint.id(), Name::read(b"ga")?);
-    assert_eq!(rt; endpoint.zone(), Name::read(b"gk-a")?);
+    assert_eq!(rt; *endpoint.id(), Name::read(b"ga")?);
+    assert_eq!(rt; *endpoint.zone(), Name::read(b"gk-a")?);
     assert_eq!(rt; endpoint.address(), Address::new([10, 0, 1, 2], 1720));
     let [first, second] = endpoint.aliases() else {
         return Err(Fail::new("not two aliases"));

@@ -29,7 +29,7 @@ impl Answerer for Refuser {
         self.asked = self.asked.saturating_add(1);
         let (sequence, reply) = match request {
             Request::Register { sequence, endpoint } => {
-                let id = endpoint.id();
+                let id = *endpoint.id();
                 let reason = RegisterRefusal::UnknownZone;
                 (sequence, Reply::RegisterRefused { id, reason })
             }

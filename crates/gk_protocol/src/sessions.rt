@@ -90,10 +90,10 @@ pub fn session_from<R: Source, W: Sink, A: Answerer>(
     let mut reply = LineBuffer::new();
     let mut replies = 0u64;
     while lines.next_line(reader, &mut line)? {
-        match answer_to(alloc, line.content(), answerer) {
+        match &answer_to(alloc, line.content(), answerer) {
             None => {}
             Some(answer) => {
-                send(&mut reply, writer, &answer)?;
+                send(&mut reply, writer, answer)?;
                 replies += 1;
             }
         }

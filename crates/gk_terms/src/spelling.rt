@@ -16,11 +16,12 @@ use std::hash::{Hash, Hasher};
 use std::marker::Model;
 use std::{fmt, str};
 
-/// A text of at most `MOST` visible ASCII characters. A contract sees the text alone.
+/// A text of at most `MOST` visible ASCII characters. The length stands before the characters, so
+/// that a short text lies in one or two cache lines. A contract sees the text alone.
 #[derive(Clone, Copy)]
 pub struct Spelling<const MOST: usize> {
-    bytes: [u8; MOST],
     len: u8,
+    bytes: [u8; MOST],
 }
 
 impl<const MOST: usize> Model for Spelling<MOST> {
@@ -33,11 +34,11 @@ impl<const MOST: usize> Model for Spelling<MOST> {
 
     ghost invariant = { λ s. Holds MOST s.bytes s.len };
 
-    ghost inverse = { λ text. record { bytes = padded MOST text; len = length text } };
+    ghost inverse = { λ text. record { len = length text; bytes = padded MOST text } };
 
     ghost inverse_ok = { λ s h i. record {
-      bytes = padded-take MOST s.bytes s.len h i;
       len = length-take-held MOST s.bytes s.len h i;
+      bytes = padded-take MOST s.bytes s.len h i;
     } };
 }
 
@@ -50,8 +51,8 @@ impl<const MOST: usize> Spelling<MOST> {
         ensures { result ≡ text.now }
     {
         Spelling {
-            bytes: filled(text),
             len: text.len() as u8,
+            bytes: filled(text),
         }
     }
 

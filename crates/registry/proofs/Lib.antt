@@ -7,6 +7,7 @@ pub mod RollLemmas
 pub mod RollChanges
 pub mod ListingLemmas
 pub mod ShelfLemmas
+pub mod KeepingLemmas
 pub mod CopyLemmas
 pub mod ChosenLemmas
 pub mod GatewayLemmas

@@ -41,7 +41,7 @@ same_group zone prefix a b =
     (tied_itself nat_list_cmp_total zone)
     ∙ ap (λ o. ordering_then o (nat_cmp a b)) (tied_itself nat_list_cmp_total prefix)
 
-not_above : (a b : ℕ) → a ≤ b → is_gt (nat_cmp a b) ≡ false
+pub not_above : (a b : ℕ) → a ≤ b → is_gt (nat_cmp a b) ≡ false
 not_above a b h = by (nat_cmp a b) (ranked a b (nat_cmp a b) refl)
   where
     by : (o : Ordering) → MatchOrdering o (a < b) (a ≡ b) (b < a) → is_gt o ≡ false

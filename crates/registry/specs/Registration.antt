@@ -66,6 +66,10 @@ with_endpoint endpoints e =
 abbrev pub without_endpoint : List EndpointParts → List ℕ → List EndpointParts
 without_endpoint endpoints id = filter (λ e. not (has_id id e)) endpoints
 
+-- the endpoints whose zone is a local one, in order
+abbrev pub kept_zones : List Command → List EndpointParts → List EndpointParts
+kept_zones commands endpoints = filter (λ e. is_local commands e.zone) endpoints
+
 -- the endpoint in the zone that it means
 abbrev pub in_zone_meant : List Command → EndpointParts → EndpointParts
 in_zone_meant commands e = record e { zone = zone_meant commands e.zone }
@@ -100,6 +104,10 @@ unregistered_in r id =
     if is_registered r.endpoints id
     then Ok (record r { endpoints = without_endpoint r.endpoints id })
     else Err NotRegistered
+
+-- the registry with those endpoints alone whose zone is a local one
+abbrev pub with_kept_zones : List Command → RegistryParts → RegistryParts
+with_kept_zones commands r = record r { endpoints = kept_zones commands r.endpoints }
 
 -- ---- what every registry keeps
 -- endpoints with different IDs

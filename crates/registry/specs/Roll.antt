@@ -1,5 +1,5 @@
 -- Endpoints under their numbers, in order of registration, and the number of each ID.
-use Rattle.std.specs.Prelude.{◌≡◌, ◌<◌, ◌⊎◌, ℕ, ◌==◌, Bool, true, false, cond, List, map, Option, Some, None, bytes_eq}
+use Rattle.std.specs.Prelude.{◌≡◌, ◌<◌, ◌≤◌, ◌⊎◌, ℕ, ◌+◌, ◌^◌, ◌==◌, Bool, true, false, cond, List, map, Option, Some, None, bytes_eq}
 use Rattle.std.specs.Ordering.{nat_cmp}
 use Rattle.std.specs.BTreeMap.{is_at}
 use Rattle.std.specs.List.{IsDistinct}
@@ -84,3 +84,16 @@ pub record IsTakenOut (old new : Entries) (id : List ℕ) : Type 0 where
 abbrev pub IsSetAt : Numbered → Numbered → ℕ → Option EndpointParts → Type 0
 IsSetAt old new number e =
     (other : ℕ) → at_number new other ≡ cond (is_at (nat_cmp number) other) e (at_number old other)
+
+-- no endpoint has a number from this one on
+abbrev pub NoneFrom : Numbered → ℕ → Type 0
+NoneFrom entries from = (number : ℕ) → from ≤ number → at_number entries number ≡ None
+
+-- the endpoint of the least number from here on, which is the number of its ID
+pub record IsNextFrom (r : RollParts) (from number : ℕ) (e : EndpointParts) : Type 0 where
+  pub there : at_number r.entries number ≡ Some e
+  pub from_here : from ≤ number
+  pub least : (other : ℕ) → from ≤ other → other < number → at_number r.entries other ≡ None
+  pub own : IsNumberFor r e.id number
+  pub below : number < r.next
+  pub room : number + 1 < 2 ^ 32

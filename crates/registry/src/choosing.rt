@@ -51,7 +51,7 @@ fn first_unnamed(
     let mut from = 0;
     while let Some(number) = listing.next_serving(zone, prefix, from) {
         let endpoint = listing.at_number(number)?;
-        if !named.contains_key(&endpoint.id()) {
+        if !named.contains_key(endpoint.id()) {
             return Some((USUAL_GATEWAY_PRIORITY, number));
         }
         prove!(number < end);

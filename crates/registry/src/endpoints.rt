@@ -157,17 +157,17 @@ impl Endpoint {
     }
 
     /// Its ID.
-    pub fn id(&self) -> Name
-        ensures { result ≡ self.now.id }
+    pub fn id(&self) -> &Name
+        ensures { result.now ≡ self.now.id }
     {
-        self.id
+        &self.id
     }
 
     /// The zone in which it registers.
-    pub fn zone(&self) -> Name
-        ensures { result ≡ self.now.zone }
+    pub fn zone(&self) -> &Name
+        ensures { result.now ≡ self.now.zone }
     {
-        self.zone
+        &self.zone
     }
 
     /// Its call signalling address.

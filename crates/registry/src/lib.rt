@@ -7,6 +7,9 @@ mod choosing;
 mod endpoint_tests;
 pub mod endpoints;
 pub mod faults;
+mod keeping;
+#[cfg(test)]
+mod keeping_tests;
 pub mod laws;
 mod listing;
 pub mod registry;

@@ -8,7 +8,7 @@ ghost use Rattle.std.specs.List.Sorted.{IsStrictlySortedBy};
 ghost use Rattle.std.specs.Map.{keys_of, values_of};
 ghost use Rattle.registry.specs.RegistryIndex.{kept_endpoint_of};
 ghost use Rattle.registry.specs.Listing.{IsNextServing, NoneServes};
-ghost use Rattle.registry.specs.Roll.{IsNumberFor, IsPut, IsTakenOut, at_number, by_id};
+ghost use Rattle.registry.specs.Roll.{IsNextFrom, IsNumberFor, IsPut, IsSetAt, IsTakenOut, NoneFrom, at_number, by_id};
 
 use crate::endpoints::Endpoint;
 use crate::roll::Roll;
@@ -97,6 +97,15 @@ impl Listing {
         self.roll.number(id)
     }
 
+    /// The endpoint of the least number from this one on, with that number.
+    pub fn next_from(&self, from: u32) -> Option<(u32, &Endpoint)>
+        ensures next { MatchOption result (NoneFrom self.now.entries from)
+            (λ found. IsNextFrom self.now from found.0 found.1.now) }
+        ensures sorted { IsStrictlySortedBy nat_cmp (keys_of self.now.entries) }
+    {
+        self.roll.next_from(from)
+    }
+
     /// The least number, from this one on, of a gateway that serves the zone with the prefix.
     pub fn next_serving(&self, zone: &Name, prefix: &TechPrefix, from: u32) -> Option<u32>
         ensures { MatchOption result
@@ -125,7 +134,7 @@ impl Listing {
         ensures next { self.new.next ≤ self.old.next + 1 }
         ensures err { OnErr result (self.new ≡ self.old) }
     {
-        let number = self.roll.number_for(&endpoint.id());
+        let number = self.roll.number_for(endpoint.id());
         if self.served.enter(number, &endpoint).is_err() {
             self.served
                 .leave(number, Some(&endpoint), self.roll.at_number(number));
@@ -149,6 +158,8 @@ impl Listing {
     pub fn remove(&mut self, id: &Name) -> Option<Endpoint>
         ensures removed { result ≡ kept_endpoint_of (by_id self.old.entries) id.now }
         ensures entries { IsTakenOut (by_id self.old.entries) (by_id self.new.entries) id.now }
+        ensures numbered { (number : _) → IsNumberFor self.old id.now number
+            → IsSetAt self.old.entries self.new.entries number None }
         ensures next { self.new.next ≡ self.old.next }
     {
         let number = self.roll.number_for(id);

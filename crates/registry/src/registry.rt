@@ -4,13 +4,14 @@ ghost use Rattle.std.specs.Prelude.{◌≡◌, [], Some, false, length, slice_ge
 ghost use Rattle.std.specs.Option.{option_copied};
 ghost use Rattle.gk_terms.specs.Outcome.{Changes, ChangesUnlessMemory};
 ghost use Rattle.registry.specs.declared.faults.RegistryFault.TheVariants.{NoMemory};
-ghost use Rattle.registry.specs.Registration.{IsRegistry, endpoint_of, is_registered, by_alias, is_full_for, alias_is_taken, registration_fault, registered_in, unregistered_in};
+ghost use Rattle.registry.specs.Registration.{IsRegistry, endpoint_of, is_registered, by_alias, is_full_for, alias_is_taken, registration_fault, registered_in, unregistered_in, with_kept_zones};
 ghost use Rattle.compiler.specs.Plan.{row_meant};
 ghost use Rattle.registry.specs.Gateway.{gateway_of};
 ghost use Rattle.registry.specs.Registering.{fault_among, placed_in, registered_among};
 
 use crate::endpoints::Endpoint;
 use crate::faults::{Duplicate, RegistryFault};
+use crate::keeping;
 use crate::shelf::Shelf;
 use compiler::{RowNo, Tables};
 use gk_terms::{Dialled, Name, TechPrefix};
@@ -119,7 +120,7 @@ impl Registry {
         ensures { result
             ≡ registration_fault tables.now.commands self.now.endpoints endpoint.now }
     {
-        self.fault_among(endpoint, tables.local_zone(&endpoint.zone()))
+        self.fault_among(endpoint, tables.local_zone(endpoint.zone()))
     }
 
     /// Registers the endpoint in the zone that it means: in the place of the one with its ID, or
@@ -130,7 +131,7 @@ impl Registry {
         ensures { ChangesUnlessMemory NoMemory self.old self.new
             (registered_in tables.now.commands self.old endpoint) result }
     {
-        let zone = tables.local_zone(&endpoint.zone());
+        let zone = tables.local_zone(endpoint.zone());
         self.register_in(endpoint, zone)
     }
 
@@ -144,6 +145,15 @@ impl Registry {
             Some(endpoint) => Ok(endpoint),
             None => Err(RegistryFault::NotRegistered),
         }
+    }
+
+    /// Takes out each endpoint whose zone is not a local zone of these tables; the others stay in
+    /// order. Takes no memory. The time grows with the number of the endpoints: each is looked at
+    /// once, since any of them may be in a zone that has gone.
+    pub fn keep_zones(&mut self, tables: &Tables)
+        ensures { self.new ≡ with_kept_zones tables.now.commands self.old }
+    {
+        keeping::keep_zones(&mut self.shelf, tables);
     }
 
     /// An equal registry. `AllocError` comes only if memory runs out.
@@ -178,7 +188,7 @@ impl Registry {
     fn is_full_for(&self, endpoint: &Endpoint) -> bool
         ensures { result ≡ is_full_for self.now endpoint.now }
     {
-        !self.shelf.is_registered(&endpoint.id()) && self.most as usize <= self.shelf.len()
+        !self.shelf.is_registered(endpoint.id()) && self.most as usize <= self.shelf.len()
     }
 
     /// Registers the endpoint in the local zone that was looked up for it, if there is one.

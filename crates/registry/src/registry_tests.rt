@@ -16,30 +16,36 @@ const LINES: &str = "zone local a d\nzone local b d\nzone remote r d 10.9.0.1\n\
     zone prefix a 408* gw-priority 10 g3\nzone prefix a 408* gw-priority 0 g1\n\
     gw-type-prefix 1#\n";
 
-/// The tables of the lines.
-fn tables_of(rt: &impl Abort, alloc: Global) -> Result<Tables, Fail> {
-    let Ok(commands) = read(alloc, LINES.as_bytes()) else {
+/// The tables of these lines.
+pub fn tables_of(rt: &impl Abort, alloc: Global, lines: &str) -> Result<Tables, Fail> {
+    let Ok(commands) = read(alloc, lines.as_bytes()) else {
         panic!(rt; "refused");
     };
     Ok(Tables::compile(alloc, commands)?)
 }
 
 /// A terminal with one alias.
-fn terminal(alloc: Global, id: &str, zone: &str, host: u8, alias: &str) -> Result<Endpoint, Fail> {
+pub fn terminal(
+    alloc: Global,
+    id: &str,
+    zone: &str,
+    host: u8,
+    alias: &str,
+) -> Result<Endpoint, Fail> {
     let mut endpoint = endpoint_of(alloc, EndpointKind::Terminal, id, zone, host)?;
     endpoint.add_alias(Dialled::read(alias.as_bytes())?)?;
     Ok(endpoint)
 }
 
 /// A gateway of zone a with the prefix 1#.
-fn gateway(alloc: Global, id: &str, host: u8) -> Result<Endpoint, Fail> {
+pub fn gateway(alloc: Global, id: &str, host: u8) -> Result<Endpoint, Fail> {
     let mut endpoint = endpoint_of(alloc, EndpointKind::Gateway, id, "a", host)?;
     endpoint.add_technology(TechPrefix::read(b"1#")?)?;
     Ok(endpoint)
 }
 
 /// The endpoint at this place has this ID.
-fn assert_at(rt: &impl Abort, registry: &Registry, place: usize, id: &str) {
+pub fn assert_at(rt: &impl Abort, registry: &Registry, place: usize, id: &str) {
     match registry.at(place) {
         Some(endpoint) => assert_eq!(rt; endpoint.id().as_str(), id),
         None => panic!(rt; "no endpoint at {place}"),
@@ -47,7 +53,7 @@ fn assert_at(rt: &impl Abort, registry: &Registry, place: usize, id: &str) {
 }
 
 /// Registers an endpoint.
-fn register(
+pub fn register(
     registry: &mut Registry,
     tables: &Tables,
     endpoint: Result<Endpoint, Fail>,
@@ -74,7 +80,7 @@ fn register_two(registry: &mut Registry, tables: &Tables, alloc: Global) -> Resu
 }
 
 /// Whether a zone has an endpoint with this alias.
-fn is_found(registry: &Registry, zone: &str, alias: &str) -> Result<bool, Fail> {
+pub fn is_found(registry: &Registry, zone: &str, alias: &str) -> Result<bool, Fail> {
     let zone = Name::read(zone.as_bytes())?;
     let alias = Dialled::read(alias.as_bytes())?;
     Ok(registry.by_alias(&zone, &alias).is_some())
@@ -159,7 +165,7 @@ fn assert_gone(
     let id = Name::read(b"ta")?;
     assert!(rt; registry.endpoint(&id).is_some());
     let gone = registry.unregister(&id)?;
-    assert_eq!(rt; gone.id(), id);
+    assert_eq!(rt; *gone.id(), id);
     assert_eq!(rt; gone.aliases().len(), 1);
     assert!(rt; !registry.is_registered(&id));
     assert_at(rt, registry, 0, "tb");
@@ -173,14 +179,14 @@ fn assert_gone(
 #[test]
 fn refuses_in_order(rt: HostRuntime) -> Result<(), Fail> {
     let alloc = rt.alloc();
-    let tables = tables_of(&rt, alloc)?;
+    let tables = tables_of(&rt, alloc, LINES)?;
     assert_order(&rt, &mut Registry::new(alloc, 2), &tables, alloc)
 }
 
 #[test]
 fn keeps_the_place(rt: HostRuntime) -> Result<(), Fail> {
     let alloc = rt.alloc();
-    let tables = tables_of(&rt, alloc)?;
+    let tables = tables_of(&rt, alloc, LINES)?;
     let mut registry = Registry::new(alloc, 2);
     assert_place(&rt, &mut registry, &tables, alloc)?;
     assert_order_of_two(&rt, &registry.copy()?);
@@ -190,12 +196,12 @@ fn keeps_the_place(rt: HostRuntime) -> Result<(), Fail> {
 #[test]
 fn unregisters(rt: HostRuntime) -> Result<(), Fail> {
     let alloc = rt.alloc();
-    let tables = tables_of(&rt, alloc)?;
+    let tables = tables_of(&rt, alloc, LINES)?;
     assert_gone(&rt, &mut Registry::new(alloc, 2), &tables, alloc)
 }
 
 /// The gateway that is chosen in zone a for the prefix 1# by the row.
-fn assert_chosen(
+pub fn assert_chosen(
     rt: &impl Abort,
     registry: &Registry,
     tables: &Tables,
@@ -238,6 +244,6 @@ fn assert_choices(
 #[test]
 fn chooses_gateways(rt: HostRuntime) -> Result<(), Fail> {
     let alloc = rt.alloc();
-    let tables = tables_of(&rt, alloc)?;
+    let tables = tables_of(&rt, alloc, LINES)?;
     assert_choices(&rt, &mut Registry::new(alloc, 9), &tables, alloc)
 }

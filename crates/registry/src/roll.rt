@@ -7,7 +7,7 @@ ghost use Rattle.std.specs.List.{IsDistinct};
 ghost use Rattle.std.specs.List.Sorted.{IsStrictlySortedBy};
 ghost use Rattle.std.specs.Map.{keys_of, values_of};
 ghost use Rattle.registry.specs.RegistryIndex.{kept_endpoint_of};
-ghost use Rattle.registry.specs.Roll.{IsNumberFor, IsPut, IsTakenOut, IsSetAt, at_number, by_id};
+ghost use Rattle.registry.specs.Roll.{IsNextFrom, IsNumberFor, IsPut, IsTakenOut, IsSetAt, NoneFrom, at_number, by_id};
 
 use crate::endpoints::Endpoint;
 use gk_terms::Name;
@@ -109,6 +109,18 @@ impl Roll {
         self.endpoints.get(&number)
     }
 
+    /// The endpoint of the least number from this one on, with that number.
+    pub fn next_from(&self, from: u32) -> Option<(u32, &Endpoint)>
+        ensures next { MatchOption result (NoneFrom self.now.entries from)
+            (λ found. IsNextFrom self.now from found.0 found.1.now) }
+        ensures sorted { IsStrictlySortedBy nat_cmp (keys_of self.now.entries) }
+    {
+        // So it is known that no number in use is the greatest u32.
+        let _next = self.next;
+        let (number, endpoint) = self.endpoints.range(from..).next()?;
+        Some((*number, endpoint))
+    }
+
     /// The endpoints, in order.
     pub fn endpoints(&self) -> Values<'_, u32, Endpoint>
         ensures value { result ≡ values_of self.now.entries }
@@ -131,7 +143,7 @@ impl Roll {
         ensures err { OnErr result (self.new ≡ self.old) }
         ensures back { IfErr result (λ back. back ≡ endpoint) }
     {
-        let id = endpoint.id();
+        let id = *endpoint.id();
         if self.numbers.reserve(1).is_err() {
             return Err(endpoint);
         }

@@ -115,7 +115,7 @@ impl Served {
     {
         match endpoint.kind() {
             EndpointKind::Gateway => {
-                self.add_each(endpoint.zone(), endpoint.technologies(), number)
+                self.add_each(*endpoint.zone(), endpoint.technologies(), number)
             }
             EndpointKind::Terminal => Ok(()),
         }
@@ -137,7 +137,7 @@ impl Served {
     {
         match gone.kind() {
             EndpointKind::Gateway => {
-                self.take_out_each(gone.zone(), gone.technologies(), number, kept);
+                self.take_out_each(*gone.zone(), gone.technologies(), number, kept);
             }
             EndpointKind::Terminal => {}
         }
@@ -151,7 +151,7 @@ pub fn serves(endpoint: Option<&Endpoint>, zone: &Name, prefix: &TechPrefix) -> 
     match endpoint {
         Some(endpoint) => {
             endpoint.kind() == EndpointKind::Gateway
-                && endpoint.zone() == *zone
+                && *endpoint.zone() == *zone
                 && endpoint.has_technology(prefix)
         }
         None => false,

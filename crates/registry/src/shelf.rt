@@ -1,14 +1,17 @@
 //! Endpoints in order of registration, found by ID and by alias.
 
-ghost use Rattle.std.specs.Prelude.{◌≡◌, ◌<◌, ◌≤◌, ◌+◌, ◌^◌, [], None, false, length, slice_get, OnOk, OnErr, IfOk};
+ghost use Rattle.std.specs.Prelude.{◌≡◌, ◌<◌, ◌≤◌, ◌+◌, ◌^◌, [], None, false, length, slice_get, OnOk, OnErr, IfOk, MatchOption};
 ghost use Rattle.std.specs.Option.{option_copied};
+ghost use Rattle.std.specs.Ordering.{nat_cmp};
 ghost use Rattle.std.specs.List.{list_any};
+ghost use Rattle.std.specs.List.Sorted.{IsStrictlySortedBy};
+ghost use Rattle.std.specs.Map.{keys_of};
 ghost use Rattle.std.specs.HashMap.{spare};
 ghost use Rattle.compiler.specs.Priority.{named_priority};
 ghost use Rattle.registry.specs.Registration.{HaveDifferentIds, ShareNoAlias, endpoint_of, by_alias, is_registered, id_is_taken, alias_is_taken, with_endpoint, without_endpoint};
 ghost use Rattle.registry.specs.RegistryIndex.{Forgets, LeadTo, aliases_of, is_another, owner_of};
 ghost use Rattle.registry.specs.Gateway.{gateway_by};
-ghost use Rattle.registry.specs.Roll.{endpoints_of};
+ghost use Rattle.registry.specs.Roll.{IsNextFrom, IsNumberFor, IsSetAt, NoneFrom, endpoints_of};
 
 use crate::choosing;
 use crate::endpoints::Endpoint;
@@ -86,12 +89,21 @@ impl Shelf {
         self.listing.has(id)
     }
 
+    /// The endpoint of the least number from this one on, with that number.
+    pub fn next_from(&self, from: u32) -> Option<(u32, &Endpoint)>
+        ensures next { MatchOption result (NoneFrom self.now.entries from)
+            (λ found. IsNextFrom self.now from found.0 found.1.now) }
+        ensures sorted { IsStrictlySortedBy nat_cmp (keys_of self.now.entries) }
+    {
+        self.listing.next_from(from)
+    }
+
     /// The endpoint of that zone with that E.164 alias.
     pub fn by_alias(&self, zone: &Name, number: &Dialled) -> Option<&Endpoint>
         ensures { option_copied result ≡ by_alias (endpoints_of self.now) zone.now number.now }
     {
         let endpoint = self.listing.get(self.owners.get(number)?)?;
-        if endpoint.zone() == *zone {
+        if *endpoint.zone() == *zone {
             Some(endpoint)
         } else {
             None
@@ -117,7 +129,7 @@ impl Shelf {
     pub fn id_is_taken(&self, endpoint: &Endpoint) -> bool
         ensures { result ≡ id_is_taken (endpoints_of self.now) endpoint.now }
     {
-        match self.listing.get(&endpoint.id()) {
+        match self.listing.get(endpoint.id()) {
             Some(other) => other.address() != endpoint.address(),
             None => false,
         }
@@ -127,7 +139,7 @@ impl Shelf {
     pub fn alias_is_taken(&self, endpoint: &Endpoint) -> bool
         ensures { result ≡ alias_is_taken (endpoints_of self.now) endpoint.now }
     {
-        is_any_anothers(&self.owners, endpoint.aliases(), &endpoint.id())
+        is_any_anothers(&self.owners, endpoint.aliases(), endpoint.id())
     }
 
     /// Puts the endpoint in the place of the one with its ID, or else at the end. None of its
@@ -172,7 +184,7 @@ impl Shelf {
         ensures next { self.new.next ≤ self.old.next + 1 }
     {
         self.owners.reserve(endpoint.aliases().len())?;
-        let id = endpoint.id();
+        let id = *endpoint.id();
         let replaced = self.listing.insert(endpoint)?;
         forget_aliases_of(&mut self.owners, replaced.as_ref());
         lead_aliases_of(&mut self.owners, self.listing.get(&id), &id);
@@ -184,6 +196,9 @@ impl Shelf {
         ensures without { endpoints_of self.new
             ≡ without_endpoint (endpoints_of self.old) id.now }
         ensures removed { result ≡ endpoint_of (endpoints_of self.old) id.now }
+        ensures numbered { (number : _) → IsNumberFor self.old id.now number
+            → IsSetAt self.old.entries self.new.entries number None }
+        ensures next { self.new.next ≡ self.old.next }
     {
         let removed = self.listing.remove(id);
         forget_aliases_of(&mut self.owners, removed.as_ref());

@@ -8,7 +8,7 @@ pub loop-line-preserved : goal.loop-line-preserved
 loop-line-preserved g c = record {
   counted = omega (arith, c.loop-line.invariant.counted, c.in_ok-next_line.ensures.progress c.if-branch.true);
   ended = c.in_ok-next_line.ensures.ended;
-  under_way = session_answers g.A.Answerer.may_answer _ _ _ _ _ _ _ _ _ _ _ _ _ _ (c.in_ok-next_line.ensures.unended_line c.if-branch.true) c.loop-line.invariant.under_way (c.in_ok-next_line.ensures.line c.if-branch.true) (rw c.content.ensures at c.in-Some.ensures) c.in_ok-send-in-Some.ensures.whole;
+  under_way = session_answers g.A.Answerer.may_answer _ _ _ _ _ _ _ _ _ _ _ _ _ _ (c.in_ok-next_line.ensures.unended_line c.if-branch.true) c.loop-line.invariant.under_way (c.in_ok-next_line.ensures.line c.if-branch.true) (rw (c.content.ensures, c.in-Some.is) at c.answer_to.ensures) c.in_ok-send-in-Some.ensures.whole;
   turns = turns_then _ _ _ _ _ _ c.loop-line.invariant.turns c.next_line.ensures.turns;
   reader_noted = c.in_ok-next_line.ensures.noted ∙ c.loop-line.invariant.reader_noted;
   writer_noted = c.in_ok-send-in-Some.ensures.noted ∙ c.loop-line.invariant.writer_noted;
@@ -18,7 +18,7 @@ pub loop-line-preserved-in-None : goal.loop-line-preserved-in-None
 loop-line-preserved-in-None g c = record {
   counted = omega (arith, c.loop-line.invariant.counted, c.in_ok-next_line.ensures.progress c.if-branch.true);
   ended = c.in_ok-next_line.ensures.ended;
-  under_way = session_passes g.A.Answerer.may_answer _ _ _ _ _ _ _ _ _ _ _ _ (c.in_ok-next_line.ensures.unended_line c.if-branch.true) c.loop-line.invariant.under_way (c.in_ok-next_line.ensures.line c.if-branch.true) (rw c.content.ensures at c.in-None.ensures);
+  under_way = session_passes g.A.Answerer.may_answer _ _ _ _ _ _ _ _ _ _ _ _ (c.in_ok-next_line.ensures.unended_line c.if-branch.true) c.loop-line.invariant.under_way (c.in_ok-next_line.ensures.line c.if-branch.true) (rw (c.content.ensures, c.in-None.is) at c.answer_to.ensures);
   turns = turns_then _ _ _ _ _ _ c.loop-line.invariant.turns c.next_line.ensures.turns;
   reader_noted = c.in_ok-next_line.ensures.noted ∙ c.loop-line.invariant.reader_noted;
   writer_noted = c.loop-line.invariant.writer_noted;
@@ -39,7 +39,7 @@ pub returns-in_err-send-in-Some-clause-written : goal.returns-in_err-send-in-Som
 returns-in_err-send-in-Some-clause-written g c =
     let p = err_from_is_err_and c.from_residual-in_err-send-in-Some.result c.from_residual-in_err-send-in-Some.ensures.1 in
     rw (p.1, p.2)
-    (session_cut g.A.Answerer.may_answer _ _ _ _ _ _ _ _ _ _ _ _ _ _ _ (c.in_ok-next_line.ensures.unended_line c.if-branch.true) c.loop-line.invariant.under_way (c.in_ok-next_line.ensures.line c.if-branch.true) (rw c.content.ensures at c.in-Some.ensures) c.in_err-send-in-Some.ensures.front)
+    (session_cut g.A.Answerer.may_answer _ _ _ _ _ _ _ _ _ _ _ _ _ _ _ (c.in_ok-next_line.ensures.unended_line c.if-branch.true) c.loop-line.invariant.under_way (c.in_ok-next_line.ensures.line c.if-branch.true) (rw (c.content.ensures, c.in-Some.is) at c.answer_to.ensures) c.in_err-send-in-Some.ensures.front)
 
 pub loop-line-init : goal.loop-line-init
 loop-line-init g c = record {

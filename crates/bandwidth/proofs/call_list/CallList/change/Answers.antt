@@ -21,7 +21,7 @@ invariant_of-self c = elim c.match-get_mut.branch [
       let its = c.value-units.ensures in
       let fits : c.args.units < 2 ^ 32 = omega (arith, few, its) in
       let wrote = c.get_mut.follows.holds (record held { units = c.args.units }) in
-      subst (λ l. IsCallList l.calls.entries) (sym w.self-inside-is) (record {
+      subst (λ l. IsCallList l.calls.entries) (sym w.self-inside-is) (rw w.set_units.ensures (record {
         numbered = subst (λ es. AllByRecursion IsUnderNumber es) (sym wrote.0)
             (numbered_changed number (record held { units = c.args.units })
             (record {
@@ -29,7 +29,7 @@ invariant_of-self c = elim c.match-get_mut.branch [
               small = fits;
             }) entries c.self.invariant.numbered);
         sorted = wrote.4;
-      })
+      }))
   | in_default w ↦
       subst (λ l. IsCallList l.calls.entries) (sym w.self-inside-is)
       (subst (λ m. IsCallList m.entries) (sym c.get_mut.follows.holds-at-none) c.self.invariant)
@@ -46,10 +46,10 @@ returns c = elim c.match-get_mut.branch [
       sym (found entries c.self.invariant.numbered number) ∙ sym w.in-Some.ensures.value in
       let wrote = c.get_mut.follows.holds (record held { units = units }) in
       ap (λ l. values_of l.calls.entries) w.self-inside-is
-      ∙ ap values_of wrote.0
+      ∙ rw w.set_units.ensures (ap values_of wrote.0
       ∙ list_changed number units held entries c.self.invariant.numbered c.self.invariant.sorted
       there
-      ∙ ap (λ calls. with_changed calls number units) c.self.view_is
+      ∙ ap (λ calls. with_changed calls number units) c.self.view_is)
   | in_default w ↦
       let number = c.args.number in
       let units = c.args.units in

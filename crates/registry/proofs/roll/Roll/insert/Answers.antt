@@ -14,7 +14,7 @@ invariant_of-self-then-number-self c =
     let numbered = MatchResult-at_ok _ _ _ c.unwrap.ensures c.insert-numbered.ensures.updates in
     roll_put c.self.inside.endpoints.entries c.insert.new.self.entries
     c.self.inside.numbers.entries c.reserve.new.self.entries c.self.inside.next c.self.invariant
-    c.reserve.ensures.entries.2 c.insert-numbered.new.self.entries c.args.endpoint c.id-id.result
+    c.reserve.ensures.entries.2 c.insert-numbered.new.self.entries c.args.endpoint c.id-id.result.now
     number c.id-id.ensures fits c.in-Ok.ensures.updates.0 numbered.0 c.insert.ensures.ordered
     (number + 1) (omega (arith, last)) (omega arith)
 
@@ -26,7 +26,7 @@ invariant_of-self-else-number-self c =
     let numbered = MatchResult-at_ok _ _ _ c.unwrap.ensures c.insert-numbered.ensures.updates in
     roll_put c.self.inside.endpoints.entries c.insert.new.self.entries
     c.self.inside.numbers.entries c.reserve.new.self.entries c.self.inside.next c.self.invariant
-    c.reserve.ensures.entries.2 c.insert-numbered.new.self.entries c.args.endpoint c.id-id.result
+    c.reserve.ensures.entries.2 c.insert-numbered.new.self.entries c.args.endpoint c.id-id.result.now
     number c.id-id.ensures fits c.in-Ok.ensures.updates.0 numbered.0 c.insert.ensures.ordered
     c.self.inside.next (omega arith)
     (less_than_next c.self.inside.endpoints.entries c.self.inside.numbers.entries
@@ -47,7 +47,7 @@ returns-after-number-self-clause-ok c =
     let numbered = MatchResult-at_ok _ _ _ c.unwrap.ensures c.insert-numbered.ensures.updates in
     let put = put_among c.self.inside.endpoints.entries c.insert.new.self.entries
     c.self.inside.numbers.entries c.reserve.new.self.entries c.self.inside.next c.self.invariant
-    c.reserve.ensures.entries.2 c.insert-numbered.new.self.entries e c.id-id.result
+    c.reserve.ensures.entries.2 c.insert-numbered.new.self.entries e c.id-id.result.now
     number c.id-id.ensures fits c.in-Ok.ensures.updates.0 numbered.0 c.insert.ensures.ordered
     c.in-Ok.ensures.entries in
     let old = ap (λ r. r.entries) c.self.view_is in

@@ -10,7 +10,7 @@ returns-in-Gateway-clause-ok c =
     let new = c.add_each.new.self in
     at_ok (λ adds. gateway_enters e c.args.number old new (sym c.in-Gateway.ensures)
     (subst (λ zone. Adds old new c.args.number zone e.technologies) c.zone.ensures
-    (subst (Adds old new c.args.number c.zone.result) c.technologies.ensures.value adds)))
+    (subst (Adds old new c.args.number c.zone.result.now) c.technologies.ensures.value adds)))
     c.add_each.result c.add_each.ensures.ok
 
 pub returns-in-Gateway-clause-err : goal.returns-in-Gateway-clause-err
@@ -20,7 +20,7 @@ returns-in-Gateway-clause-err c =
     let new = c.add_each.new.self in
     at_err (λ adds. gateway_may_enter e c.args.number old new (sym c.in-Gateway.ensures)
     (subst (λ zone. MayAdd old new c.args.number zone e.technologies) c.zone.ensures
-    (subst (MayAdd old new c.args.number c.zone.result) c.technologies.ensures.value adds)))
+    (subst (MayAdd old new c.args.number c.zone.result.now) c.technologies.ensures.value adds)))
     c.add_each.result c.add_each.ensures.err
 
 pub returns-in-Terminal-clause-ok : goal.returns-in-Terminal-clause-ok

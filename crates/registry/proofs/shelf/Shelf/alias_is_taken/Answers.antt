@@ -12,7 +12,7 @@ returns c =
     let e = c.args.endpoint.now in
     let owners = c.self.inside.owners.entries in
     c.is_any_anothers.ensures
-    ∙ ap (list_any (λ alias. is_another c.id.result (owner_of owners alias)))
+    ∙ ap (list_any (λ alias. is_another c.id.result.now (owner_of owners alias)))
     c.aliases.ensures.value
     ∙ ap (λ id. list_any (λ alias. is_another id (owner_of owners alias)) e.aliases) c.id.ensures
     ∙ sym (aliases_taken (by_id c.self.inside.listing.entries) owners c.self.invariant e)

@@ -27,8 +27,8 @@ invariant_of-self-2 c =
     (subst (λ found. Forgets owners rest (aliases_of found))
     (c.as_ref.ensures.value ∙ c.in_ok-replaced.ensures.replaced)
     c.forget_aliases_of.ensures.forgets)
-    (subst (λ id. LeadTo rest all (aliases_of (kept_endpoint_of (by_id new) id)) id) c.id-id.ensures
-    (subst (λ found. LeadTo rest all (aliases_of found) c.id-id.result) c.get.ensures
+    (subst (λ id. LeadTo rest all (aliases_of (kept_endpoint_of (by_id new) id)) id) c.id.ensures
+    (subst (λ found. LeadTo rest all (aliases_of found) c.id.result.now) c.get.ensures
     c.lead_aliases_of.ensures))
 
 pub returns-clause-ok : goal.returns-clause-ok

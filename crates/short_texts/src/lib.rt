@@ -1,0 +1,10 @@
+//! Short texts in few bytes: for a record that keeps very many of them.
+#![tactic(auto)]
+
+pub mod packed_digits;
+pub mod short_names;
+#[cfg(test)]
+mod tests;
+
+pub use packed_digits::PackedDigits;
+pub use short_names::{SHORT_NAME, ShortName};
