@@ -2,20 +2,14 @@
 #![tactic(auto)]
 
 mod calling;
-#[cfg(test)]
-mod core_tests;
 pub mod cores;
 mod counts;
 pub mod events;
 pub mod laws;
-#[cfg(test)]
-mod laws_tests;
 pub mod limits;
 mod machine;
 mod packing;
 pub mod record;
-#[cfg(test)]
-mod record_tests;
 mod registering;
 pub mod replies;
 pub mod routes;
@@ -23,8 +17,6 @@ pub mod routing;
 mod rulings;
 mod settling;
 mod slots;
-#[cfg(test)]
-mod test_cores;
 mod verdicts;
 
 pub use cores::{Core, OpeningFault};

@@ -18,6 +18,7 @@ use pieces::Pieces;
 use std::alloc::{AllocError, Global};
 use std::borrow::Cow;
 use std::marker::Model;
+use std::mem::size_of;
 
 /// One recorded event with its reply.
 #[derive(Drop)]
@@ -163,6 +164,12 @@ impl Record {
             registrations: Pieces::new(alloc),
             kept: 0,
         }
+    }
+
+    /// How many bytes of the record an entry takes that stands in few bytes, as that of a granted
+    /// admission does if no name in it has more than 19 characters.
+    pub fn slot_bytes() -> usize {
+        size_of::<HeldSlot>()
     }
 
     /// How many entries there are.

@@ -3,12 +3,8 @@
 #![tactic(auto)]
 
 mod call_list;
-#[cfg(test)]
-mod calls_tests;
 pub mod faults;
 pub mod fits;
-#[cfg(test)]
-mod fits_tests;
 mod held_call;
 pub mod laws;
 mod named;
@@ -16,8 +12,6 @@ pub mod open_call;
 pub mod open_calls;
 pub mod over;
 mod owner_counts;
-#[cfg(test)]
-mod random_tests;
 mod step;
 mod sums;
 mod tried_zones;

@@ -2,8 +2,6 @@
 #![tactic(auto)]
 
 mod limit_table;
-#[cfg(test)]
-mod limit_tests;
 pub mod limits;
 mod picking;
 pub mod plans;
@@ -12,8 +10,6 @@ mod rows;
 pub mod tables;
 mod technologies;
 mod technology_map;
-#[cfg(test)]
-mod tests;
 mod zone_table;
 pub mod zones;
 

@@ -7,17 +7,11 @@ pub mod answers;
 mod open_call_requests;
 mod refusal_words;
 mod registrations;
-#[cfg(test)]
-mod reply_tests;
 pub mod request_faults;
 mod request_fields;
 pub mod request_lines;
-#[cfg(test)]
-mod request_tests;
 pub mod requests;
 pub mod session_faults;
-#[cfg(test)]
-mod session_tests;
 pub mod sessions;
 
 pub use answerer::Answerer;

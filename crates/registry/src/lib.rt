@@ -3,18 +3,12 @@
 #![tactic(auto)]
 
 mod choosing;
-#[cfg(test)]
-mod endpoint_tests;
 pub mod endpoints;
 pub mod faults;
 mod keeping;
-#[cfg(test)]
-mod keeping_tests;
 pub mod laws;
 mod listing;
 pub mod registry;
-#[cfg(test)]
-mod registry_tests;
 mod roll;
 mod served;
 mod shelf;

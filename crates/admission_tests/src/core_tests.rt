@@ -1,17 +1,17 @@
 //! The core, event by event: its replies and its state.
 
-use crate::cores::{Core, OpeningFault};
-use crate::events::{Event, EventKind};
-use crate::limits::{Limits, STATED_LIMITS};
-use crate::replies::{
-    AdmitRefusal, ChangeRefusal, RegisterRefusal, ReleaseRefusal, Reply, UnregisterRefusal,
-};
-use crate::routes::{Destination, Route};
-use crate::routing::route;
 use crate::test_cores::{
     BAD_LIMITS, admission, away, core_within, entry, five_events, opening, receipt_of,
     reply_of_unrecorded, terminal,
 };
+use admission::cores::{Core, OpeningFault};
+use admission::events::{Event, EventKind};
+use admission::limits::{Limits, STATED_LIMITS};
+use admission::replies::{
+    AdmitRefusal, ChangeRefusal, RegisterRefusal, ReleaseRefusal, Reply, UnregisterRefusal,
+};
+use admission::routes::{Destination, Route};
+use admission::routing::route;
 use bandwidth::OpenCall;
 use compiler::{Plan, Routed, ZoneNo};
 use gk_terms::{Address, Dialled, Name, Units, Version};

@@ -1,17 +1,15 @@
 //! The record of a core: receipts, and what an entry keeps.
 
-use crate::cores::Core;
-use crate::events::{Event, EventKind};
-use crate::limits::STATED_LIMITS;
-use crate::record::{Entry, Receipt};
-use crate::replies::{AdmitRefusal, ChangeRefusal, RegisterRefusal, Reply, UnregisterRefusal};
-use crate::routes::Route;
-use crate::slots::HeldSlot;
 use crate::test_cores::{admission, away, core_within, entry, five_events, receipt_of, terminal};
+use admission::cores::Core;
+use admission::events::{Event, EventKind};
+use admission::limits::STATED_LIMITS;
+use admission::record::{Entry, Receipt, Record};
+use admission::replies::{AdmitRefusal, ChangeRefusal, RegisterRefusal, Reply, UnregisterRefusal};
+use admission::routes::Route;
 use gk_terms::{Dialled, Name, Units};
 use registry::{Duplicate, Endpoint};
 use std::alloc::Global;
-use std::mem::size_of;
 use std::process::Abort;
 use std::test::Fail;
 
@@ -238,12 +236,17 @@ fn assert_entries(rt: &impl Abort, alloc: Global, core: &mut Core) -> Result<(),
 #[test]
 fn short_and_long_names_read_back(rt: HostRuntime) -> Result<(), Fail> {
     let mut core = core_within(rt.alloc(), STATED_LIMITS)?;
+    assert_names(&rt, rt.alloc(), &mut core)
+}
+
+/// Asserts that the entries of endpoints with short and long IDs read back.
+fn assert_names(rt: &impl Abort, alloc: Global, core: &mut Core) -> Result<(), Fail> {
     for id in [
         b"ta".as_slice(),
         b"terminal-0123456789".as_slice(),
         b"terminal-0123456789a".as_slice(),
     ] {
-        assert_reads_back(&rt, rt.alloc(), &mut core, id)?;
+        assert_reads_back(rt, alloc, core, id)?;
     }
     Ok(())
 }
@@ -349,15 +352,26 @@ fn registrations_read_back(rt: HostRuntime) -> Result<(), Fail> {
             refusal: Some(RegisterRefusal::UnknownZone),
         },
     ] {
-        let mut core = core_within(rt.alloc(), STATED_LIMITS)?;
-        assert_registration(&rt, rt.alloc(), &mut core, &registration)?;
+        assert_first(&rt, rt.alloc(), &registration)?;
     }
     Ok(())
+}
+
+/// Asserts that the first registration of a core reads back.
+fn assert_first(rt: &impl Abort, alloc: Global, registration: &Registration) -> Result<(), Fail> {
+    let mut core = core_within(alloc, STATED_LIMITS)?;
+    assert_registration(rt, alloc, &mut core, registration)
 }
 
 #[test]
 fn refused_duplicates_read_back(rt: HostRuntime) -> Result<(), Fail> {
     let mut core = core_within(rt.alloc(), STATED_LIMITS)?;
+    assert_duplicates(&rt, rt.alloc(), &mut core)
+}
+
+/// Asserts that registrations that are refused as duplicates read back, and so do those beside
+/// them.
+fn assert_duplicates(rt: &impl Abort, alloc: Global, core: &mut Core) -> Result<(), Fail> {
     for (id, host, refusal) in [
         (b"ta".as_slice(), 1, None),
         (
@@ -378,7 +392,7 @@ fn refused_duplicates_read_back(rt: HostRuntime) -> Result<(), Fail> {
             host,
             refusal,
         };
-        assert_registration(&rt, rt.alloc(), &mut core, &registration)?;
+        assert_registration(rt, alloc, core, &registration)?;
     }
     Ok(())
 }
@@ -420,5 +434,6 @@ fn assert_same_endpoint(rt: &impl Abort, endpoint: &Endpoint, same: &Endpoint) {
 
 #[test]
 fn a_slot_takes_at_most_100_bytes(rt: HostRuntime) {
-    assert!(rt; size_of::<HeldSlot>() <= 100, "{}", size_of::<HeldSlot>());
+    let bytes = Record::slot_bytes();
+    assert!(rt; bytes <= 100, "{bytes}");
 }

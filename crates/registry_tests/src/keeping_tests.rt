@@ -1,9 +1,9 @@
 //! Which endpoints stay when there are other zones, by hand calculation.
 
-use crate::registry::Registry;
 use crate::registry_tests::{
     assert_at, assert_chosen, gateway, is_found, register, tables_of, terminal,
 };
+use registry::registry::Registry;
 use std::alloc::Global;
 use std::process::Abort;
 use std::test::Fail;

@@ -1,6 +1,6 @@
 //! The laws do nothing; that they can be called shows that none of them rests on a premise.
 
-use crate::laws;
+use admission::laws;
 
 #[test]
 fn laws_can_be_called(_rt: HostRuntime) {

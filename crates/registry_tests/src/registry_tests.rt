@@ -1,12 +1,12 @@
 //! Registrations, and the gateway that is chosen, by hand calculation.
 
 use crate::endpoint_tests::endpoint_of;
-use crate::endpoints::{Endpoint, EndpointKind};
-use crate::faults::{Duplicate, RegistryFault};
-use crate::registry::Registry;
 use command_reader::read;
 use compiler::{Plan, RowNo, Tables};
 use gk_terms::{Dialled, Name, TechPrefix};
+use registry::endpoints::{Endpoint, EndpointKind};
+use registry::faults::{Duplicate, RegistryFault};
+use registry::registry::Registry;
 use std::alloc::Global;
 use std::process::Abort;
 use std::test::Fail;

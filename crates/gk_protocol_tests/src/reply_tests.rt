@@ -1,8 +1,5 @@
 //! How answers are made as lines, against texts written by hand.
 
-use crate::answer_lines::show;
-use crate::answers::Answer;
-use crate::request_faults::RequestFault as Fault;
 use admission::Duplicate::{E164, Id};
 use admission::{
     AdmitRefusal, ChangeRefusal as Change, Destination as At, RegisterRefusal as Register,
@@ -11,6 +8,9 @@ use admission::{
 use bandwidth::Over;
 use compiler::LimitKind;
 use gk_lines::LineBuffer;
+use gk_protocol::answer_lines::show;
+use gk_protocol::answers::Answer;
+use gk_protocol::request_faults::RequestFault as Fault;
 use gk_terms::{Address, Name, Units};
 use std::process::Abort;
 use std::test::Fail;

@@ -1,15 +1,15 @@
 //! Sessions over readers and writers that do little at a time, or fail.
 
-use crate::answerer::Answerer;
-use crate::answers::Answer;
-use crate::requests::Request;
-use crate::session_faults::SessionFault;
-use crate::sessions::session;
 use admission::{
     AdmitRefusal, ChangeRefusal, RegisterRefusal, ReleaseRefusal, Reply, UnregisterRefusal,
 };
 use gk_lines::fakes::Piecewise;
 use gk_lines::{Noted, Sink, Source};
+use gk_protocol::answerer::Answerer;
+use gk_protocol::answers::Answer;
+use gk_protocol::requests::Request;
+use gk_protocol::session_faults::SessionFault;
+use gk_protocol::sessions::session;
 use std::alloc::Global;
 use std::process::Abort;
 use std::test::Fail;

@@ -1,11 +1,11 @@
 //! What the tests over a core share.
 
-use crate::cores::{Core, OpeningFault};
-use crate::events::Event;
-use crate::limits::{Limits, STATED_LIMITS};
-use crate::record::{Entry, Receipt, Record};
-use crate::replies::Reply;
-use crate::routes::Destination;
+use admission::cores::{Core, OpeningFault};
+use admission::events::Event;
+use admission::limits::{Limits, STATED_LIMITS};
+use admission::record::{Entry, Receipt, Record};
+use admission::replies::Reply;
+use admission::routes::Destination;
 use command_reader::read;
 use compiler::Tables;
 use gk_terms::{Address, Dialled, Name, Units};

@@ -1,8 +1,8 @@
 //! Which lines are requests, by examples from outside.
 
-use crate::request_faults::NoRequest;
-use crate::request_lines::request_in;
-use crate::requests::Request;
+use gk_protocol::request_faults::NoRequest;
+use gk_protocol::request_lines::request_in;
+use gk_protocol::requests::Request;
 use gk_terms::{Address, Name};
 use registry::EndpointKind;
 use std::alloc::{AllocError, Global};

@@ -1,7 +1,7 @@
 //! Faults of single lines and of whole texts.
 
-use crate::FaultKind;
 use crate::test_texts::{assert_fault, assert_line_fault};
+use command_reader::FaultKind;
 use std::test::Fail;
 
 #[test]

@@ -1,8 +1,8 @@
 //! An endpoint's limits and its copy.
 
-use crate::endpoints::{Endpoint, EndpointKind};
-use crate::faults::RegistryFault;
 use gk_terms::{Address, Dialled, Name, TechPrefix};
+use registry::endpoints::{Endpoint, EndpointKind};
+use registry::faults::RegistryFault;
 use std::alloc::Global;
 use std::test::Fail;
 

@@ -1,0 +1,11 @@
+//! The tests of the core and its record, over the public calls of the crate `admission`.
+#![tactic(auto)]
+
+#[cfg(test)]
+mod core_tests;
+#[cfg(test)]
+mod laws_tests;
+#[cfg(test)]
+mod record_tests;
+#[cfg(test)]
+mod test_cores;

@@ -1,0 +1,7 @@
+//! The tests of the compiler, over the public calls of the crate `compiler`.
+#![tactic(auto)]
+
+#[cfg(test)]
+mod limit_tests;
+#[cfg(test)]
+mod tests;

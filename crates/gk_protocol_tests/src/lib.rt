@@ -1,0 +1,9 @@
+//! The tests of the protocol, over the public calls of the crate `gk_protocol`.
+#![tactic(auto)]
+
+#[cfg(test)]
+mod reply_tests;
+#[cfg(test)]
+mod request_tests;
+#[cfg(test)]
+mod session_tests;

@@ -1,0 +1,9 @@
+//! The tests of the registry, over the public calls of the crate `registry`.
+#![tactic(auto)]
+
+#[cfg(test)]
+mod endpoint_tests;
+#[cfg(test)]
+mod keeping_tests;
+#[cfg(test)]
+mod registry_tests;
