@@ -1,7 +1,6 @@
 -- What a session writes for the bytes that it reads, whoever answers.
-use Rattle.std.specs.Prelude.{◌≡◌, ◌⊎◌, ℕ, ◌+◌, ◌==◌, Bool, true, false, nat_le, zero, suc, length, List, [], ◌∷◌, ◌++◌, take, filter, replicate, flat_map, Option, Some, None, Result, Ok, Err, if◌then◌else◌}
-use Rattle.std.specs.List.{list_any}
-use Rattle.gk_terms.specs.Text.{raw_lines_of, content_of, is_too_long}
+use Rattle.std.specs.Prelude.{◌≡◌, ◌⊎◌, ℕ, ◌+◌, Bool, true, false, nat_le, zero, suc, length, List, [], ◌∷◌, ◌++◌, take, replicate, flat_map, Option, Some, None, Result, Ok, Err, if◌then◌else◌}
+use Rattle.gk_terms.specs.Text.{raw_lines_of, whole_lines_of, content_of, is_too_long}
 use Rattle.gk_terms.specs.declared.limits.TheConstants.{MOST_LINE_BYTES}
 use Rattle.gk_protocol.specs.declared.request_faults.RequestFault.{RequestFault}
 use Rattle.gk_protocol.specs.declared.request_faults.RequestFault.TheVariants.{CutShort}
@@ -72,10 +71,6 @@ asked_in at_end zero (raw ∷ raws) =
 -- the requests that bytes consist of, in order
 abbrev pub requests_of : List ℕ → List Asked
 requests_of bytes = asked_in true 0 (raw_lines_of bytes)
-
--- the lines of bytes that have their line feed
-abbrev pub whole_lines_of : List ℕ → List (List ℕ)
-whole_lines_of bytes = filter (list_any (λ b. b == 10)) (raw_lines_of bytes)
 
 -- the requests that stand whole in the whole lines of bytes
 abbrev pub whole_requests_of : List ℕ → List Asked

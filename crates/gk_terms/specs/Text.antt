@@ -1,6 +1,6 @@
 -- Lines and words. Every text that is read consists of them.
 use Rattle.std.specs.Prelude.{ℕ, ◌-◌, ◌==◌, ◌||◌, Bool, not, cond, nat_lt, List, [], ◌∷◌, ◌++◌, length, take, filter, map, flat_map, slice_index, if◌then◌else◌}
-use Rattle.std.specs.List.{slice_split, onto_first}
+use Rattle.std.specs.List.{list_any, slice_split, onto_first}
 use Rattle.gk_terms.specs.declared.limits.TheConstants.{MOST_LINE_BYTES}
 
 -- a space or a tab
@@ -19,6 +19,10 @@ abbrev pub raw_lines_of : List ℕ → List (List ℕ)
 raw_lines_of [] = []
 raw_lines_of (b ∷ bs) =
     if b == 10 then (b ∷ []) ∷ raw_lines_of bs else onto_first b (raw_lines_of bs)
+
+-- the lines that have their line feed
+abbrev pub whole_lines_of : List ℕ → List (List ℕ)
+whole_lines_of bytes = filter (list_any (λ b. b == 10)) (raw_lines_of bytes)
 
 -- without one such byte at the end; the last byte of an empty text counts as 0
 abbrev pub strip_end : ℕ → List ℕ → List ℕ

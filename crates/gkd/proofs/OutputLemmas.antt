@@ -12,8 +12,8 @@ use Rattle.gk_protocol.specs.declared.request_faults.RequestFault.{RequestFault}
 use Rattle.gk_protocol.specs.declared.requests.Request.{Request}
 use Rattle.gk_protocol.specs.CoreAnswers.{numbered_event, MayAnswer}
 use Rattle.gk_protocol.specs.Session.{Asked, requests_of, Answered, MayGet, Runs}
-use Rattle.gkd.specs.declared.configuration.Until.TheVariants.{EndLine}
-use Rattle.gkd.specs.Configuration.{configuration_of, rest_of}
+use Rattle.configuration_reader.specs.declared.configuration.Until.TheVariants.{EndLine}
+use Rattle.configuration_reader.specs.Configuration.{configuration_of, rest_of}
 use Rattle.gkd.specs.Run.{opened}
 use Rattle.gkd.specs.Output.{answer_of, core_of, replies_of, output_after, output_of, OutputIsRun}
 

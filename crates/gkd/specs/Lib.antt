@@ -1,5 +1,3 @@
-pub mod Check
-pub mod Configuration
 pub mod Output
 pub mod Rows
 pub mod Run

@@ -13,8 +13,8 @@ use Rattle.gk_protocol.specs.declared.answers.Answer.TheVariants.{Reply, Malform
 use Rattle.gk_protocol.specs.Answers.{line_of}
 use Rattle.gk_protocol.specs.CoreAnswers.{numbered_event, MayAnswer}
 use Rattle.gk_protocol.specs.Session.{Asked, requests_of, Runs}
-use Rattle.gkd.specs.declared.configuration.Until.TheVariants.{EndLine}
-use Rattle.gkd.specs.Configuration.{configuration_of, rest_of}
+use Rattle.configuration_reader.specs.declared.configuration.Until.TheVariants.{EndLine}
+use Rattle.configuration_reader.specs.Configuration.{configuration_of, rest_of}
 use Rattle.gkd.specs.Run.{opened}
 
 -- the machine's answer to what was asked, and the core after it

@@ -12,12 +12,12 @@ use Rattle.gk_protocol.specs.declared.requests.Request.{Request}
 use Rattle.gk_protocol.specs.declared.answers.Answer.{Answer}
 use Rattle.gk_protocol.specs.declared.session_faults.SessionFault.{SessionFault}
 use Rattle.gk_protocol.specs.Session.{Ends, is_read_fault, is_write_fault, session_fault_of}
-use Rattle.gkd.specs.declared.configuration.Until.TheVariants.{EndLine}
-use Rattle.gkd.specs.declared.configuration.ConfigurationFault.{ConfigurationFault}
-use Rattle.gkd.specs.declared.configuration.ConfigurationFault.TheVariants.{Line, Read}
+use Rattle.configuration_reader.specs.declared.configuration.Until.TheVariants.{EndLine}
+use Rattle.configuration_reader.specs.declared.configuration.ConfigurationFault.{ConfigurationFault}
+use Rattle.configuration_reader.specs.declared.configuration.ConfigurationFault.TheVariants.{Line, Read}
 use Rattle.gkd.specs.declared.run.RunFault.{RunFault}
 use Rattle.gkd.specs.declared.run.RunFault.TheVariants.{BadLimits, Config, Session, NoMemory}
-use Rattle.gkd.specs.Configuration.{configuration_of, rest_of, IsUnended}
+use Rattle.configuration_reader.specs.Configuration.{configuration_of, rest_of, IsUnended}
 
 -- a core in its opening state: a configuration's commands as version 1, and nothing registered,
 -- open or recorded

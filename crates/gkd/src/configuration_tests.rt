@@ -1,13 +1,13 @@
 //! Whole runs over memory: configurations, and the text of a run's faults.
 
-use crate::check::configuration_of;
-use crate::configuration::ConfigurationFault;
 use crate::run::{RunFault, run_over, run_under};
 use crate::test_runs::{
     CONFIGURATION, REPLIES, REQUESTS, assert_refused, assert_replies, assert_run,
 };
 use admission::{Limits, STATED_LIMITS};
 use command_reader::{FaultKind, LineFault};
+use configuration_reader::check::configuration_of;
+use configuration_reader::configuration::ConfigurationFault;
 use gk_lines::{Noted, ReadFault};
 use gk_protocol::SessionFault;
 use std::alloc::Global;

@@ -1,8 +1,8 @@
 //! Whole runs over memory with low limits: what is counted, and which refusal a full count gives.
 
-use crate::run::MOST_TURNS;
 use crate::test_runs::{assert_replies, assert_replies_within};
 use admission::{Limits, STATED_LIMITS};
+use configuration_reader::configuration::MOST_TURNS;
 use std::test::Fail;
 
 #[test]

@@ -5,13 +5,9 @@
 
 #[cfg(test)]
 mod bulk_tests;
-pub mod check;
-#[cfg(test)]
-mod check_tests;
 mod command_line;
 #[cfg(test)]
 mod command_line_tests;
-pub mod configuration;
 #[cfg(test)]
 mod configuration_tests;
 #[cfg(test)]
@@ -34,11 +30,12 @@ mod test_dial_plans;
 mod test_runs;
 
 use admission::STATED_LIMITS;
-use check::CheckFault;
 use clap::error::ErrorKind;
 use command_line::{Task, task_of};
 use command_reader::{Commands, LineFault};
-use configuration::ConfigurationFault;
+use configuration_reader::check;
+use configuration_reader::check::CheckFault;
+use configuration_reader::configuration::ConfigurationFault;
 use gk_lines::{Noted, ReadFault};
 use gk_protocol::SessionFault;
 use run::RunFault;

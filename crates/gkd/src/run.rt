@@ -8,17 +8,16 @@ ghost use Rattle.gk_protocol.specs.CoreAnswers.{MayAnswer};
 ghost use Rattle.gk_protocol.specs.Session.{Ends, is_read_fault, is_write_fault};
 ghost use Rattle.gkd.specs.Run as Spec;
 
-use crate::configuration::{ConfigurationFault, Until, read_configuration};
 use admission::{Core, Limits, OpeningFault};
 use command_reader::{Commands, LineFault};
 use compiler::Tables;
+use configuration_reader::configuration::{
+    ConfigurationFault, MOST_TURNS, Until, read_configuration,
+};
 use gk_lines::{LineReader, Sink, Source};
 use gk_protocol::{SessionFault, session, session_from};
 use std::alloc::{AllocError, Global};
 use thiserror::Error;
-
-/// How often a run may call its reader: the stated limit.
-pub const MOST_TURNS: u32 = 4_294_967_295;
 
 /// Why a run ended before the end of its input.
 #[derive(Clone, Copy, Debug, PartialEq, Eq, Error)]

@@ -4,10 +4,10 @@ use Rattle.gk_lines.specs.LineReader.{is_failure}
 use Rattle.gk_terms.specs.Text.{line_text}
 use Rattle.command_reader.specs.Configuration.{Configuration}
 use Rattle.command_reader.specs.Printing.{text_of}
-use Rattle.gkd.specs.declared.configuration.ConfigurationFault.{ConfigurationFault}
-use Rattle.gkd.specs.declared.configuration.ConfigurationFault.TheVariants.{Line, Read}
-use Rattle.gkd.specs.declared.check.CheckFault.{CheckFault}
-use Rattle.gkd.specs.declared.check.CheckFault.TheVariants as check
+use Rattle.configuration_reader.specs.declared.configuration.ConfigurationFault.{ConfigurationFault}
+use Rattle.configuration_reader.specs.declared.configuration.ConfigurationFault.TheVariants.{Line, Read}
+use Rattle.configuration_reader.specs.declared.check.CheckFault.{CheckFault}
+use Rattle.configuration_reader.specs.declared.check.CheckFault.TheVariants as check
 
 -- how many commands and passed over lines there are, in words
 abbrev pub summary_words : ℕ → ℕ → List (List ℕ)

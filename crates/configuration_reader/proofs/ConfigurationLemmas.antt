@@ -18,11 +18,11 @@ use Rattle.command_reader.specs.Line.{line_of}
 use Rattle.command_reader.specs.Progress.{Progress}
 use Rattle.command_reader.specs.Reading.{nothing_read, finished, whole_of, MayRead, MayReadLine, MayReadOn}
 use Rattle.command_reader.proofs.ReadOnLemmas.{no_more_lines, one_line, refused_line, finishes, refuses, long_says, same_line}
-use Rattle.gkd.specs.declared.configuration.Until.{Until}
-use Rattle.gkd.specs.declared.configuration.Until.TheVariants.{EndLine, EndOfInput}
-use Rattle.gkd.specs.declared.configuration.ConfigurationFault.{ConfigurationFault}
-use Rattle.gkd.specs.declared.configuration.ConfigurationFault.TheVariants.{Line, Read}
-use Rattle.gkd.specs.Configuration.{is_end_alone, is_end_line, ends_with, configuration_in, rest_in, configuration_of, rest_of, IsUnended, LeavesRest, MayGive, answer_of, is_decided, ContinuesWith}
+use Rattle.configuration_reader.specs.declared.configuration.Until.{Until}
+use Rattle.configuration_reader.specs.declared.configuration.Until.TheVariants.{EndLine, EndOfInput}
+use Rattle.configuration_reader.specs.declared.configuration.ConfigurationFault.{ConfigurationFault}
+use Rattle.configuration_reader.specs.declared.configuration.ConfigurationFault.TheVariants.{Line, Read}
+use Rattle.configuration_reader.specs.Configuration.{is_end_alone, is_end_line, ends_with, configuration_in, rest_in, configuration_of, rest_of, IsUnended, LeavesRest, MayGive, answer_of, is_decided, ContinuesWith}
 
 -- ---- what is kept of a line says what the line says
 long_ends_not : (until : Until) (line : List ℕ) → is_too_long line ≡ true → ends_with until line ≡ false

@@ -7,11 +7,10 @@ ghost use Rattle.gk_lines.specs.Streams.{Notes, NotesIf, AppendsFront};
 ghost use Rattle.command_reader.specs.Configuration.{Configuration};
 ghost use Rattle.command_reader.specs.Printing.{text_of};
 ghost use Rattle.command_reader.specs.Reading.{reading_of, MayRead};
-ghost use Rattle.gkd.specs.Configuration.{is_read_failure};
-ghost use Rattle.gkd.specs.Check as Spec;
+ghost use Rattle.configuration_reader.specs.Configuration.{is_read_failure};
+ghost use Rattle.configuration_reader.specs.Check as Spec;
 
-use crate::configuration::{ConfigurationFault, Until, read_configuration};
-use crate::run::MOST_TURNS;
+use crate::configuration::{ConfigurationFault, MOST_TURNS, Until, read_configuration};
 use command_reader::{Commands, LineFault, print};
 use gk_lines::{LineBuffer, LineReader, ReadFault, Sink, Source, WriteFault, write_whole};
 use std::alloc::Global;
@@ -34,7 +33,7 @@ pub enum CheckFault {
 
 impl From<ConfigurationFault> for CheckFault {
     ghost use Rattle.std.specs.Prelude.{◌≡◌};
-    ghost use Rattle.gkd.specs.Check.{check_fault_of};
+    ghost use Rattle.configuration_reader.specs.Check.{check_fault_of};
 
     ghost from_gives = { λ fault check. check ≡ check_fault_of fault };
 
@@ -48,7 +47,7 @@ impl From<ConfigurationFault> for CheckFault {
 
 impl From<WriteFault> for CheckFault {
     ghost use Rattle.std.specs.Prelude.{◌≡◌};
-    ghost use Rattle.gkd.specs.declared.check.CheckFault.TheVariants as check;
+    ghost use Rattle.configuration_reader.specs.declared.check.CheckFault.TheVariants as check;
 
     ghost from_gives = { λ _ fault. fault ≡ check.WriteFault };
 

@@ -1,8 +1,8 @@
 use Rattle.std.proofs.Common.{◌≡◌, ◌≤◌}
 use Rattle.gk_lines.specs.Streams.{KnownStep}
 use Rattle.gk_lines.specs.LineReader.{work_left, left_of, AtEndIfEnded, CountsTurns}
-use Rattle.gkd.proofs.ConfigurationLemmas.{IsReading}
-use Rattle.gkd.proofs.configuration.read_configuration.Given as goal
+use Rattle.configuration_reader.proofs.ConfigurationLemmas.{IsReading}
+use Rattle.configuration_reader.proofs.configuration.read_configuration.Given as goal
 
 abbrev pub invariant-loop-read : goal.invariant-loop-read
 invariant-loop-read g l =

@@ -1,7 +1,7 @@
 //! Configurations that are checked, over memory.
 
-use crate::check::{CheckFault, check};
 use command_reader::{FaultKind, LineFault};
+use configuration_reader::check::{CheckFault, check};
 use gk_lines::fakes::Piecewise;
 use gk_lines::{Noted, ReadFault};
 use std::alloc::Global;

@@ -1,5 +1,5 @@
-use Rattle.gkd.proofs.CheckLemmas.{front_of_both}
-use Rattle.gkd.proofs.check.print_with_summary.Goals as goal
+use Rattle.configuration_reader.proofs.CheckLemmas.{front_of_both}
+use Rattle.configuration_reader.proofs.check.print_with_summary.Goals as goal
 
 pub returns-in-Ok-clause-front : goal.returns-in-Ok-clause-front
 returns-in-Ok-clause-front g c =

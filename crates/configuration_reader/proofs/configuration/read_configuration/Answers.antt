@@ -2,9 +2,9 @@ use Rattle.std.proofs.Common.{◌≡◌, Bool, true, false, ap, sym, ◌∙◌}
 use Rattle.std.proofs.lemmas.Result.{err_from_is_err_and}
 use Rattle.gk_terms.specs.Text.{content_of}
 use Rattle.gk_lines.proofs.PendingLemmas.{turns_then}
-use Rattle.gkd.specs.Configuration.{ends_with}
-use Rattle.gkd.proofs.ConfigurationLemmas.{reading_goes_on, reading_ends, reading_decides, reading_runs_out, reading_stops}
-use Rattle.gkd.proofs.configuration.read_configuration.Goals as goal
+use Rattle.configuration_reader.specs.Configuration.{ends_with}
+use Rattle.configuration_reader.proofs.ConfigurationLemmas.{reading_goes_on, reading_ends, reading_decides, reading_runs_out, reading_stops}
+use Rattle.configuration_reader.proofs.configuration.read_configuration.Goals as goal
 
 pub loop-read-preserved : goal.loop-read-preserved
 loop-read-preserved g c =

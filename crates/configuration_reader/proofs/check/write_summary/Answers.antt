@@ -1,8 +1,8 @@
 use Rattle.std.proofs.Common.{length, ap, ◌∙◌}
 use Rattle.gk_terms.specs.Text.{line_text}
-use Rattle.gkd.specs.Check.{summary_words, summary_text}
-use Rattle.gkd.proofs.CheckLemmas.{front_of_same}
-use Rattle.gkd.proofs.check.write_summary.Goals as goal
+use Rattle.configuration_reader.specs.Check.{summary_words, summary_text}
+use Rattle.configuration_reader.proofs.CheckLemmas.{front_of_same}
+use Rattle.configuration_reader.proofs.check.write_summary.Goals as goal
 
 pub returns-clause-front : goal.returns-clause-front
 returns-clause-front g c =

@@ -1,18 +1,17 @@
 -- Where a configuration ends, and what its reader answers.
 use Rattle.std.specs.Prelude.{◌≡◌, ℕ, Bool, true, false, not, ◌&&◌, ⊤, List, [], ◌∷◌, ◌++◌, Result, Ok, Err, codes, bytes_eq, flat_map, if◌then◌else◌}
 use Rattle.std.specs.List.{list_any}
-use Rattle.gk_terms.specs.Text.{raw_lines_of, content_of, lines_of, words_of, is_too_long, is_empty}
+use Rattle.gk_terms.specs.Text.{raw_lines_of, whole_lines_of, content_of, lines_of, words_of, is_too_long, is_empty}
 use Rattle.gk_lines.specs.LineReader.{is_failure}
 use Rattle.gk_lines.specs.declared.line_reader.ReadFault.{ReadFault}
 use Rattle.command_reader.specs.declared.faults.LineFault.{LineFault}
 use Rattle.command_reader.specs.Configuration.{Configuration}
 use Rattle.command_reader.specs.Progress.{Progress}
 use Rattle.command_reader.specs.Reading.{reading_in, MayRead, MayReadLine}
-use Rattle.gk_protocol.specs.Session.{whole_lines_of}
-use Rattle.gkd.specs.declared.configuration.Until.{Until}
-use Rattle.gkd.specs.declared.configuration.Until.TheVariants.{EndLine, EndOfInput}
-use Rattle.gkd.specs.declared.configuration.ConfigurationFault.{ConfigurationFault}
-use Rattle.gkd.specs.declared.configuration.ConfigurationFault.TheVariants.{Line, Read}
+use Rattle.configuration_reader.specs.declared.configuration.Until.{Until}
+use Rattle.configuration_reader.specs.declared.configuration.Until.TheVariants.{EndLine, EndOfInput}
+use Rattle.configuration_reader.specs.declared.configuration.ConfigurationFault.{ConfigurationFault}
+use Rattle.configuration_reader.specs.declared.configuration.ConfigurationFault.TheVariants.{Line, Read}
 
 -- ---- where it ends
 -- `end` alone

@@ -9,11 +9,11 @@ use Rattle.gk_lines.specs.LineReader.{LineReaderParts, left_of}
 use Rattle.command_reader.specs.Configuration.{Configuration}
 use Rattle.command_reader.specs.Reading.{reading_in, reading_of, MayRead}
 use Rattle.command_reader.specs.declared.faults.LineFault.{LineFault}
-use Rattle.gkd.specs.declared.configuration.Until.TheVariants.{EndOfInput}
-use Rattle.gkd.specs.declared.configuration.ConfigurationFault.{ConfigurationFault}
-use Rattle.gkd.specs.declared.configuration.ConfigurationFault.TheVariants.{Line}
-use Rattle.gkd.specs.Configuration.{configuration_in, configuration_of, MayGive}
-use Rattle.gkd.specs.Check.{report_text}
+use Rattle.configuration_reader.specs.declared.configuration.Until.TheVariants.{EndOfInput}
+use Rattle.configuration_reader.specs.declared.configuration.ConfigurationFault.{ConfigurationFault}
+use Rattle.configuration_reader.specs.declared.configuration.ConfigurationFault.TheVariants.{Line}
+use Rattle.configuration_reader.specs.Configuration.{configuration_in, configuration_of, MayGive}
+use Rattle.configuration_reader.specs.Check.{report_text}
 
 -- of what goes on after it
 pub front_and_more : (old new : Option (List ℕ)) (bytes more : List ℕ) → AppendsFront old new bytes → AppendsFront old new (bytes ++ more)

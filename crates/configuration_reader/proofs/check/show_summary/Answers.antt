@@ -1,7 +1,7 @@
 use Rattle.std.proofs.Common.{arith}
 use Rattle.gk_lines.proofs.LineBufferLemmas.{line_in_room}
-use Rattle.gkd.specs.Check.{summary_words}
-use Rattle.gkd.proofs.check.show_summary.Goals as goal
+use Rattle.configuration_reader.specs.Check.{summary_words}
+use Rattle.configuration_reader.proofs.check.show_summary.Goals as goal
 
 pub returns : goal.returns
 returns c =

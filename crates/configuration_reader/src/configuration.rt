@@ -5,7 +5,7 @@ ghost use Rattle.gk_terms.specs.Text.{words_of};
 ghost use Rattle.gk_lines.specs.Streams.{NotesIf, KnownStep};
 ghost use Rattle.gk_lines.specs.LineReader.{left_of, AtEndIfEnded, CountsTurns};
 ghost use Rattle.command_reader.specs.Reading.{whole_of};
-ghost use Rattle.gkd.specs.Configuration as Spec;
+ghost use Rattle.configuration_reader.specs.Configuration as Spec;
 
 use command_reader::{Commands, Draft, LineFault};
 use gk_lines::{LineBuffer, LineReader, ReadFault, Source};
@@ -13,6 +13,9 @@ use gk_terms::limits::MOST_LINE_BYTES;
 use gk_terms::words::Words;
 use std::alloc::Global;
 use thiserror::Error;
+
+/// How often a run or a check may call its reader: the stated limit.
+pub const MOST_TURNS: u32 = 4_294_967_295;
 
 /// Where a configuration ends.
 #[derive(Clone, Copy, Debug, PartialEq, Eq)]
@@ -36,7 +39,7 @@ pub enum ConfigurationFault {
 
 impl From<ReadFault> for ConfigurationFault {
     ghost use Rattle.std.specs.Prelude.{◌≡◌};
-    ghost use Rattle.gkd.specs.declared.configuration.ConfigurationFault.TheVariants.{Read};
+    ghost use Rattle.configuration_reader.specs.declared.configuration.ConfigurationFault.TheVariants.{Read};
 
     ghost from_gives = { λ fault configuration. configuration ≡ Read fault };
 
