@@ -1,6 +1,6 @@
 //! Open calls and their sums, by hand calculation.
 
-use crate::{CallsFault, OpenCall, OpenCalls};
+use bandwidth::{CallsFault, OpenCall, OpenCalls};
 use gk_terms::{Name, Units};
 use std::process::Abort;
 use std::test::Fail;

@@ -1,7 +1,7 @@
 //! Calls that fit the limits of a few lines, and calls that do not, by hand calculation.
 
 use crate::calls_tests::{assert_sums, call_between};
-use crate::{OpenCall, OpenCalls, Over};
+use bandwidth::{OpenCall, OpenCalls, Over};
 use command_reader::LimitKind::{Interzone, Session, Total};
 use command_reader::{LimitKind, read};
 use compiler::Tables;

@@ -3,7 +3,7 @@
 ghost use Rattle.std.specs.Prelude.{◌<◌};
 
 use crate::calls_tests::call_between;
-use crate::{OpenCall, OpenCalls};
+use bandwidth::{OpenCall, OpenCalls};
 use gk_terms::{Name, Units};
 use std::process::Abort;
 use std::test::Fail;

@@ -3,7 +3,7 @@
 use crate::test_texts::{
     assert_accepted, assert_passed, assert_says, gateways, local, prefix, remote, technology,
 };
-use crate::{Command, LimitKind, LocalAddress};
+use command_reader::{Command, LimitKind, LocalAddress};
 use gk_terms::{Kbps, Name};
 use std::test::Fail;
 

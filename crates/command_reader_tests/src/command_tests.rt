@@ -1,7 +1,7 @@
 //! What a command declares and names, a draft line by line, and printed faults.
 
 use crate::test_texts::{gateways, local, prefix, remote, technology};
-use crate::{Command, Draft, FaultKind, LimitKind, LineFault, ZoneKind};
+use command_reader::{Command, Draft, FaultKind, LimitKind, LineFault, ZoneKind};
 use gk_terms::{Address, Kbps, Name};
 use std::process::Abort;
 use std::test::Fail;

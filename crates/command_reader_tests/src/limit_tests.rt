@@ -1,7 +1,7 @@
 //! How long a line, a text and its zones may be.
 
 use crate::test_texts::{assert_accepted, assert_fault, local, prefix, remote, repeated};
-use crate::{Commands, FaultKind, read};
+use command_reader::{Commands, FaultKind, read};
 use std::alloc::Global;
 use std::process::Abort;
 use std::test::Fail;

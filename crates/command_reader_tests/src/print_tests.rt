@@ -1,6 +1,6 @@
 //! What is printed of configurations.
 
-use crate::{Commands, WriteFault, print, read};
+use command_reader::{Commands, WriteFault, print, read};
 use gk_lines::Noted;
 use gk_lines::fakes::Piecewise;
 use std::alloc::Global;

@@ -1,6 +1,8 @@
 //! What the tests share: the reader on a text, and commands made of words.
 
-use crate::{Command, Commands, FaultKind, GatewayPriority, LineFault, LocalAddress, Names, read};
+use command_reader::{
+    Command, Commands, FaultKind, GatewayPriority, LineFault, LocalAddress, Names, read,
+};
 use digit_patterns::Pattern;
 use gk_terms::{Address, Name, TechPrefix};
 use std::alloc::{AllocError, Global};

@@ -1,7 +1,7 @@
 //! Bandwidth limits of given configurations, by hand calculation.
 
 use crate::tests::tables_of;
-use crate::{LimitKind, Tables, ZoneLimits};
+use compiler::{LimitKind, Tables, ZoneLimits};
 use gk_terms::Name;
 use std::process::Abort;
 use std::test::Fail;

@@ -1,7 +1,7 @@
 //! Plans, gateways and zones of given configurations, by hand calculation.
 
-use crate::{Plan, RowNo, Tables, ZoneNo, ZoneView};
 use command_reader::read;
+use compiler::{Plan, RowNo, Tables, ZoneNo, ZoneView};
 use gk_terms::{Address, Dialled, Name, TechPrefix};
 use std::alloc::Global;
 use std::process::Abort;
