@@ -1,5 +1,5 @@
 -- Calls that are opened, changed and closed without a refusal.
-use Rattle.std.proofs.Common.{◌≡◌, Bool, true, false, cond, List, length, Option, Some, None, ap, ◌∙◌}
+use Rattle.std.proofs.Common.{◌≡◌, true, false, cond, List, length, Option, Some, None, ap, ◌∙◌}
 use Rattle.std.specs.Prelude.{ℕ, nat_le, Ok, Err}
 use Rattle.bandwidth.specs.declared.open_call.OpenCall.{OpenCall}
 use Rattle.bandwidth.specs.declared.faults.CallsFault.TheVariants as faults

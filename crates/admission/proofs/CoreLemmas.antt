@@ -1,17 +1,26 @@
 -- One event of a core, and its record.
 use Rattle.std.proofs.Common.{◌≡◌, ◌≤◌, ◌+◌, Bool, true, false, cond, List, [], ◌∷◌, ◌++◌, length, Option, Some, None, inl, inr, refl, sym, ap, ap₂, subst, ◌∙◌, arith}
-use Rattle.admission.specs.State.{State, opening_of}
-use Rattle.admission.specs.Events.{PlainEvent}
-use Rattle.admission.specs.Ruling.{ruling_of, verdict_of}
-use Rattle.admission.specs.Step.{is_recorded, count_refusal, state_after, Outcome, outcome_of, step, no_memory_reply_of}
-use Rattle.admission.specs.History.{PlainEntry, entry_of, IsLegal, replay, CoreParts, RecordParts, state_of, with_entry, receipt_of, unrecorded_reply, IsRecorded, IsUnrecorded, MayReply, core_after}
+use Rattle.admission.specs.declared.limits.Limits.{Limits}
+use Rattle.admission.specs.State.{State, MachineParts, bare, opening_of, under}
+use Rattle.admission.specs.Founded.{IsUnder, takes_memory}
+use Rattle.std.specs.Prelude.{IfSome, IsSome}
+use Rattle.std.specs.List.{AllByRecursion}
+use Rattle.command_reader.specs.Accepted.{IsAccepted}
+use Rattle.command_reader.specs.declared.commands.Command.{Command}
+use Rattle.admission.specs.Events.{PlainEvent, Registering, Unregistering, Admitting, Changing, Releasing, Reloading, put_in_force}
+use Rattle.admission.specs.Ruling.{reload_ruling, ruling_of, verdict_of}
+use Rattle.admission.specs.declared.replies.Reply.TheVariants.{ReloadRefused}
+use Rattle.admission.specs.declared.replies.ReloadRefusal.TheVariants.{NoMemory}
+use Rattle.admission.specs.Step.{is_recorded, places_needed, reload_refusal, count_refusal, state_after, Outcome, outcome_of, step, no_memory_reply_of}
+use Rattle.admission.specs.History.{PlainEntry, entry_of, IsLegal, replay, CoreParts, RecordParts, in_force, in_force_of, generations_of, generations, state_of, with_entry, receipt_of, unrecorded_reply, IsRecorded, IsUnrecorded, MayReply, core_after}
 use Rattle.admission.specs.CoreInvariant.{IsKept}
 use Rattle.admission.specs.declared.rulings.Ruling.{Ruling}
 use Rattle.admission.specs.declared.replies.Reply.{Reply}
 use Rattle.admission.specs.declared.record.Receipt.{Receipt}
-use Rattle.admission.specs.HistoryLaws.{IsWithinLimits, IsSound}
-use Rattle.admission.proofs.HistoryLaws.{records_are_sound}
-use Rattle.admission.proofs.StepLemmas.{after_commands, after_limits, step_records}
+use Rattle.admission.specs.HistoryLaws.{AreAccepted, IsWithinLimits, IsSound}
+use Rattle.admission.proofs.VersionLemmas.{all_more, all_accepted}
+use Rattle.admission.proofs.HistoryLaws.{records_are_sound, replay_commands}
+use Rattle.admission.proofs.StepLemmas.{after_limits, step_records}
 
 -- ---- steps
 -- a step that no count refuses, and whose verdict is recorded
@@ -83,64 +92,85 @@ replay_counts s (e ∷ es) legal =
     omega (arith, rest, first)
 
 -- ---- a core
--- the opening state of a machine
-abbrev opening_for : State → State
-opening_for machine = opening_of machine.commands machine.limits
+-- a core with this record and these limits
+abbrev pub opening_for : Limits → RecordParts → State
+opening_for limits history = opening_of history.opening limits
 
--- a core with this machine and this record
-abbrev core_with : State → List PlainEntry → CoreParts
-core_with machine entries = record { opening = opening_for machine; entries = entries }
+abbrev pub core_with : Limits → RecordParts → Bool → CoreParts
+core_with limits history reserved = record {
+  opening = opening_for limits history;
+  entries = history.entries;
+  reserved = reserved;
+}
 
-abbrev IsCore : State → RecordParts → Type 0
-IsCore machine history = IsKept (opening_for machine) history machine
+-- its state, of this machine
+abbrev pub state_for : MachineParts → RecordParts → State
+state_for machine history = under (in_force history) machine
 
-pub stands : (machine : State) (history : RecordParts) → IsCore machine history
-    → machine ≡ state_of (core_with machine history.entries)
-unfolding state_of
-stands machine history kept = kept.replayed
+abbrev pub IsCore : MachineParts → RecordParts → Bool → Type 0
+IsCore machine history reserved =
+    IsKept (opening_for machine.limits history) history (state_for machine history) reserved
 
-pub stands_as : (machine : State) (history : RecordParts) (core : CoreParts)
-    → IsCore machine history → core_with machine history.entries ≡ core → machine ≡ state_of core
-stands_as machine history core kept same = stands machine history kept ∙ ap state_of same
+module _ (machine : MachineParts) (history : RecordParts) (reserved : Bool)
+    (kept : IsCore machine history reserved) where
+  pub stands : state_for machine history ≡ state_of (core_with machine.limits history reserved)
+  unfolding state_of
+  stands = kept.replayed
 
--- what a ruling says of the machine of a core
-pub ruled : (machine : State) (history : RecordParts) (core : CoreParts) (event : PlainEvent)
-    (ruling : Ruling)
-    → IsCore machine history → core_with machine history.entries ≡ core
-    → ruling ≡ ruling_of (state_of core) event → ruling ≡ ruling_of machine event
-ruled machine history core event ruling kept same given =
-    given
-    ∙ ap (λ s. ruling_of s event) (sym (stands_as machine history core kept same))
+  pub counts : machine.records ≡ length history.entries
+  counts =
+      let counted = replay_counts (opening_for machine.limits history) history.entries kept.legal in
+      ap (λ (s : State). s.records) kept.replayed ∙ omega (arith, counted)
 
-pub refusal_is : (machine : State) (history : RecordParts) (core : CoreParts) (event : PlainEvent)
-    (ruling : Ruling) (refusal found : Option Reply)
-    → IsCore machine history → core_with machine history.entries ≡ core
-    → ruling ≡ ruling_of (state_of core) event
-    → refusal ≡ count_refusal machine event ruling → refusal ≡ found
-    → count_refusal machine event (ruling_of machine event) ≡ found
-refusal_is machine history core event ruling refusal found kept same given refused is =
-    ap (count_refusal machine event)
-    (sym (ruled machine history core event ruling kept same given)) ∙ sym refused ∙ is
+  sound : IsSound history.opening machine.limits history.entries (state_for machine history)
+  sound =
+      subst (IsSound history.opening machine.limits history.entries) (sym kept.replayed)
+      (records_are_sound history.opening machine.limits history.entries kept.legal)
 
-pub verdict_is : (machine : State) (history : RecordParts) (core : CoreParts) (event : PlainEvent)
-    (ruling : Ruling)
-    → IsCore machine history → core_with machine history.entries ≡ core
-    → ruling ≡ ruling_of (state_of core) event → ruling.verdict ≡ verdict_of machine event
-verdict_is machine history core event ruling kept same given =
-    ap (λ (r : Ruling). r.verdict) (ruled machine history core event ruling kept same given)
+  -- it is within its limits
+  pub is_within : IsWithinLimits (state_for machine history)
+  is_within = sound.within
 
-pub counts : (machine : State) (history : RecordParts) → IsCore machine history
-    → machine.records ≡ length history.entries
-counts machine history kept =
-    let counted = replay_counts (opening_for machine) history.entries kept.legal in
-    ap (λ (s : State). s.records) kept.replayed ∙ omega (arith, counted)
+  module _ (core : CoreParts) (same : core_with machine.limits history reserved ≡ core) where
+    pub stands_as : state_for machine history ≡ state_of core
+    stands_as = stands ∙ ap state_of same
 
--- it is within its limits
-pub is_within : (machine : State) (history : RecordParts) → IsCore machine history
-    → IsWithinLimits machine
-is_within machine history kept =
-    subst IsWithinLimits (sym kept.replayed)
-    (records_are_sound machine.commands machine.limits history.entries kept.legal).within
+    -- the machine of a core, and its commands
+    pub machine_is : IsUnder machine (state_of core)
+    machine_is = subst (IsUnder machine) stands_as refl
+
+    pub commands_are : in_force history ≡ (state_of core).commands
+    commands_are = ap (λ (s : State). s.commands) stands_as
+
+    pub is_legal : IsLegal core.opening core.entries
+    is_legal = subst (λ (c : CoreParts). IsLegal c.opening c.entries) same kept.legal
+
+    pub is_sound : IsSound core.opening.commands core.opening.limits core.entries (state_of core)
+    is_sound =
+        subst (λ (c : CoreParts).
+        IsSound c.opening.commands c.opening.limits c.entries (state_of c)) same
+        (subst (IsSound history.opening machine.limits history.entries) stands sound)
+
+    pub are_accepted : AllByRecursion AreAccepted (generations core)
+    are_accepted =
+        subst (λ (c : CoreParts). AllByRecursion AreAccepted (generations c)) same
+        (all_accepted (generations_of history.opening history.entries) kept.accepted)
+
+    -- what a ruling says of the machine of a core
+    module _ (event : PlainEvent) (ruling : Ruling)
+        (given : ruling ≡ ruling_of (state_of core) event) where
+      pub ruled : ruling ≡ ruling_of (state_for machine history) event
+      ruled = given ∙ ap (λ s. ruling_of s event) (sym stands_as)
+
+      pub refusal_is : (refusal found : Option Reply)
+          → refusal ≡ count_refusal (state_for machine history) event ruling → refusal ≡ found
+          → count_refusal (state_for machine history) event
+          (ruling_of (state_for machine history) event) ≡ found
+      refusal_is refusal found refused is =
+          ap (count_refusal (state_for machine history) event) (sym ruled) ∙ sym refused ∙ is
+
+      pub verdict_is : ruling.verdict ≡ verdict_of (state_for machine history) event
+      verdict_is = ap (λ (r : Ruling). r.verdict) ruled
 
 module _ (machine : State) (event : PlainEvent) (core : CoreParts)
     (same : machine ≡ state_of core) where
@@ -162,6 +192,13 @@ module _ (machine : State) (event : PlainEvent) (core : CoreParts)
     unchanged = refl;
   }
 
+  pub refused_step : (refusal : Reply)
+      → count_refusal machine event (ruling_of machine event) ≡ Some refusal
+      → (step (state_of core) event).recorded ≡ false
+  refused_step refusal full =
+      ap (λ s. (step s event).recorded) (sym same)
+      ∙ ap (λ (o : Outcome). o.recorded) (step_refused machine event refusal full)
+
   module _ (free : count_refusal machine event (ruling_of machine event) ≡ None) where
     -- so does one whose verdict is not recorded
     pub leaves_out : (verdict : Reply) → verdict ≡ verdict_of machine event
@@ -173,6 +210,14 @@ module _ (machine : State) (event : PlainEvent) (core : CoreParts)
       unchanged = refl;
     }
 
+    -- and its step is not recorded
+    pub left_out_step : (verdict : Reply) → verdict ≡ verdict_of machine event
+        → is_recorded verdict ≡ false → (step (state_of core) event).recorded ≡ false
+    left_out_step verdict is unrecorded =
+        ap (λ s. (step s event).recorded) (sym same)
+        ∙ ap (λ (o : Outcome). o.recorded)
+        (step_unrecorded machine event free (ap is_recorded (sym is) ∙ unrecorded))
+
     -- and so does one for which memory runs out
     pub lacks_memory : (new : CoreParts) (reply : Reply)
         → is_recorded (verdict_of machine event) ≡ true
@@ -183,78 +228,125 @@ module _ (machine : State) (event : PlainEvent) (core : CoreParts)
       unchanged = unchanged;
     }
 
-module _ (machine : State) (history : RecordParts) (event : PlainEvent)
-    (free : count_refusal machine event (ruling_of machine event) ≡ None)
-    (recorded : is_recorded (verdict_of machine event) ≡ true)
-    (kept : IsCore machine history) (new : State) (more : RecordParts)
-    (moved : new ≡ state_after machine event (ruling_of machine event))
-    (entered : more.entries ≡ history.entries ++ entry_of machine event ∷ []) where
-  same_opening : opening_for new ≡ opening_for machine
-  same_opening =
-      ap₂ opening_of
-      (ap (λ (s : State). s.commands) moved
-      ∙ after_commands machine event (ruling_of machine event))
-      (ap (λ (s : State). s.limits) moved
-      ∙ after_limits machine event (ruling_of machine event))
+module _ (machine : MachineParts) (history : RecordParts) (reserved : Bool) (event : PlainEvent)
+    (kept : IsCore machine history reserved)
+    (free : count_refusal (state_for machine history) event
+    (ruling_of (state_for machine history) event) ≡ None)
+    (recorded : is_recorded (verdict_of (state_for machine history) event) ≡ true)
+    (new : MachineParts) (more : RecordParts)
+    (moved : IsUnder new (state_after (state_for machine history) event
+    (ruling_of (state_for machine history) event)))
+    (opened : more.opening ≡ history.opening)
+    (entered : more.entries
+    ≡ history.entries ++ entry_of (state_for machine history) event ∷ []) where
+  abbrev pub now : State
+  now = state_for machine history
 
-  entry_there : history.entries ++ entry_of (replay (opening_for machine) history.entries) event ∷ []
+  abbrev pub opening : State
+  opening = opening_for machine.limits history
+
+  abbrev pub next : State
+  next = state_after now event (ruling_of now event)
+
+  step_now : step now event ≡ recorded_outcome now event
+  step_now = step_recorded now event free recorded
+
+  step_there : step (replay opening history.entries) event ≡ recorded_outcome now event
+  step_there = ap (λ s. step s event) (sym kept.replayed) ∙ step_now
+
+  entry_there : history.entries ++ entry_of (replay opening history.entries) event ∷ []
       ≡ more.entries
-  entry_there =
-      ap (λ s. history.entries ++ entry_of s event ∷ []) (sym kept.replayed) ∙ sym entered
+  entry_there = ap (λ s. history.entries ++ entry_of s event ∷ []) (sym kept.replayed) ∙ sym entered
 
-  step_there : (step (replay (opening_for machine) history.entries) event) ≡ recorded_outcome machine event
-  step_there =
-      ap (λ s. step s event) (sym kept.replayed) ∙ step_recorded machine event free recorded
+  same_limits : new.limits ≡ machine.limits
+  same_limits =
+      ap (λ (s : State). s.limits) moved ∙ after_limits now event (ruling_of now event)
+
+  same_opening : opening_for new.limits more ≡ opening
+  same_opening = ap₂ opening_of opened same_limits
+
+  legal_now : IsLegal opening more.entries
+  legal_now =
+      subst (IsLegal opening) entry_there
+      (legal_more opening history.entries event kept.legal
+      (ap (λ (o : Outcome). o.recorded) step_there))
+
+  replayed_now : replay opening more.entries ≡ next
+  replayed_now =
+      sym (ap (replay opening) entry_there) ∙ replay_more opening history.entries event
+      ∙ ap (λ (o : Outcome). o.state) step_there
+
+  -- the commands in force are those after the step
+  in_force_now : in_force more ≡ next.commands
+  in_force_now =
+      ap (λ commands. in_force_of commands more.entries) opened
+      ∙ sym (replay_commands opening more.entries legal_now)
+      ∙ ap (λ (s : State). s.commands) replayed_now
+
+  state_now : state_for new more ≡ next
+  state_now = ap (λ commands. under commands new) in_force_now ∙ moved
 
   -- an event that is recorded leaves a core
-  pub kept_on : length new.calls ≤ more.kept → IsCore new more
-  kept_on enough = record {
-    legal = subst (λ opening. IsLegal opening more.entries) (sym same_opening)
-        (subst (IsLegal (opening_for machine)) entry_there
-        (legal_more (opening_for machine) history.entries event kept.legal
-        (ap (λ (o : Outcome). o.recorded) step_there)));
+  pub kept_on : length new.calls ≤ more.kept → IfSome (put_in_force event) IsAccepted
+      → IsCore new more false
+  kept_on enough asked = record {
+    legal = subst (λ o. IsLegal o more.entries) (sym same_opening) legal_now;
     replayed =
-        moved ∙ sym (ap (λ (o : Outcome). o.state) step_there)
-        ∙ sym (replay_more (opening_for machine) history.entries event)
-        ∙ ap (replay (opening_for machine)) entry_there
-        ∙ ap (λ opening. replay opening more.entries) (sym same_opening);
-    kept = enough;
+        state_now ∙ sym replayed_now ∙ ap (λ o. replay o more.entries) (sym same_opening);
+    accepted =
+        subst (λ (o : State). AllByRecursion IsAccepted (generations_of o.commands more.entries))
+        (sym same_opening)
+        (subst (λ es. AllByRecursion IsAccepted (generations_of history.opening es))
+        (sym entered)
+        (all_more IsAccepted history.opening history.entries (entry_of now event) kept.accepted
+        asked));
+    kept = omega (arith, enough);
   }
 
   -- with the entry of the event
   pub records : (core : CoreParts) (reply : Reply) (receipt : Receipt)
-      → core_with machine history.entries ≡ core → reply ≡ verdict_of machine event
-      → receipt ≡ receipt_of (machine.records + 1) (entry_of machine event)
-      → IsRecorded core event reply receipt (core_with new more.entries)
+      → core_with machine.limits history reserved ≡ core → reply ≡ verdict_of now event
+      → receipt ≡ receipt_of (machine.records + 1) (entry_of now event)
+      → IsRecorded core event reply receipt (core_with new.limits more false)
   records core reply receipt same replied given =
-      let state = stands_as machine history core kept same in
-      let outcome : step (state_of core) event ≡ recorded_outcome machine event =
-      ap (λ s. step s event) (sym state) ∙ step_recorded machine event free recorded in
+      let state = stands_as machine history reserved kept core same in
+      let outcome : step (state_of core) event ≡ recorded_outcome now event =
+      ap (λ s. step s event) (sym state) ∙ step_now in
       let number : machine.records + 1 ≡ length core.entries + 1 =
       ap (λ n. n + 1)
-      (counts machine history kept ∙ ap (λ (c : CoreParts). length c.entries) same) in
+      (counts machine history reserved kept ∙ ap (λ (c : CoreParts). length c.entries) same) in
       record {
         recorded = ap (λ (o : Outcome). o.recorded) outcome;
         reply_is = replied ∙ sym (ap (λ (o : Outcome). o.reply) outcome);
         receipt_is = given ∙ ap₂ (λ n s. receipt_of n (entry_of s event)) number state;
         new_is =
-            ap₂ (λ opening es. record { opening = opening; entries = es }) same_opening entered
+            ap₂ (λ o es. record { opening = o; entries = es; reserved = false }) same_opening
+            entered
             ∙ ap (λ s. record {
-              opening = opening_for machine;
+              opening = opening;
               entries = history.entries ++ entry_of s event ∷ [];
+              reserved = false;
             }) state
             ∙ ap (λ (c : CoreParts). record {
               opening = c.opening;
               entries = c.entries ++ entry_of (state_of core) event ∷ [];
+              reserved = false;
             }) same;
       }
 
+  -- the step was recorded
+  pub was_recorded : (core : CoreParts) → core_with machine.limits history reserved ≡ core
+      → (step (state_of core) event).recorded ≡ true
+  was_recorded core same =
+      ap (λ s. (step s event).recorded) (sym (stands_as machine history reserved kept core same))
+      ∙ ap (λ (o : Outcome). o.recorded) step_now
+
 -- if nothing changes
-pub core_still : (machine : State) (history : RecordParts) (new : State) (more : RecordParts)
+pub core_still : (machine new : MachineParts) (history more : RecordParts) (reserved : Bool)
     → new ≡ machine → more ≡ history
-    → core_with new more.entries ≡ core_with machine history.entries
-core_still machine history new more still same =
-    ap₂ (λ s (h : RecordParts). core_with s h.entries) still same
+    → core_with new.limits more reserved ≡ core_with machine.limits history reserved
+core_still machine new history more reserved still same =
+    ap₂ (λ (m : MachineParts) h. core_with m.limits h reserved) still same
 
 -- ---- what a core may reply
 -- the machine's own reply is one that a core may give
@@ -275,22 +367,89 @@ answers_as_the_machine old event = by (step (state_of old) event).recorded refl
     })
 
 -- ---- what every core keeps
-pub is_legal : (machine : State) (history : RecordParts) (core : CoreParts)
-    → IsCore machine history → core_with machine history.entries ≡ core
-    → IsLegal core.opening core.entries
-is_legal machine history core kept same =
-    subst (λ (c : CoreParts). IsLegal c.opening c.entries) same kept.legal
-
-sound_with : (machine : State) (history : RecordParts) → IsCore machine history
-    → IsSound machine.commands machine.limits history.entries
-    (state_of (core_with machine history.entries))
-unfolding state_of
-sound_with machine history kept =
-    records_are_sound machine.commands machine.limits history.entries kept.legal
-
-pub is_sound : (machine : State) (history : RecordParts) (core : CoreParts)
-    → IsCore machine history → core_with machine history.entries ≡ core
+-- the version is the number of the configurations that were put in force
+pub version_counts : (core : CoreParts)
     → IsSound core.opening.commands core.opening.limits core.entries (state_of core)
-is_sound machine history core kept same =
-    subst (λ (c : CoreParts). IsSound c.opening.commands c.opening.limits c.entries (state_of c))
-    same (sound_with machine history kept)
+    → (state_of core).version ≡ length (generations core)
+version_counts core sound = sound.version_is
+
+-- a ruling of a machine under the commands in force
+pub ruled_by : (machine : MachineParts) (commands : List Command) (s : State) (event : PlainEvent)
+    (ruling : Ruling)
+    → IsUnder machine s → commands ≡ s.commands → ruling ≡ ruling_of (under commands machine) event
+    → ruling ≡ ruling_of s event
+ruled_by machine commands s event ruling is same given =
+    given ∙ ap (λ cs. ruling_of (under cs machine) event) same ∙ ap (λ t. ruling_of t event) is
+
+-- a reload needs one place, and no memory of its own
+pub reload_is_light : (s : State) (event : PlainEvent) → IsSome (put_in_force event)
+    → (takes_memory (ruling_of s event).effect ≡ false)
+    × (places_needed (ruling_of s event).effect ≡ 1)
+unfolding ruling_of
+reload_is_light s (Registering e) puts = let impossible : ⊥ = cc in absurd impossible
+reload_is_light s (Unregistering id) puts = let impossible : ⊥ = cc in absurd impossible
+reload_is_light s (Admitting id call digits units) puts =
+    let impossible : ⊥ = cc in absurd impossible
+reload_is_light s (Changing id call units) puts = let impossible : ⊥ = cc in absurd impossible
+reload_is_light s (Releasing id call) puts = let impossible : ⊥ = cc in absurd impossible
+reload_is_light s (Reloading commands) puts = (refl, refl)
+
+pub ruled_light : (s : State) (event : PlainEvent) (ruling : Ruling) → ruling ≡ ruling_of s event
+    → IsSome (put_in_force event)
+    → (takes_memory ruling.effect ≡ false) × (places_needed ruling.effect ≡ 1)
+ruled_light s event ruling given puts =
+    subst (λ (r : Ruling).
+    (takes_memory r.effect ≡ false) × (places_needed r.effect ≡ 1)) (sym given)
+    (reload_is_light s event puts)
+
+-- ---- reservations
+module _ (machine : MachineParts) (history : RecordParts) (reserved : Bool)
+    (kept : IsCore machine history reserved) (core : CoreParts)
+    (same : core_with machine.limits history reserved ≡ core) (commands : List Command)
+    (ruling : Ruling) where
+  -- what a count says of a reload says it of the state
+  counted : (found : Option Reply) → ruling ≡ reload_ruling (bare machine)
+      → reload_refusal (bare machine) ruling.effect ≡ found
+      → count_refusal (state_for machine history) (Reloading commands)
+      (ruling_of (state_for machine history) (Reloading commands)) ≡ found
+  unfolding ruling_of count_refusal
+  counted found given is =
+      ap (λ (r : Ruling). reload_refusal (bare machine) r.effect) (sym given) ∙ is
+
+  recorded_verdict : is_recorded (verdict_of (state_for machine history) (Reloading commands)) ≡ true
+  unfolding ruling_of
+  recorded_verdict = refl
+
+  pub reload_refused : (refusal : Reply) → ruling ≡ reload_ruling (bare machine)
+      → reload_refusal (bare machine) ruling.effect ≡ Some refusal
+      → IsUnrecorded core (Reloading commands) refusal core
+  reload_refused refusal given is =
+      refuses (state_for machine history) (Reloading commands) core
+      (stands_as machine history reserved kept core same) refusal
+      (counted (Some refusal) given is)
+
+  pub reload_not_recorded : (refusal : Reply) → ruling ≡ reload_ruling (bare machine)
+      → reload_refusal (bare machine) ruling.effect ≡ Some refusal
+      → (step (state_of core) (Reloading commands)).recorded ≡ false
+  reload_not_recorded refusal given is =
+      refused_step (state_for machine history) (Reloading commands) core
+      (stands_as machine history reserved kept core same) refusal
+      (counted (Some refusal) given is)
+
+  pub reload_recorded : ruling ≡ reload_ruling (bare machine)
+      → reload_refusal (bare machine) ruling.effect ≡ None
+      → (step (state_of core) (Reloading commands)).recorded ≡ true
+  reload_recorded given is =
+      ap (λ s. (step s (Reloading commands)).recorded)
+      (sym (stands_as machine history reserved kept core same))
+      ∙ ap (λ (o : Outcome). o.recorded)
+      (step_recorded (state_for machine history) (Reloading commands) (counted None given is)
+      recorded_verdict)
+
+  pub reload_lacks_memory : ruling ≡ reload_ruling (bare machine)
+      → reload_refusal (bare machine) ruling.effect ≡ None → (new : CoreParts) → new ≡ core
+      → IsUnrecorded core (Reloading commands) (ReloadRefused NoMemory) new
+  reload_lacks_memory given is new unchanged =
+      lacks_memory (state_for machine history) (Reloading commands) core
+      (stands_as machine history reserved kept core same) (counted None given is) new
+      (ReloadRefused NoMemory) recorded_verdict refl unchanged

@@ -1,7 +1,6 @@
 -- The effect of a ruling that no count refuses can be carried out.
-use Rattle.std.proofs.Common.{◌≡◌, ◌≤◌, ◌+◌, ◌-◌, Bool, true, false, not, ◌&&◌, cond, List, length, ⊎_elim, Option, Some, None, refl, sym, ap, subst, ◌∙◌, true≢false, arith}
-use Rattle.std.specs.Prelude.{ℕ, nat_lt, nat_le, IsSome, if◌then◌else◌}
-use Rattle.std.specs.List.{list_any}
+use Rattle.std.proofs.Common.{◌≡◌, ◌≤◌, ◌+◌, ◌-◌, Bool, true, false, cond, List, length, ⊎_elim, Option, Some, None, refl, sym, ap, subst, ◌∙◌, true≢false, arith}
+use Rattle.std.specs.Prelude.{ℕ, nat_lt, IsSome}
 use Rattle.std.proofs.lemmas.Bool.{cases_Bool, ltb-false}
 use Rattle.std.proofs.lemmas.Option.{none-some}
 use Rattle.registry.specs.Endpoint.{EndpointParts}
@@ -14,7 +13,7 @@ use Rattle.compiler.specs.Plan.{plan_of}
 use Rattle.admission.specs.declared.replies.RegisterRefusal.{RegisterRefusal}
 use Rattle.admission.specs.declared.replies.ReleaseRefusal.{ReleaseRefusal}
 use Rattle.admission.specs.declared.replies.Reply.{Reply}
-use Rattle.admission.specs.declared.replies.Reply.TheVariants.{Registered, RegisterRefused, Unregistered, UnregisterRefused, Admitted, AdmitRefused, Changed, ChangeRefused, Released, ReleaseRefused}
+use Rattle.admission.specs.declared.replies.Reply.TheVariants.{Unregistered, UnregisterRefused, ChangeRefused, Released, ReleaseRefused}
 use Rattle.admission.specs.declared.replies.UnregisterRefusal.TheVariants as unregister
 use Rattle.admission.specs.declared.replies.ChangeRefusal.TheVariants as change
 use Rattle.admission.specs.declared.replies.ReleaseRefusal.TheVariants as release
@@ -22,16 +21,17 @@ use Rattle.admission.specs.declared.routes.Destination.{Destination}
 use Rattle.admission.specs.declared.routes.Route.{Route}
 use Rattle.admission.specs.declared.routes.Route.TheVariants.{To, Refused}
 use Rattle.admission.specs.declared.rulings.Effect.{Effect}
-use Rattle.admission.specs.declared.rulings.Effect.TheVariants.{Nothing, Put, Remove, Open, Resize, Close}
+use Rattle.admission.specs.declared.rulings.Effect.TheVariants.{Nothing, Put, Remove, Open, Resize, Close, PutInForce}
 use Rattle.admission.specs.declared.rulings.Ruling.{Ruling}
 use Rattle.admission.specs.State.{State, free_places}
-use Rattle.admission.specs.Events.{PlainEvent, Registering, Unregistering, Admitting, Changing, Releasing, endpoint_asking}
+use Rattle.command_reader.specs.declared.commands.Command.{Command}
+use Rattle.admission.specs.Events.{PlainEvent, Registering, Unregistering, Admitting, Changing, Releasing, Reloading, endpoint_asking, put_in_force}
 use Rattle.admission.specs.Routing.{route_of}
 use Rattle.admission.specs.Ruling.{unrouted, register_refusal, registration_unless, unregistration_ruling, admitted_call, admission_unless, admission_to, call_open_ruling, admission_ruling, change_unless, change_ruling, release_refused, release_ruling, ruling_of}
-use Rattle.admission.specs.Step.{is_recorded, places_needed, record_full_reply_of, record_refusal, are_endpoints_full, are_calls_full, count_refusal, with_registered, with_effect, no_memory_reply_of}
+use Rattle.admission.specs.Step.{is_recorded, places_needed, record_full_reply_of, record_refusal, are_endpoints_full, are_calls_full, count_refusal, with_registered, with_commands, with_effect, no_memory_reply_of}
 use Rattle.admission.specs.HistoryLaws.{IsWithinLimits}
 use Rattle.admission.proofs.CallsLemmas.{length-with_call, length-with_changed, length-without_call}
-use Rattle.admission.specs.Founded.{is_full_of_endpoints, is_owned, IsOpenable, IsFounded}
+use Rattle.admission.specs.Founded.{is_owned, IsFounded}
 
 -- ---- what no count refused
 pub not_full : (full : Bool) (refusal : Reply) (rest : Option Reply)
@@ -161,6 +161,10 @@ founded s (Admitting id call digits units) h =
     admission_founded s id digits call units (endpoint_of s.endpoints id) (not_full _ _ _ h).0
 founded s (Changing id call units) h = change_founded s id call units (call_of s.calls call) refl
 founded s (Releasing id call) h = release_founded s id call (call_of s.calls call) refl
+founded s (Reloading commands) h = record {
+  puts = refl;
+  left = ltb-false s.limits.reloads s.version (not_full _ _ _ h).0;
+}
 
 -- ---- releases
 -- a release that is recorded is granted, and needs no place
@@ -220,6 +224,9 @@ places_are_free s (Changing id call units) h recorded =
     has_places s (Changing id call units) _ _ refl h
 places_are_free s (Releasing id call) h recorded =
     let none = closes_by s id call (call_of s.calls call) recorded in omega (arith, none)
+places_are_free s (Reloading commands) h recorded =
+    has_places s (Reloading commands) (ruling_of s (Reloading commands)).effect _ refl
+    (not_full _ _ _ h).1
 
 -- memory may run out only for an event that needs a place
 pub may_lack_memory : (s : State) (event : PlainEvent)
@@ -233,6 +240,7 @@ may_lack_memory s (Changing id call units) recorded one = refl
 may_lack_memory s (Releasing id call) recorded one =
     let none = closes_by s id call (call_of s.calls call) recorded in
     let impossible : ⊥ = omega (arith, none, one) in absurd impossible
+may_lack_memory s (Reloading commands) recorded one = refl
 
 -- ---- what room there is
 module _ (s : State) (event : PlainEvent) (within : IsWithinLimits s) where
@@ -247,6 +255,7 @@ module _ (s : State) (event : PlainEvent) (within : IsWithinLimits s) where
   one_fits (Close call id) founded free =
       let fewer = length-without_call s.calls call id founded in
       omega (arith, within.records, fewer)
+  one_fits PutInForce founded free = omega (arith, free)
 
 module _ (s : State) (event : PlainEvent) (kept : ℕ) (enough : length s.calls ≤ kept) where
   -- a place is kept for it
@@ -260,6 +269,7 @@ module _ (s : State) (event : PlainEvent) (kept : ℕ) (enough : length s.calls 
   one_is_kept (Close call id) founded =
       let fewer = length-without_call s.calls call id founded in
       omega (arith, enough, fewer)
+  one_is_kept PutInForce founded = omega arith
 
   -- and for the release of each call that is open then
   pub enough_are_kept : (effect : Effect) → IsFounded s event effect
@@ -278,6 +288,12 @@ module _ (s : State) (event : PlainEvent) (kept : ℕ) (enough : length s.calls 
   enough_are_kept (Close call id) founded =
       let fewer = length-without_call s.calls call id founded in
       omega (arith, enough, fewer)
+  enough_are_kept PutInForce founded = by (put_in_force event)
+    where
+      by : (asked : Option (List Command))
+          → length (with_commands s asked).calls ≤ kept + 1 - 1
+      by None = omega (arith, enough)
+      by (Some commands) = omega (arith, enough)
 
 -- ---- as a ruling is carried out
 module _ (s : State) (event : PlainEvent) (ruling : Ruling) (ruled : ruling ≡ ruling_of s event)

@@ -1,13 +1,12 @@
 -- No grant of a record leaves a sum of its call above its limit.
-use Rattle.std.proofs.Common.{◌≡◌, ◌<◌, ℕ, ◌==◌, Bool, true, false, cond, List, [], ◌∷◌, ◌++◌, find, filter, Option, Some, None, refl, sym, ap, subst, ◌∙◌, true≢false, arith}
+use Rattle.std.proofs.Common.{◌≡◌, ◌<◌, ℕ, Bool, true, false, cond, List, [], ◌∷◌, ◌++◌, find, filter, Some, None, refl, sym, ap, subst, ◌∙◌, true≢false, arith}
 use Rattle.std.specs.Prelude.{nat_lt, IsTrue}
 use Rattle.std.proofs.lemmas.Bool.{ltb-true, ne_eqb, eq-eqb}
 use Rattle.std.proofs.lemmas.Option.{none-some, same_Some}
 use Rattle.command_reader.specs.declared.commands.Command.{Command}
 use Rattle.bandwidth.specs.declared.open_call.OpenCall.{OpenCall}
-use Rattle.bandwidth.specs.Calls.{AreInOrder, has_number, call_of, is_open, with_units, with_call, with_changed}
+use Rattle.bandwidth.specs.Calls.{AreInOrder, has_number, call_of, is_open, with_call, with_changed}
 use Rattle.bandwidth.specs.Fits.{over_of}
-use Rattle.bandwidth.specs.FitLaws.{SumsAreWithin}
 use Rattle.bandwidth.specs.declared.over.Over.{Over}
 use Rattle.bandwidth.proofs.RefusalLaws.{refusal_names_a_sum}
 use Rattle.bandwidth.proofs.FitLaws.{opening_within, raise_within, raised_from_within}
@@ -20,7 +19,7 @@ use Rattle.admission.specs.State.{State, opening_of}
 use Rattle.admission.specs.Events.{PlainEvent}
 use Rattle.admission.specs.Ruling.{ruling_of, verdict_of}
 use Rattle.admission.specs.Step.{with_effect, with_count, state_after, step}
-use Rattle.admission.specs.History.{PlainEntry, entry_of, IsLegal, replay}
+use Rattle.admission.specs.History.{PlainEntry, IsLegal, replay}
 use Rattle.admission.specs.HistoryLaws.{StandsAfter, IsGrant, ToOpen, ToRaise, IsWithin, sum_named, IsRefusedRightly, RecordedGrantsAreWithin, RecordedRaisesWereWithin, RecordedLimitsAreAbove}
 use Rattle.admission.proofs.StepLemmas.{step_state}
 use Rattle.admission.proofs.HistoryLaws.{verdict_there}

@@ -1,5 +1,5 @@
 -- What is ruled if bandwidth is granted or refused: the call fits, or it does not.
-use Rattle.std.proofs.Common.{◌≡◌, Bool, true, false, cond, List, Option, Some, None, refl, sym, ap, ◌∙◌}
+use Rattle.std.proofs.Common.{◌≡◌, Bool, true, false, cond, List, Option, Some, None, refl}
 use Rattle.std.specs.Prelude.{ℕ}
 use Rattle.registry.specs.Endpoint.{EndpointParts}
 use Rattle.registry.specs.Registration.{endpoint_of, is_registered}
@@ -14,14 +14,14 @@ use Rattle.admission.specs.declared.replies.UnregisterRefusal.TheVariants as unr
 use Rattle.admission.specs.declared.replies.ChangeRefusal.TheVariants as change
 use Rattle.admission.specs.declared.replies.ReleaseRefusal.TheVariants as release
 use Rattle.admission.specs.declared.replies.Reply.{Reply}
-use Rattle.admission.specs.declared.replies.Reply.TheVariants.{Registered, RegisterRefused, Unregistered, UnregisterRefused, Admitted, AdmitRefused, Changed, ChangeRefused, Released, ReleaseRefused}
+use Rattle.admission.specs.declared.replies.Reply.TheVariants.{Registered, RegisterRefused, Unregistered, UnregisterRefused, Admitted, AdmitRefused, Changed, ChangeRefused, Released, ReleaseRefused, Reloaded, ReloadRefused}
 use Rattle.admission.specs.declared.routes.Destination.{Destination}
 use Rattle.admission.specs.declared.routes.Route.{Route}
 use Rattle.admission.specs.declared.routes.Route.TheVariants.{To, Refused}
 use Rattle.admission.specs.declared.rulings.Effect.TheVariants.{Nothing, Remove, Open, Resize, Close}
 use Rattle.admission.specs.declared.rulings.Ruling.{Ruling}
 use Rattle.admission.specs.State.{State}
-use Rattle.admission.specs.Events.{PlainEvent, Registering, Unregistering, Admitting, Changing, Releasing}
+use Rattle.admission.specs.Events.{PlainEvent, Registering, Unregistering, Admitting, Changing, Releasing, Reloading}
 use Rattle.admission.specs.Routing.{route_of}
 use Rattle.admission.specs.HistoryLaws.{Asks, ToBeAdmitted, ToBeChanged, sum_named}
 use Rattle.admission.specs.Ruling.{unrouted, register_refusal, registration_unless, unregistration_ruling, admitted_call, admission_unless, admission_to, call_open_ruling, admission_ruling, change_unless, change_ruling, release_refused, release_ruling, ruling_of}
@@ -38,6 +38,8 @@ gives_bandwidth (Changed call units) = true
 gives_bandwidth (ChangeRefused call reason) = false
 gives_bandwidth (Released call) = false
 gives_bandwidth (ReleaseRefused call reason) = false
+gives_bandwidth (Reloaded version) = false
+gives_bandwidth (ReloadRefused reason) = false
 
 -- what stands behind a ruling: none, a call that does not fit, one that is not open and fits, or one
 -- that fits with more
@@ -175,3 +177,4 @@ behind s (Admitting id call digits units) =
     admission_behind s id digits call units (endpoint_of s.endpoints id) refl
 behind s (Changing id call units) = change_behind s id call units (call_of s.calls call) refl
 behind s (Releasing id call) = release_behind s id call (call_of s.calls call)
+behind s (Reloading commands) = Other refl refl

@@ -1,18 +1,19 @@
 -- Open calls stay in order of number, whatever is recorded.
-use Rattle.std.proofs.Common.{◌≡◌, ◌<◌, ℕ, Bool, true, false, not, cond, List, [], ◌∷◌, ◌++◌, map, filter, Option, Some, None, refl, sym, ap, subst, ◌∙◌, arith}
-use Rattle.std.specs.Prelude.{nat_lt, ⊤}
+use Rattle.std.proofs.Common.{◌≡◌, ◌<◌, ℕ, Bool, true, false, not, cond, List, [], ◌∷◌, ◌++◌, filter, Option, Some, None, refl, sym, subst, arith}
+use Rattle.std.specs.Prelude.{nat_lt}
 use Rattle.std.specs.List.{AllByRecursion}
 use Rattle.std.proofs.lemmas.Bool.{ltb-true}
 use Rattle.registry.specs.Endpoint.{EndpointParts}
 use Rattle.bandwidth.specs.declared.open_call.OpenCall.{OpenCall}
-use Rattle.bandwidth.specs.Calls.{AreInOrder, has_number, with_units, with_call, without_call, with_changed}
+use Rattle.bandwidth.specs.Calls.{AreInOrder, has_number, with_units, with_call, with_changed}
 use Rattle.bandwidth.proofs.CallLemmas.{Ascend, in_order}
 use Rattle.admission.specs.declared.rulings.Effect.{Effect}
-use Rattle.admission.specs.declared.rulings.Effect.TheVariants.{Nothing, Put, Remove, Open, Resize, Close}
+use Rattle.admission.specs.declared.rulings.Effect.TheVariants.{Nothing, Put, Remove, Open, Resize, Close, PutInForce}
 use Rattle.admission.specs.State.{State}
-use Rattle.admission.specs.Events.{PlainEvent, endpoint_asking}
+use Rattle.command_reader.specs.declared.commands.Command.{Command}
+use Rattle.admission.specs.Events.{PlainEvent, endpoint_asking, put_in_force}
 use Rattle.admission.specs.Ruling.{ruling_of}
-use Rattle.admission.specs.Step.{with_registered, with_effect, state_after, step}
+use Rattle.admission.specs.Step.{with_registered, with_commands, with_effect, state_after, step}
 use Rattle.admission.specs.History.{PlainEntry, IsLegal, replay}
 use Rattle.admission.proofs.StepLemmas.{step_state}
 
@@ -123,6 +124,11 @@ effect_ascends s event (Resize call id units) order =
     with_changed_ascends call units s.calls order
 effect_ascends s event (Close call id) order =
     filter_ascends (λ c. not (has_number call c)) s.calls order
+effect_ascends s event PutInForce order = by (put_in_force event)
+  where
+    by : (asked : Option (List Command)) → Ascend (with_commands s asked).calls
+    by None = order
+    by (Some commands) = order
 
 step_ascends : (s : State) (event : PlainEvent) → (step s event).recorded ≡ true → Ascend s.calls
     → Ascend (step s event).state.calls

@@ -1,5 +1,5 @@
 -- A registration that is carried out.
-use Rattle.std.proofs.Common.{◌≡◌, Bool, true, false, cond, List, Option, None, refl, ap, ◌∙◌}
+use Rattle.std.proofs.Common.{◌≡◌, Bool, true, false, cond, List, None, refl, ap, ◌∙◌}
 use Rattle.std.specs.Prelude.{ℕ, Ok, Err, Some, if◌then◌else◌}
 use Rattle.command_reader.specs.declared.commands.Command.{Command}
 use Rattle.registry.specs.Endpoint.{EndpointParts}

@@ -1,23 +1,19 @@
 -- How calls are routed: each reply to an admission comes of one way through the routing flow.
-use Rattle.std.proofs.Common.{◌≡◌, ◌≢◌, ℕ, ◌+◌, Bool, true, false, not, cond, ◌&&◌, ◌||◌, List, [], ◌∷◌, length, filter, find, Option, Some, None, slice_get, Result, Ok, Err, map, option_map, is_some, bytes_eq, nat_lt, refl, sym, ap, subst, ◌∙◌, true≢false}
-use Rattle.std.specs.Prelude.{IsTrue}
-use Rattle.std.specs.List.{All, Contains, list_any}
+use Rattle.std.proofs.Common.{◌≡◌, ◌≢◌, ℕ, ◌+◌, Bool, true, false, not, cond, ◌&&◌, ◌||◌, List, [], ◌∷◌, find, Option, Some, None, Result, Ok, Err, map, is_some, bytes_eq, nat_lt, refl, sym, ap, subst, ◌∙◌, true≢false}
+use Rattle.std.specs.List.{All, list_any}
 use Rattle.std.specs.Cmp.Lexicographic.{same_text}
 use Rattle.std.proofs.lemmas.Cmp.{nat_list_eq_equiv}
 use Rattle.std.proofs.lemmas.Bool.{and_parts, and_from}
 use Rattle.std.proofs.lemmas.List.Elements.{All-nil, All-cons}
 use Rattle.std.proofs.lemmas.Map.Views.{Contains-from_any, list_any-from_Contains}
 use Rattle.std.proofs.lemmas.Option.{none-some}
-use Rattle.gk_terms.proofs.ChoiceLemmas.{IsRankOrder}
 use Rattle.command_reader.specs.declared.faults.LineFault.{LineFault}
 use Rattle.command_reader.specs.declared.commands.Command.{Command}
-use Rattle.command_reader.specs.declared.zones.ZoneKind.TheVariants as kinds
-use Rattle.command_reader.specs.Zones.{zone_of, is_declared, named_by, first_local_of}
+use Rattle.command_reader.specs.Zones.{is_declared, named_by, first_local_of}
 use Rattle.command_reader.specs.Configuration.{Configuration}
 use Rattle.command_reader.specs.Progress.{NumberedCommand, Progress, commands_in, line_count}
 use Rattle.command_reader.specs.Reading.{names_unknown, unknown_zone, zones_checked, finished, whole_of, fault_at, lines_after, nothing_read, reading_in}
 use Rattle.command_reader.specs.declared.faults.FaultKind.TheVariants.{NoLocalZone}
-use Rattle.compiler.specs.Pick.{is_picked_before}
 use Rattle.compiler.specs.Technology.{default_technology_of}
 use Rattle.compiler.specs.Rows.{Row}
 use Rattle.compiler.specs.Plan.{Target, RemoteZone, LocalZone, CallersZone, UnknownPrefix, plan_of}
@@ -26,7 +22,7 @@ use Rattle.registry.specs.declared.endpoints.EndpointKind.{EndpointKind}
 use Rattle.registry.specs.declared.endpoints.EndpointKind.TheVariants.{Gateway, Terminal}
 use Rattle.registry.specs.Endpoint.{EndpointParts, has_alias, has_technology}
 use Rattle.registry.specs.Registration.{endpoint_of, by_alias}
-use Rattle.registry.specs.Gateway.{is_gateway, serves, is_candidate, gateway_of, IsChosen}
+use Rattle.registry.specs.Gateway.{is_gateway, serves, gateway_of, IsChosen}
 use Rattle.bandwidth.specs.Calls.{is_open}
 use Rattle.admission.specs.declared.routes.Destination.{Destination}
 use Rattle.admission.specs.declared.routes.Destination.TheVariants as destinations
@@ -34,7 +30,7 @@ use Rattle.admission.specs.declared.routes.Route.{Route}
 use Rattle.admission.specs.declared.routes.Route.TheVariants.{To, Refused}
 use Rattle.admission.specs.declared.routes.RouteRefusal.{RouteRefusal}
 use Rattle.admission.specs.declared.routes.RouteRefusal.TheVariants as refusals
-use Rattle.admission.specs.declared.replies.AdmitRefusal.TheVariants.{CallerNotRegistered, CallOpen, NoRoute, OverLimit}
+use Rattle.admission.specs.declared.replies.AdmitRefusal.TheVariants.{CallerNotRegistered, CallOpen, NoRoute}
 use Rattle.admission.specs.declared.replies.Reply.{Reply}
 use Rattle.admission.specs.declared.replies.Reply.TheVariants.{Admitted, AdmitRefused}
 use Rattle.admission.specs.State.{State}
@@ -44,7 +40,7 @@ use Rattle.admission.specs.Ruling.{admitted_call, admission_unless, admission_to
 use Rattle.bandwidth.specs.declared.open_call.OpenCall.{OpenCall}
 use Rattle.bandwidth.specs.declared.over.Over.{Over}
 use Rattle.bandwidth.specs.Fits.{over_of}
-use Rattle.registry.specs.Registration.{has_id, is_registered}
+use Rattle.registry.specs.Registration.{has_id}
 use Rattle.admission.specs.RouteLaws.{HasDigits, ReachesNone, IsToReach, Sent, Kept, IsLedTo, Away, ByTechnology, ByAlias, ByDefault, IsRouted, IsLost, Rejected, WithoutTechnology, WithoutDefault, WithoutAlias, IsUnrouted, AdmissionsAreRouted, RefusalsAreUnrouted, StrangersAreRefused, OpenNumbersAreRefused}
 use Rattle.compiler.proofs.PickLemmas.{pick_is_order}
 use Rattle.registry.specs.GatewayLaws.{HasNoCandidate}

@@ -20,7 +20,7 @@ use Rattle.admission.specs.declared.slots.Slot.TheVariants as slot
 
 -- ---- places
 -- what is told of an element is told of it if there are more
-still_told : {X Y : Type 0} (f : X → Option Y) (xs ys : List X) (i : ℕ) (y : Y)
+pub still_told : {X Y : Type 0} (f : X → Option Y) (xs ys : List X) (i : ℕ) (y : Y)
     → option_and_then f (slice_get xs i) ≡ Some y
     → option_and_then f (slice_get (xs ++ ys) i) ≡ Some y
 still_told f xs ys i y h =
@@ -31,7 +31,7 @@ still_told f xs ys i y h =
     ]
 
 -- the next element comes after the others
-next_is : {X : Type 0} (xs : List X) (x : X) (i : ℕ) → i ≡ length xs
+pub next_is : {X : Type 0} (xs : List X) (x : X) (i : ℕ) → i ≡ length xs
     → slice_get (xs ++ x ∷ []) i ≡ Some x
 next_is xs x i at = item_after xs (x ∷ []) 0 i (omega arith)
 

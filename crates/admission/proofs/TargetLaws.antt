@@ -1,15 +1,14 @@
 -- Where the commands send dialled digits: each target comes of a technology prefix, of a pattern, or
 -- of neither.
-use Rattle.std.proofs.Common.{◌≡◌, ◌≢◌, ◌≤◌, ℕ, zero, suc, ◌+◌, ◌==◌, Bool, true, false, not, cond, ◌&&◌, ◌||◌, List, [], ◌∷◌, ◌++◌, length, get_or, take, drop, filter, find, Option, Some, None, slice_get, Result, Ok, Err, option_map, is_some, bytes_eq, nat_lt, refl, sym, ap, subst, ◌∙◌, true≢false, arith}
+use Rattle.std.proofs.Common.{◌≡◌, ◌≤◌, ℕ, zero, suc, ◌==◌, Bool, true, false, cond, ◌&&◌, List, [], ◌∷◌, length, drop, filter, find, Option, Some, None, slice_get, option_map, bytes_eq, refl, subst, arith}
 use Rattle.std.specs.Prelude.{IsTrue, option_and_then}
 use Rattle.std.specs.Bool.{beq}
-use Rattle.std.specs.List.{All, Contains, list_any, filter_map, cons_option}
+use Rattle.std.specs.List.{All, Contains, filter_map, cons_option}
 use Rattle.std.proofs.lemmas.Bool.{ltb-false, and_from}
 use Rattle.std.proofs.lemmas.Cmp.{nat_list_eq_equiv, nat_eq_equiv}
-use Rattle.std.proofs.lemmas.List.Elements.{All-nil, All-cons, All-weaker, All-contains, All-append, All-get_or, filter_passes}
-use Rattle.std.proofs.lemmas.Option.{none-some, get_or_from_slice_get, slice_get_within}
-use Rattle.gk_terms.specs.Choice.{first_unbeaten, IsFirstUnbeaten}
-use Rattle.gk_terms.proofs.ChoiceLemmas.{IsRankOrder, IsRankOrder-by, find_passes, first_unbeaten-none, first_unbeaten-IsFirstUnbeaten, within_list}
+use Rattle.std.proofs.lemmas.List.Elements.{All-nil, All-cons, All-weaker, All-contains, All-append, filter_passes}
+use Rattle.std.proofs.lemmas.Option.{none-some, get_or_from_slice_get}
+use Rattle.gk_terms.proofs.ChoiceLemmas.{IsRankOrder, IsRankOrder-by, first_unbeaten-none, first_unbeaten-IsFirstUnbeaten, within_list}
 use Rattle.digit_patterns.specs.PatternParts.{PatternParts}
 use Rattle.digit_patterns.specs.Pattern.{matches, Matches, same_pattern}
 use Rattle.digit_patterns.specs.Table.{best_of}
@@ -20,7 +19,7 @@ use Rattle.command_reader.specs.declared.zones.ZoneKind.{ZoneKind}
 use Rattle.command_reader.specs.declared.zones.ZoneKind.TheVariants as kinds
 use Rattle.command_reader.specs.Zones.{zone_of, zones_of, is_declared, named_by}
 use Rattle.compiler.specs.Pick.{picked, is_picked_before, IsPicked}
-use Rattle.compiler.specs.Technology.{prefixes_of, begins_with, is_longer, longest_beginning, technology_of, hopoffs_in, hopoffs_of}
+use Rattle.compiler.specs.Technology.{prefixes_of, begins_with, is_longer, technology_of, hopoffs_in, hopoffs_of}
 use Rattle.compiler.specs.Rows.{Row, row_of, rows_of, zone_for, zones_for, row_of_pattern, row_for}
 use Rattle.compiler.specs.Plan.{Target, RemoteZone, LocalZone, CallersZone, UnknownPrefix, target_in, rejects_unknown, by_row, by_hopoff, by_technology, plan_of}
 use Rattle.admission.specs.RouteLaws.{IsTechnology, NoTechnology, IsLookedFor, All_of_them, After_prefix, IsLongestRow, NoneMatches, IsSentTo, ByHopoff, ByPattern}

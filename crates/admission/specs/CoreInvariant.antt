@@ -1,11 +1,20 @@
 -- What every core keeps. A reader of the contracts need not know it.
-use Rattle.std.specs.Prelude.{◌≡◌, ◌≤◌, length}
+use Rattle.std.specs.Prelude.{◌≡◌, ◌≤◌, ℕ, ◌+◌, Bool, length, if◌then◌else◌}
+use Rattle.std.specs.List.{AllByRecursion}
+use Rattle.command_reader.specs.Accepted.{IsAccepted}
 use Rattle.admission.specs.State.{State}
-use Rattle.admission.specs.History.{RecordParts, IsLegal, replay}
+use Rattle.admission.specs.History.{RecordParts, IsLegal, replay, generations_of}
 
--- the machine is in the state that a legal history leaves, and each open call has a kept place for
--- the entry of its release
-pub record IsKept (opening : State) (history : RecordParts) (machine : State) : Type 0 where
+-- the places that are kept for a reload
+abbrev pub places_reserved : Bool → ℕ
+places_reserved reserved = if reserved then 1 else 0
+
+-- the machine is in the state that a legal history leaves, each configuration that was put in force
+-- was accepted, and each open call has a kept place for the entry of its release, and a reserved
+-- reload one for its own
+pub record IsKept (opening : State) (history : RecordParts) (machine : State) (reserved : Bool)
+    : Type 0 where
   pub legal : IsLegal opening history.entries
   pub replayed : machine ≡ replay opening history.entries
-  pub kept : length machine.calls ≤ history.kept
+  pub accepted : AllByRecursion IsAccepted (generations_of opening.commands history.entries)
+  pub kept : length machine.calls + places_reserved reserved ≤ history.kept

@@ -1,10 +1,12 @@
 -- Events as plain values: what a core is asked, and what an entry and a receipt name of it.
 use Rattle.std.specs.Prelude.{ℕ, List, Option, Some, None}
+use Rattle.std.specs.Arc.{arc_value}
+use Rattle.command_reader.specs.declared.commands.Command.{Command}
 use Rattle.registry.specs.Endpoint.{EndpointParts}
 use Rattle.admission.specs.declared.events.Event.{Event}
 use Rattle.admission.specs.declared.events.Event.TheVariants as events
 use Rattle.admission.specs.declared.events.EventKind.{EventKind}
-use Rattle.admission.specs.declared.events.EventKind.TheVariants.{Registration, Unregistration, Admission, BandwidthChange, Release}
+use Rattle.admission.specs.declared.events.EventKind.TheVariants.{Registration, Unregistration, Admission, BandwidthChange, Release, Reload}
 
 -- an event by its values alone
 pub data PlainEvent : Type 0 where
@@ -18,6 +20,8 @@ pub data PlainEvent : Type 0 where
   Changing : (id : List ℕ) (call units : ℕ) → PlainEvent
   -- it asks to be released from the call
   Releasing : (id : List ℕ) (call : ℕ) → PlainEvent
+  -- another configuration is put in force, whole: these are its commands
+  Reloading : (commands : List Command) → PlainEvent
 
 -- the values of an event
 abbrev pub plain : Event → PlainEvent
@@ -26,6 +30,7 @@ plain (events.Unregister id) = Unregistering id
 plain (events.Admit id call digits units) = Admitting id call digits units
 plain (events.Change id call units) = Changing id call units
 plain (events.Release id call) = Releasing id call
+plain (events.Reload tables) = Reloading (arc_value tables).commands
 
 abbrev pub kind_of : PlainEvent → EventKind
 kind_of (Registering endpoint) = Registration
@@ -33,14 +38,16 @@ kind_of (Unregistering id) = Unregistration
 kind_of (Admitting id call digits units) = Admission
 kind_of (Changing id call units) = BandwidthChange
 kind_of (Releasing id call) = Release
+kind_of (Reloading commands) = Reload
 
--- the ID of the endpoint that asks
+-- the ID of the endpoint that asks; an operator has none
 abbrev pub id_of : PlainEvent → Option (List ℕ)
 id_of (Registering endpoint) = Some endpoint.id
 id_of (Unregistering id) = Some id
 id_of (Admitting id call digits units) = Some id
 id_of (Changing id call units) = Some id
 id_of (Releasing id call) = Some id
+id_of (Reloading commands) = None
 
 -- the number of the call that it is about
 abbrev pub call_number_of : PlainEvent → Option ℕ
@@ -49,6 +56,7 @@ call_number_of (Unregistering id) = None
 call_number_of (Admitting id call digits units) = Some call
 call_number_of (Changing id call units) = Some call
 call_number_of (Releasing id call) = Some call
+call_number_of (Reloading commands) = None
 
 -- the endpoint that asks to be registered
 abbrev pub endpoint_asking : PlainEvent → Option EndpointParts
@@ -57,3 +65,13 @@ endpoint_asking (Unregistering id) = None
 endpoint_asking (Admitting id call digits units) = None
 endpoint_asking (Changing id call units) = None
 endpoint_asking (Releasing id call) = None
+endpoint_asking (Reloading commands) = None
+
+-- the commands that an event puts in force
+abbrev pub put_in_force : PlainEvent → Option (List Command)
+put_in_force (Registering endpoint) = None
+put_in_force (Unregistering id) = None
+put_in_force (Admitting id call digits units) = None
+put_in_force (Changing id call units) = None
+put_in_force (Releasing id call) = None
+put_in_force (Reloading commands) = Some commands

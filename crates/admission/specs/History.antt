@@ -1,8 +1,9 @@
 -- The record of a core: a legal history, and the state that it leaves.
-use Rattle.std.specs.Prelude.{◌≡◌, ◌⊎◌, ℕ, ◌+◌, ◌-◌, ◌==◌, true, IsTrue, ⊤, List, [], ◌∷◌, ◌++◌, length, slice_get, Option, Some, None, Result, MatchResult, if◌then◌else◌}
+use Rattle.std.specs.Prelude.{◌≡◌, ◌⊎◌, ℕ, ◌+◌, ◌-◌, ◌==◌, Bool, true, false, IsTrue, ⊤, List, [], ◌∷◌, ◌++◌, length, filter_map, slice_get, Option, Some, None, Result, MatchResult, if◌then◌else◌}
 use Rattle.std.specs.Cow.{cow_value}
+use Rattle.command_reader.specs.declared.commands.Command.{Command}
 use Rattle.admission.specs.State.{State}
-use Rattle.admission.specs.Events.{PlainEvent, plain, kind_of, id_of, call_number_of}
+use Rattle.admission.specs.Events.{PlainEvent, plain, kind_of, id_of, call_number_of, put_in_force}
 use Rattle.admission.specs.Ruling.{ruling_of}
 use Rattle.admission.specs.Step.{step, no_memory_reply_of}
 use Rattle.admission.specs.declared.rulings.Ruling.{Ruling}
@@ -46,19 +47,24 @@ replay s [] = s
 replay s (e ∷ es) = replay (step s e.event).state es
 
 -- ---- a core
--- what a core holds: its opening state and its record
+-- what a core holds: its opening state, its record, and whether a place of the record is reserved
+-- for a reload
 pub record CoreParts : Type 0 where
   pub opening : State
   pub entries : List PlainEntry
+  pub reserved : Bool
 
 -- the state of a core is the replay of its record
 unfoldable pub state_of : CoreParts → State
 state_of core = replay core.opening core.entries
 
--- with the entry of one more event
+-- with the entry of one more event; then nothing is reserved
 abbrev pub with_entry : CoreParts → PlainEvent → CoreParts
 with_entry core event =
-    record core { entries = core.entries ++ entry_of (state_of core) event ∷ [] }
+    record core {
+      entries = core.entries ++ entry_of (state_of core) event ∷ [];
+      reserved = false;
+    }
 
 -- ---- receipts
 -- the receipt of the entry with this number
@@ -81,11 +87,36 @@ Stands entries receipt =
     (e : PlainEntry) × (entry_of_number entries receipt.number ≡ Some e)
     × (receipt ≡ receipt_of receipt.number e)
 
+-- ---- generations
+-- the commands in force after an event
+abbrev pub in_force_after : List Command → Option (List Command) → List Command
+in_force_after commands None = commands
+in_force_after commands (Some others) = others
+
+-- the commands in force after a history that opened with these
+abbrev pub in_force_of : List Command → List PlainEntry → List Command
+in_force_of commands [] = commands
+in_force_of commands (e ∷ es) = in_force_of (in_force_after commands (put_in_force e.event)) es
+
+-- the commands that were put in force, the opening ones first
+abbrev pub generations_of : List Command → List PlainEntry → List (List Command)
+generations_of commands entries = commands ∷ filter_map (λ e. put_in_force e.event) entries
+
+-- the same of a core
+abbrev pub generations : CoreParts → List (List Command)
+generations core = generations_of core.opening.commands core.entries
+
 -- ---- the record
--- the entries, and how many further ones find room without memory
+-- the commands that were in force before the first entry, the entries, and how many further ones
+-- find room without memory
 pub record RecordParts : Type 0 where
+  pub opening : List Command
   pub entries : List PlainEntry
   pub kept : ℕ
+
+-- the commands in force after its entries
+abbrev pub in_force : RecordParts → List Command
+in_force record_parts = in_force_of record_parts.opening record_parts.entries
 
 -- ---- what a call of a core does
 -- the event was recorded: the machine's reply, the receipt of the new entry, and the record with

@@ -2,7 +2,7 @@
 -- its grants keep the sums of their calls within the limits, and it never passes the limits of the
 -- run.
 use Rattle.std.specs.Prelude.{◌≡◌, ◌≤◌, ◌<◌, ℕ, ◌+◌, List, [], ◌∷◌, ◌++◌, length, Option, Some, None, Ok}
-use Rattle.std.specs.List.{filter_map}
+use Rattle.std.specs.List.{AllByRecursion}
 use Rattle.command_reader.specs.declared.commands.Command.{Command}
 use Rattle.command_reader.specs.Configuration.{Configuration}
 use Rattle.command_reader.specs.Reading.{reading_in}
@@ -22,11 +22,11 @@ use Rattle.admission.specs.declared.replies.AdmitRefusal.TheVariants as admit
 use Rattle.admission.specs.declared.replies.ChangeRefusal.{ChangeRefusal}
 use Rattle.admission.specs.declared.replies.ChangeRefusal.TheVariants as change
 use Rattle.admission.specs.declared.replies.Reply.{Reply}
-use Rattle.admission.specs.declared.replies.Reply.TheVariants.{Registered, RegisterRefused, Unregistered, UnregisterRefused, Admitted, AdmitRefused, Changed, ChangeRefused, Released, ReleaseRefused}
+use Rattle.admission.specs.declared.replies.Reply.TheVariants.{Registered, RegisterRefused, Unregistered, UnregisterRefused, Admitted, AdmitRefused, Changed, ChangeRefused, Released, ReleaseRefused, Reloaded, ReloadRefused}
 use Rattle.admission.specs.State.{State, opening_of}
-use Rattle.admission.specs.Events.{PlainEvent, Registering, Unregistering, Admitting, Changing, Releasing}
+use Rattle.admission.specs.Events.{PlainEvent, Admitting, Changing}
 use Rattle.admission.specs.Ruling.{admitted_call}
-use Rattle.admission.specs.History.{PlainEntry, IsLegal, replay}
+use Rattle.admission.specs.History.{PlainEntry, IsLegal, replay, generations_of}
 use Rattle.admission.specs.RouteLaws.{IsRouted, IsUnrouted}
 
 -- ---- routes
@@ -34,35 +34,39 @@ use Rattle.admission.specs.RouteLaws.{IsRouted, IsUnrouted}
 abbrev pub StandsAfter : List PlainEntry → List PlainEntry → PlainEntry → Type 0
 StandsAfter entries before e = (after : List PlainEntry) × (entries ≡ before ++ e ∷ after)
 
--- under an accepted configuration, each granted admission of a record, for the call and the
--- bandwidth that were asked, went where its digits led, by the endpoints that were registered when
--- it was asked
+-- they are the commands of an accepted configuration
+abbrev pub AreAccepted : List Command → Type 0
+AreAccepted commands =
+    (lines : List (List ℕ)) × ((configuration : Configuration)
+    × (reading_in lines ≡ Ok configuration) × (commands ≡ configuration.commands))
+
+-- if each configuration that was put in force was accepted: each granted admission of a record, for
+-- the call and the bandwidth that were asked, went where its digits led, by the configuration that
+-- was in force and the endpoints that were registered when it was asked
 abbrev pub RecordedAdmissionsAreRouted : Type 0
 RecordedAdmissionsAreRouted =
-    (lines : List (List ℕ)) (configuration : Configuration) (limits : Limits)
-    (entries before : List PlainEntry) (e : PlainEntry)
-    → reading_in lines ≡ Ok configuration
-    → IsLegal (opening_of configuration.commands limits) entries
+    (commands : List Command) (limits : Limits) (entries before : List PlainEntry) (e : PlainEntry)
+    → AllByRecursion AreAccepted (generations_of commands entries)
+    → IsLegal (opening_of commands limits) entries
     → StandsAfter entries before e
     → (call units : ℕ) (id digits : List ℕ) (replied_call granted : ℕ) (destination : Destination)
     → e.event ≡ Admitting id call digits units
     → e.reply ≡ Admitted replied_call destination granted
     → (replied_call ≡ call) × (granted ≡ units)
-    × IsRouted (replay (opening_of configuration.commands limits) before) id digits destination
+    × IsRouted (replay (opening_of commands limits) before) id digits destination
 
 -- and each that was refused for its route had digits that led nowhere, for this reason
 abbrev pub RecordedRefusalsAreUnrouted : Type 0
 RecordedRefusalsAreUnrouted =
-    (lines : List (List ℕ)) (configuration : Configuration) (limits : Limits)
-    (entries before : List PlainEntry) (e : PlainEntry)
-    → reading_in lines ≡ Ok configuration
-    → IsLegal (opening_of configuration.commands limits) entries
+    (commands : List Command) (limits : Limits) (entries before : List PlainEntry) (e : PlainEntry)
+    → AllByRecursion AreAccepted (generations_of commands entries)
+    → IsLegal (opening_of commands limits) entries
     → StandsAfter entries before e
     → (call units : ℕ) (id digits : List ℕ) (replied_call : ℕ) (refusal : RouteRefusal)
     → e.event ≡ Admitting id call digits units
     → e.reply ≡ AdmitRefused replied_call (admit.NoRoute refusal)
     → (replied_call ≡ call)
-    × IsUnrouted (replay (opening_of configuration.commands limits) before) id digits refusal
+    × IsUnrouted (replay (opening_of commands limits) before) id digits refusal
 
 -- ---- bandwidth
 -- the reply grants bandwidth that the call of this number did not have: it opens the call, or it
@@ -140,6 +144,8 @@ sum_named (Changed call units) = None
 sum_named (ChangeRefused call reason) = sum_of_change reason
 sum_named (Released call) = None
 sum_named (ReleaseRefused call reason) = None
+sum_named (Reloaded version) = None
+sum_named (ReloadRefused reason) = None
 
 -- the sum that is named would be above its limit, with the call that asks beside the others
 pub record IsRefusedRightly (s : State) (event : PlainEvent) (over : Over) : Type 0 where
@@ -158,24 +164,13 @@ RecordedLimitsAreAbove =
     → IsRefusedRightly (replay (opening_of commands limits) before) e.event over
 
 -- ---- limits
--- endpoints and calls are within their limits, and the record has room for its entries and for one
--- release of each open call
+-- endpoints, calls and reloads are within their limits, and the record has room for its entries and
+-- for one release of each open call
 pub record IsWithinLimits (s : State) : Type 0 where
   pub endpoints : length s.endpoints ≤ s.limits.endpoints
   pub calls : length s.calls ≤ s.limits.calls
   pub records : s.records + length s.calls ≤ s.limits.records
-
--- the commands that an event puts in force
-abbrev pub put_in_force : PlainEvent → Option (List Command)
-put_in_force (Registering e) = None
-put_in_force (Unregistering id) = None
-put_in_force (Admitting id call digits units) = None
-put_in_force (Changing id call units) = None
-put_in_force (Releasing id call) = None
-
--- the commands that were put in force, the opening ones first
-abbrev pub generations_of : List Command → List PlainEntry → List (List Command)
-generations_of commands entries = commands ∷ filter_map (λ e. put_in_force e.event) entries
+  pub reloads : s.version ≤ s.limits.reloads + 1
 
 -- what every record keeps: the commands in force are the last that were put in force, the version
 -- is the number of those that were, the limits stay, its entries are counted, and no limit is

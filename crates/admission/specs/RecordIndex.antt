@@ -1,8 +1,10 @@
 -- How a record is held. A reader of the contracts need not know it.
-use Rattle.std.specs.Prelude.{◌≡◌, ◌≤◌, ℕ, List, length, map, filter_map, Option, Some}
+use Rattle.std.specs.Prelude.{◌≡◌, ◌≤◌, ℕ, List, length, map, filter_map, slice_get, Option, Some, None}
+use Rattle.std.specs.Option.{option_and_then}
+use Rattle.command_reader.specs.declared.commands.Command.{Command}
 use Rattle.pieces.specs.Pieces.{PiecesParts}
-use Rattle.admission.specs.Events.{plain}
-use Rattle.admission.specs.History.{PlainEntry}
+use Rattle.admission.specs.Events.{plain, put_in_force}
+use Rattle.admission.specs.History.{PlainEntry, in_force_of}
 use Rattle.admission.specs.Slots.{entry_meant}
 use Rattle.admission.specs.declared.events.Event.{Event}
 use Rattle.admission.specs.declared.record.WholeEntry.{WholeEntry}
@@ -35,3 +37,22 @@ pub record IsStored
   pub room : kept ≤ slots.room
   pub room_aside : kept ≤ aside.room
   pub room_registrations : kept ≤ registrations.room
+
+-- the commands that an entry puts in force that stands whole
+abbrev pub put_by_whole : WholeEntry → Option (List Command)
+put_by_whole e = put_in_force (plain e.event)
+
+-- the commands in force: those of the last reload, whose entry stands at this place among the whole
+-- ones; or the opening ones
+abbrev pub in_force_at : List Command → List WholeEntry → Option ℕ → Option (List Command)
+in_force_at opening aside None = Some opening
+in_force_at opening aside (Some place) = option_and_then put_by_whole (slice_get aside place)
+
+-- the place of the last reload is that of the commands in force after these entries
+abbrev pub LastReloadIsAt : List Command → List WholeEntry → List PlainEntry → Option ℕ → Type 0
+LastReloadIsAt opening aside entries place =
+    in_force_at opening aside place ≡ Some (in_force_of opening entries)
+
+-- a list that holds the same, with no less room
+abbrev pub IsRoomier : {X : Type 0} → PiecesParts X → PiecesParts X → Type 0
+IsRoomier old new = (new.items ≡ old.items) × (old.room ≤ new.room)

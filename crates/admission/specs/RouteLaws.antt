@@ -1,9 +1,8 @@
 -- How calls are routed, as an operator says it: a technology prefix, its hop-off zone, the longest
 -- matching pattern or else the caller's own zone, and then an endpoint of that zone.
-use Rattle.std.specs.Prelude.{◌≡◌, ◌≤◌, ◌⊎◌, ◌↔◌, ℕ, true, false, IsTrue, List, [], ◌∷◌, ◌++◌, length, drop, Option, Some, None, Ok}
+use Rattle.std.specs.Prelude.{◌≡◌, ◌≤◌, ◌↔◌, ℕ, true, false, IsTrue, List, [], ◌∷◌, ◌++◌, length, drop, Option, Some, None, Ok}
 use Rattle.std.specs.List.{All, Contains}
 use Rattle.gk_terms.specs.Address.{AddressParts}
-use Rattle.digit_patterns.specs.PatternParts.{PatternParts}
 use Rattle.digit_patterns.specs.Pattern.{Matches}
 use Rattle.digit_patterns.specs.Table.{IsBest}
 use Rattle.command_reader.specs.declared.commands.Command.{Command}

@@ -1,6 +1,6 @@
 -- What is ruled of an event in a state: the verdict, what its entry tells of an admission, and what
 -- it changes. The verdict, the entry and the effect of an event are parts of its ruling.
-use Rattle.std.specs.Prelude.{ℕ, List, Option, Some, None, if◌then◌else◌}
+use Rattle.std.specs.Prelude.{ℕ, ◌+◌, List, Option, Some, None, if◌then◌else◌}
 use Rattle.compiler.specs.Zones.{zone_meant}
 use Rattle.compiler.specs.Plan.{Target, plan_of, zone_of_target, is_remote}
 use Rattle.registry.specs.Endpoint.{EndpointParts}
@@ -20,12 +20,12 @@ use Rattle.admission.specs.declared.replies.ChangeRefusal.TheVariants as change
 use Rattle.admission.specs.declared.replies.ReleaseRefusal.{ReleaseRefusal}
 use Rattle.admission.specs.declared.replies.ReleaseRefusal.TheVariants as release
 use Rattle.admission.specs.declared.replies.Reply.{Reply}
-use Rattle.admission.specs.declared.replies.Reply.TheVariants.{Registered, RegisterRefused, Unregistered, UnregisterRefused, Admitted, AdmitRefused, Changed, ChangeRefused, Released, ReleaseRefused}
+use Rattle.admission.specs.declared.replies.Reply.TheVariants.{Registered, RegisterRefused, Unregistered, UnregisterRefused, Admitted, AdmitRefused, Changed, ChangeRefused, Released, ReleaseRefused, Reloaded}
 use Rattle.admission.specs.declared.rulings.Effect.{Effect}
 use Rattle.admission.specs.declared.rulings.Effect.TheVariants as effects
 use Rattle.admission.specs.declared.rulings.Ruling.{Ruling}
 use Rattle.admission.specs.State.{State}
-use Rattle.admission.specs.Events.{PlainEvent, Registering, Unregistering, Admitting, Changing, Releasing}
+use Rattle.admission.specs.Events.{PlainEvent, Registering, Unregistering, Admitting, Changing, Releasing, Reloading}
 use Rattle.admission.specs.Routing.{route_of}
 
 -- a ruling on an event that is not routed
@@ -148,6 +148,11 @@ release_ruling s id call (Some held) =
     if has_owner id held then unrouted (Released call) (effects.Close call id)
     else release_refused s id call release.NotYours
 
+-- ---- reloads
+-- a configuration is always put in force, as the next version
+abbrev pub reload_ruling : State → Ruling
+reload_ruling s = unrouted (Reloaded (s.version + 1)) effects.PutInForce
+
 -- ---- the ruling
 unfoldable pub ruling_of : State → PlainEvent → Ruling
 ruling_of s (Registering e) = registration_ruling s e
@@ -156,6 +161,7 @@ ruling_of s (Admitting id call digits units) =
     admission_ruling s call digits units (endpoint_of s.endpoints id)
 ruling_of s (Changing id call units) = change_ruling s id call units (call_of s.calls call)
 ruling_of s (Releasing id call) = release_ruling s id call (call_of s.calls call)
+ruling_of s (Reloading commands) = reload_ruling s
 
 abbrev pub verdict_of : State → PlainEvent → Reply
 verdict_of s event = (ruling_of s event).verdict

@@ -26,6 +26,33 @@ opening_of commands limits = record {
   limits = limits;
 }
 
+-- a state without its commands
+pub record MachineParts : Type 0 where
+  pub version : ℕ
+  pub endpoints : List EndpointParts
+  pub calls : List OpenCall
+  pub records : ℕ
+  pub limits : Limits
+
+-- the state that has these commands in force
+abbrev pub under : List Command → MachineParts → State
+under commands m = record {
+  commands = commands;
+  version = m.version;
+  endpoints = m.endpoints;
+  calls = m.calls;
+  records = m.records;
+  limits = m.limits;
+}
+
+-- a state of which only what does not depend on the commands in force is asked
+abbrev pub bare : MachineParts → State
+bare m = under [] m
+
+-- that of an opening state
+abbrev pub idle : Limits → MachineParts
+idle limits = record { version = 1; endpoints = []; calls = []; records = 0; limits = limits }
+
 -- the places of the record that are neither taken by an entry nor kept by an open call for the
 -- entry of its release
 abbrev pub free_places : State → ℕ

@@ -1,19 +1,26 @@
 //! The core: one event after another, each recorded with its reply.
 
-ghost use Rattle.std.specs.Prelude.{◌≡◌, ◌↔◌, [], Some, false, IfOk, IsErrOf};
+ghost use Rattle.std.specs.Prelude.{◌≡◌, ◌≤◌, ◌↔◌, ◌++◌, ◌∷◌, [], length, Some, true, false, IfOk, IfErr, OnOk, OnErr, IsErrOf, IsSome, MatchResult};
+ghost use Rattle.std.specs.Arc.{arc_value};
+ghost use Rattle.compiler.specs.Last.{last_in};
 ghost use Rattle.admission.specs.Events as Events;
+ghost use Rattle.admission.specs.Events.{put_in_force};
 ghost use Rattle.admission.specs.State.{opening_of};
 ghost use Rattle.admission.specs.Limits.{are_limits};
 ghost use Rattle.compiler.specs.Plan.{plan_of, target_of};
 ghost use Rattle.admission.specs.Ruling.{ruling_of};
-ghost use Rattle.admission.specs.History.{Enters, IsLegal, MayReply, state_of, Steps};
-ghost use Rattle.admission.specs.HistoryLaws.{IsSound};
+ghost use Rattle.admission.specs.Step.{step};
+ghost use Rattle.admission.specs.History.{Enters, generations, IsLegal, IsUnrecorded, MayReply, state_of, Steps};
+ghost use Rattle.admission.specs.Founded.{IsUnder};
+ghost use Rattle.admission.specs.CoreInvariant.{places_reserved};
+ghost use Rattle.admission.specs.HistoryLaws.{AreAccepted, IsSound};
+ghost use Rattle.std.specs.List.{AllByRecursion};
 
 use crate::events::Event;
 use crate::limits::Limits;
 use crate::machine::Machine;
 use crate::record::{Receipt, Record};
-use crate::replies::Reply;
+use crate::replies::{ReloadRefusal, Reply};
 use crate::rulings::Ruling;
 use crate::settling::prepare;
 use bandwidth::OpenCalls;
@@ -22,6 +29,7 @@ use gk_terms::{Dialled, Name, Units, Version};
 use registry::{Endpoint, Registry};
 use std::alloc::Global;
 use std::marker::Model;
+use std::sync::Arc;
 use thiserror::Error;
 
 /// Why a core is not opened.
@@ -37,43 +45,54 @@ pub enum OpeningFault {
 
 /// A gatekeeper's core: the configuration in force, the registered endpoints, the open calls, and
 /// the record from which all of it can be rebuilt. A contract sees it as `CoreParts`: its opening
-/// state and the entries of its record; the current state is the replay of the entries.
+/// state, the entries of its record, and whether a place is reserved for the entry of a reload; the
+/// current state is the replay of the entries.
 #[derive(Drop)]
 pub struct Core {
     machine: Machine,
     history: Record,
+    reserved: bool,
 }
 
 impl Model for Core {
-    ghost use Rattle.admission.specs.State.{opening_of};
+    ghost use Rattle.admission.specs.State.{opening_of, under};
     ghost use Rattle.admission.specs.CoreInvariant.{IsKept};
-    ghost use Rattle.admission.specs.History.{CoreParts};
+    ghost use Rattle.admission.specs.History.{CoreParts, in_force};
 
     ghost Value = { CoreParts };
 
     ghost view = { λ c. record {
-      opening = opening_of c.machine.commands c.machine.limits;
+      opening = opening_of c.history.opening c.machine.limits;
       entries = c.history.entries;
+      reserved = c.reserved;
     } };
 
-    ghost invariant = { λ c. IsKept
-        (opening_of c.machine.commands c.machine.limits) c.history c.machine };
+    ghost invariant = { λ c. IsKept (opening_of c.history.opening c.machine.limits) c.history
+        (under (in_force c.history) c.machine) c.reserved };
 }
 
 impl Core {
     /// A core with these tables as version 1, and nothing registered, open or recorded.
-    /// `BadLimits` comes exactly if a limit is 0 or above the stated one.
-    pub fn new(alloc: Global, tables: Tables, limits: Limits) -> Result<Core, OpeningFault>
-        ensures opened { IfOk result (λ core. core
-            ≡ record { opening = opening_of tables.commands limits; entries = [] }) }
+    /// `BadLimits` comes exactly if a limit is 0 or above the stated one. `NoMemory` does not come:
+    /// an empty core takes none.
+    pub fn new(alloc: Global, tables: Arc<Tables>, limits: Limits) -> Result<Core, OpeningFault>
+        ensures opened { IfOk result (λ core. core ≡ record {
+          opening = opening_of (arc_value tables).commands limits;
+          entries = [];
+          reserved = false;
+        }) }
+        ensures memory { IfErr result (λ fault. fault ≡ OpeningFault.BadLimits) }
         ensures limits { IsErrOf result OpeningFault.BadLimits ↔ (are_limits limits ≡ false) }
     {
         if !limits.are_good() {
             return Err(OpeningFault::BadLimits);
         }
+        // So it is known that they are of an accepted configuration.
+        let _count = tables.commands().len();
         Ok(Core {
-            machine: Machine::new(alloc, tables, limits),
-            history: Record::new(alloc),
+            machine: Machine::new(alloc, limits),
+            history: Record::new(alloc, tables),
+            reserved: false,
         })
     }
 
@@ -111,7 +130,7 @@ impl Core {
     {
         let digits = routed.dialled;
         let plan = self.plan_for(routed);
-        let ruling = self.machine().admission(&plan, id, call, &digits, units);
+        let ruling = self.admission(&plan, id, call, &digits, units);
         let event = Event::Admit {
             id: *id,
             call,
@@ -140,16 +159,76 @@ impl Core {
         self.answer(Event::Release { id: *id, call })
     }
 
+    #[tactic(auto, using(crate::proofs::VersionLemmas::reload_version))]
+    /// Puts another configuration in force, whole, as the next version. Open calls stay with the
+    /// names of their zones, and may be changed and released as before; registrations whose zone is
+    /// no longer local go. Ok and Err are as of `answer`; the refusal by a count is reloads-spent,
+    /// if the configuration was replaced as often as the limit allows, or record-full. After
+    /// `reserve_reload` it takes no memory.
+    pub fn reload(&mut self, tables: Arc<Tables>) -> Result<(Reply, Receipt), Reply>
+        ensures step { Steps self.old (Events.Reloading (arc_value tables).commands)
+            result self.new }
+        ensures reserved { self.old.reserved ≡ true → OnErr result
+            ((step (state_of self.old) (Events.Reloading (arc_value tables).commands)).recorded
+            ≡ false) }
+        ensures refused { IfErr result (λ reply.
+            (reason : ReloadRefusal) × (reply ≡ Reply.ReloadRefused reason)) }
+        ensures generations { MatchResult result
+            (λ _. generations self.new ≡ generations self.old ++ (arc_value tables).commands ∷ [])
+            (λ _. generations self.new ≡ generations self.old) }
+        ensures version { IfOk result (λ answer. answer.0
+            ≡ Reply.Reloaded (length (generations self.new))) }
+    {
+        // So it is known which version comes next.
+        let _before = self.version();
+        self.answer(Event::Reload(tables))
+    }
+
+    /// Keeps a place for the entry of a reload of these tables, so that `reload`, if it is the next
+    /// event, takes no memory: then it is refused only if this is. The refusals are those of
+    /// `reload`. Nothing that can be asked of the core changes.
+    pub fn reserve_reload(&mut self, tables: &Arc<Tables>) -> Result<(), Reply>
+        ensures ok { OnOk result ((self.new ≡ record self.old { reserved = true })
+            × ((step (state_of self.old)
+            (Events.Reloading (arc_value tables.now).commands)).recorded ≡ true)) }
+        ensures again { self.old.reserved ≡ true → OnErr result ((step (state_of self.old)
+            (Events.Reloading (arc_value tables.now).commands)).recorded ≡ false) }
+        ensures refused { IfErr result (λ reply.
+            (reason : ReloadRefusal) × (reply ≡ Reply.ReloadRefused reason)) }
+        ensures err { IfErr result (λ reply. IsUnrecorded self.old
+            (Events.Reloading (arc_value tables.now).commands) reply self.new) }
+    {
+        let _ = tables;
+        let ruling = self.machine.reload();
+        if let Some(refusal) = self.machine.reload_refusal(&ruling.effect) {
+            return Err(refusal);
+        }
+        if self.reserved {
+            return Ok(());
+        }
+        match self.history.keep(1) {
+            Ok(()) => {
+                self.reserved = true;
+                Ok(())
+            }
+            Err(_) => Err(Reply::ReloadRefused {
+                reason: ReloadRefusal::NoMemory,
+            }),
+        }
+    }
+
     /// Answers an event. An admission is planned by the tables in force.
     ///
     /// `Ok` comes exactly if the event was recorded: with the reply, granted or refused, and the
     /// receipt of the new entry. `Err` is a refusal by a count (endpoints-full, calls-full,
-    /// record-full), a refused release, or no-memory if memory ran out for an event that would have
-    /// been recorded; then nothing has changed.
+    /// reloads-spent, record-full), a refused release, or no-memory if memory ran out for an event
+    /// that would have been recorded; then nothing has changed.
     pub fn answer(&mut self, event: Event) -> Result<(Reply, Receipt), Reply>
-        ensures { Steps self.old (Events.plain event) result self.new }
+        ensures step { Steps self.old (Events.plain event) result self.new }
+        ensures reserved { self.old.reserved ≡ true → IsSome (put_in_force (Events.plain event))
+            → OnErr result ((step (state_of self.old) (Events.plain event)).recorded ≡ false) }
     {
-        let ruling = self.machine().ruling(&event);
+        let ruling = self.ruling(&event);
         self.settle(event, &ruling)
     }
 
@@ -158,7 +237,7 @@ impl Core {
     pub fn reply(&mut self, event: Event) -> Reply
         ensures { MayReply self.old (Events.plain event) result self.new }
     {
-        let ruling = &self.machine().ruling(&event);
+        let ruling = &self.ruling(&event);
         match self.enter(event, ruling) {
             Ok(_) => ruling.verdict,
             Err(reply) => reply,
@@ -172,8 +251,7 @@ impl Core {
         ensures plan { target_of (state_of self.now).commands result.plan
             ≡ Some (plan_of (state_of self.now).commands digits.now) }
     {
-        let machine = self.machine();
-        machine.tables().routed(machine.version(), digits)
+        self.tables().routed(self.version(), digits)
     }
 
     /// The plan of the tables in force for the digits: the one given if it is of the version in
@@ -185,17 +263,39 @@ impl Core {
         ensures { target_of (state_of self.now).commands result
             ≡ Some (plan_of (state_of self.now).commands routed.now.dialled) }
     {
-        if routed.version == self.machine().version() {
+        if routed.version == self.version() {
             routed.plan
         } else {
-            self.machine().tables().plan(&routed.dialled)
+            self.tables().plan(&routed.dialled)
         }
+    }
+
+    #[tactic(auto, using(crate::proofs::CoreLemmas::ruled_by))]
+    /// The ruling on an event in the current state.
+    fn ruling(&self, event: &Event) -> Ruling
+        ensures { result ≡ ruling_of (state_of self.now) (Events.plain event.now) }
+    {
+        self.machine().ruling(self.tables(), event)
+    }
+
+    #[tactic(auto, using(crate::proofs::CoreLemmas::ruled_by))]
+    /// The ruling on an admission in the current state, by a plan of the tables in force.
+    fn admission(&self, plan: &Plan, id: &Name, call: u32, digits: &Dialled, units: Units) -> Ruling
+        requires { target_of (state_of self.now).commands plan.now
+            ≡ Some (plan_of (state_of self.now).commands digits.now) }
+        ensures { result ≡ ruling_of (state_of self.now)
+            (Events.Admitting id.now call digits.now units) }
+    {
+        self.machine()
+            .admission(self.tables(), plan, id, call, digits, units)
     }
 
     /// Records the event and carries out the ruling on it, as `enter` does, and makes the receipt.
     fn settle(&mut self, event: Event, ruling: &Ruling) -> Result<(Reply, Receipt), Reply>
         requires { ruling.now ≡ ruling_of (state_of self.old) (Events.plain event) }
-        ensures { Steps self.old (Events.plain event) result self.new }
+        ensures step { Steps self.old (Events.plain event) result self.new }
+        ensures reserved { self.old.reserved ≡ true → IsSome (put_in_force (Events.plain event))
+            → OnErr result ((step (state_of self.old) (Events.plain event)).recorded ≡ false) }
     {
         let unnumbered = ruling.receipt(0, &event);
         match self.enter(event, ruling) {
@@ -214,7 +314,9 @@ impl Core {
     /// is not recorded. The answer is the number of the entry.
     fn enter(&mut self, event: Event, ruling: &Ruling) -> Result<u32, Reply>
         requires { ruling.now ≡ ruling_of (state_of self.old) (Events.plain event) }
-        ensures { Enters self.old (Events.plain event) ruling.now result self.new }
+        ensures step { Enters self.old (Events.plain event) ruling.now result self.new }
+        ensures reserved { self.old.reserved ≡ true → IsSome (put_in_force (Events.plain event))
+            → OnErr result ((step (state_of self.old) (Events.plain event)).recorded ≡ false) }
     {
         if let Some(refusal) = self.machine.count_refusal(&event, ruling) {
             return Err(refusal);
@@ -222,8 +324,17 @@ impl Core {
         if !ruling.verdict.is_recorded() {
             return Err(ruling.verdict);
         }
-        match prepare(&mut self.history, &mut self.machine, &event, ruling) {
+        event.is_of_an_accepted_configuration();
+        let reserved = places_reserved(self.reserved);
+        match prepare(
+            &mut self.history,
+            &mut self.machine,
+            &event,
+            ruling,
+            reserved,
+        ) {
             Ok(number) => {
+                self.reserved = false;
                 self.history.push(event, ruling);
                 Ok(number)
             }
@@ -233,18 +344,22 @@ impl Core {
 
     // ---- views
 
-    /// The number of the version in force.
+    /// The number of the version in force: how many configurations were put in force, the opening
+    /// one included. It is at most 4,097.
     pub fn version(&self) -> Version
-        ensures { result ≡ (state_of self.now).version }
+        ensures version { result ≡ (state_of self.now).version }
+        ensures generations { result ≡ length (generations self.now) }
+        ensures few { result ≤ 4097 }
     {
-        self.machine().version()
+        self.machine.version()
     }
 
-    /// The tables in force.
+    /// The tables in force: those that were put in force last.
     pub fn tables(&self) -> &Tables
-        ensures { result.now.commands ≡ (state_of self.now).commands }
+        ensures tables { result.now.commands ≡ (state_of self.now).commands }
+        ensures generations { Some result.now.commands ≡ last_in (generations self.now) }
     {
-        self.machine().tables()
+        self.history.tables()
     }
 
     /// The registered endpoints, in order of registration.
@@ -261,26 +376,41 @@ impl Core {
         self.machine().calls()
     }
 
-    #[tactic(auto, using(crate::proofs::CoreLemmas::is_legal, crate::proofs::CoreLemmas::is_sound))]
     /// The record. Each entry is what the rules say of its event in the state that the entries
     /// before it leave, and with a place for the release of each open call it stays within the
-    /// limit of the record.
+    /// limit of the record. Each configuration that was put in force is an accepted one.
     pub fn record(&self) -> &Record
         ensures entries { result.now.entries ≡ self.now.entries }
+        ensures begun { result.now.opening ≡ self.now.opening.commands }
         ensures opening { self.now.opening
             ≡ opening_of self.now.opening.commands self.now.opening.limits }
         ensures legal { IsLegal self.now.opening self.now.entries }
         ensures sound { IsSound self.now.opening.commands self.now.opening.limits
             self.now.entries (state_of self.now) }
+        ensures accepted { AllByRecursion AreAccepted (generations self.now) }
     {
         &self.history
     }
 
-    #[tactic(auto, unfolding(crate::specs::History::state_of))]
-    /// The current state: the replay of the record.
+    /// The record, in place of the core.
+    pub fn into_record(self) -> Record
+        ensures entries { result.entries ≡ self.entries }
+        ensures begun { result.opening ≡ self.opening.commands }
+    {
+        self.history
+    }
+
+    /// The machine: with the commands in force it is the current state, the replay of the record.
     fn machine(&self) -> &Machine
-        ensures { result.now ≡ state_of self.now }
+        ensures { IsUnder result.now (state_of self.now) }
     {
         &self.machine
     }
+}
+
+/// The places of the record that are kept for a reload.
+fn places_reserved(reserved: bool) -> usize
+    ensures { result ≡ places_reserved reserved }
+{
+    if reserved { 1 } else { 0 }
 }

@@ -1,13 +1,13 @@
-//! Refusals by a count: of endpoints, of calls, or of the entries of the record.
+//! Refusals by a count: of endpoints, of calls, of reloads, or of the entries of the record.
 
-ghost use Rattle.std.specs.Prelude.{◌≡◌};
+ghost use Rattle.std.specs.Prelude.{◌≡◌, nat_lt};
 ghost use Rattle.admission.specs.State as States;
 ghost use Rattle.admission.specs.Events.{plain};
 ghost use Rattle.admission.specs.Step as Spec;
 
 use crate::events::Event;
 use crate::machine::Machine;
-use crate::replies::{AdmitRefusal, RegisterRefusal, Reply};
+use crate::replies::{AdmitRefusal, RegisterRefusal, ReloadRefusal, Reply};
 use crate::rulings::{Effect, Ruling};
 use registry::Endpoint;
 
@@ -19,8 +19,11 @@ impl Effect {
     {
         match self {
             Effect::Open(_) => 2,
-            Effect::Nothing | Effect::Put { .. } | Effect::Remove { .. } | Effect::Resize { .. } =>
-                1,
+            Effect::Nothing
+            | Effect::Put { .. }
+            | Effect::Remove { .. }
+            | Effect::Resize { .. }
+            | Effect::PutInForce => 1,
             Effect::Close { .. } => 0,
         }
     }
@@ -30,10 +33,12 @@ impl Machine {
     #[tactic(auto, unfolding(crate::specs::Step::count_refusal))]
     /// What replaces a verdict: endpoints-full if a new endpoint would be registered and there are
     /// as many as the limit allows; calls-full if a call would be opened and as many are open as
-    /// the limit allows; and else record-full if the record lacks the free places: two for a
-    /// granted admission, none for a release, and one for another verdict.
+    /// the limit allows; reloads-spent if the configuration would be replaced once more than the
+    /// limit allows; and else record-full if the record lacks the free places: two for a granted
+    /// admission, none for a release, and one for another verdict.
     pub fn count_refusal(&self, event: &Event, ruling: &Ruling) -> Option<Reply>
-        ensures { result ≡ Spec.count_refusal self.now (plain event.now) ruling.now }
+        ensures { result
+            ≡ Spec.count_refusal (States.bare self.now) (plain event.now) ruling.now }
     {
         match event {
             Event::Register(endpoint) => {
@@ -52,14 +57,31 @@ impl Machine {
                     });
                 }
             }
+            Event::Reload(_) => return self.reload_refusal(&ruling.effect),
             Event::Unregister { .. } | Event::Change { .. } | Event::Release { .. } => {}
         }
         self.record_refusal(event, &ruling.effect)
     }
 
+    /// The same for a reload with this effect.
+    pub fn reload_refusal(&self, effect: &Effect) -> Option<Reply>
+        ensures { result ≡ Spec.reload_refusal (States.bare self.now) effect.now }
+    {
+        if self.are_reloads_spent() {
+            let reason = ReloadRefusal::ReloadsSpent;
+            return Some(Reply::ReloadRefused { reason });
+        }
+        if self.lacks_places(effect) {
+            let reason = ReloadRefusal::RecordFull;
+            return Some(Reply::ReloadRefused { reason });
+        }
+        None
+    }
+
     /// Whether a new endpoint would be registered, and there are as many as the limit allows.
     fn are_endpoints_full(&self, endpoint: &Endpoint, verdict: &Reply) -> bool
-        ensures { result ≡ Spec.are_endpoints_full self.now endpoint.now verdict.now }
+        ensures { result
+            ≡ Spec.are_endpoints_full (States.bare self.now) endpoint.now verdict.now }
     {
         verdict.is_granted()
             && !self.registry().is_registered(endpoint.id())
@@ -68,26 +90,42 @@ impl Machine {
 
     /// Whether a call would be opened, and as many are open as the limit allows.
     fn are_calls_full(&self, verdict: &Reply) -> bool
-        ensures { result ≡ Spec.are_calls_full self.now verdict.now }
+        ensures { result ≡ Spec.are_calls_full (States.bare self.now) verdict.now }
     {
         verdict.is_granted() && self.limits().calls as usize <= self.calls().len()
     }
 
+    /// Whether the configuration was replaced as often as the limit allows.
+    fn are_reloads_spent(&self) -> bool
+        ensures { result ≡ Spec.are_reloads_spent (States.bare self.now) }
+    {
+        self.limits().reloads < self.version().value()
+    }
+
     /// record-full, if the record lacks the free places that the effect needs.
     fn record_refusal(&self, event: &Event, effect: &Effect) -> Option<Reply>
-        ensures { result ≡ Spec.record_refusal self.now (plain event.now) effect.now }
+        ensures { result
+            ≡ Spec.record_refusal (States.bare self.now) (plain event.now) effect.now }
     {
-        if self.free_places() < effect.places_needed() {
+        if self.lacks_places(effect) {
             event.record_full_reply()
         } else {
             None
         }
     }
 
+    /// Whether the record lacks the free places that the effect needs.
+    fn lacks_places(&self, effect: &Effect) -> bool
+        ensures { result ≡ nat_lt (States.free_places (States.bare self.now))
+            (Spec.places_needed effect.now) }
+    {
+        self.free_places() < effect.places_needed()
+    }
+
     /// The places of the record that are neither taken by an entry nor kept by an open call for the
     /// entry of its release.
     fn free_places(&self) -> usize
-        ensures { result ≡ States.free_places self.now }
+        ensures { result ≡ States.free_places (States.bare self.now) }
     {
         (self.limits().records as usize)
             .saturating_sub(self.records() as usize)

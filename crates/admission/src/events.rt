@@ -1,12 +1,15 @@
 //! Events: what a core is asked.
 
-ghost use Rattle.std.specs.Prelude.{◌≡◌};
-ghost use Rattle.admission.specs.Events.{plain, kind_of, id_of, call_number_of};
+ghost use Rattle.std.specs.Prelude.{◌≡◌, IfSome};
+ghost use Rattle.command_reader.specs.Accepted.{IsAccepted};
+ghost use Rattle.admission.specs.Events.{plain, kind_of, id_of, call_number_of, put_in_force};
 
+use compiler::Tables;
 use gk_terms::{Dialled, Name, Units};
 use registry::Endpoint;
+use std::sync::Arc;
 
-/// What an endpoint asks of the core.
+/// What an endpoint or an operator asks of the core.
 #[derive(Drop)]
 pub enum Event {
     /// To be registered, in the zone that it names.
@@ -43,6 +46,8 @@ pub enum Event {
         /// The number of the call, 1 to 4294967295.
         call: u32,
     },
+    /// Another configuration, whole, in place of the one in force: these are its tables.
+    Reload(Arc<Tables>),
 }
 
 /// What kind of event it is.
@@ -58,9 +63,21 @@ pub enum EventKind {
     BandwidthChange,
     /// A release.
     Release,
+    /// A reload of the configuration.
+    Reload,
 }
 
 impl Event {
+    /// Does nothing: it tells the proofs that the tables of a reload are of an accepted
+    /// configuration.
+    pub(crate) fn is_of_an_accepted_configuration(&self)
+        ensures { IfSome (put_in_force (plain self.now)) IsAccepted }
+    {
+        if let Event::Reload(tables) = self {
+            let _count = tables.commands().len();
+        }
+    }
+
     /// What kind of event it is.
     pub fn kind(&self) -> EventKind
         ensures { result ≡ kind_of (plain self.now) }
@@ -71,10 +88,11 @@ impl Event {
             Event::Admit { .. } => EventKind::Admission,
             Event::Change { .. } => EventKind::BandwidthChange,
             Event::Release { .. } => EventKind::Release,
+            Event::Reload(_) => EventKind::Reload,
         }
     }
 
-    /// The ID of the endpoint that asks.
+    /// The ID of the endpoint that asks; nothing for a reload, which an operator asks for.
     pub fn id(&self) -> Option<Name>
         ensures { result ≡ id_of (plain self.now) }
     {
@@ -84,6 +102,7 @@ impl Event {
             | Event::Admit { id, .. }
             | Event::Change { id, .. }
             | Event::Release { id, .. } => Some(*id),
+            Event::Reload(_) => None,
         }
     }
 
@@ -92,7 +111,7 @@ impl Event {
         ensures { result ≡ call_number_of (plain self.now) }
     {
         match self {
-            Event::Register(_) | Event::Unregister { .. } => None,
+            Event::Register(_) | Event::Unregister { .. } | Event::Reload(_) => None,
             Event::Admit { call, .. } | Event::Change { call, .. } | Event::Release { call, .. } =>
                 Some(*call),
         }

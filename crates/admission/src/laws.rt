@@ -28,15 +28,15 @@ pub fn open_numbers_are_refused()
     ensures { OpenNumbersAreRefused }
 {}
 
-/// In every legal history under an accepted configuration, as the record of a core is one: each
-/// granted admission went where its digits led, by the endpoints that were registered when it was
-/// asked.
+/// In every legal history under accepted configurations, the opening one and each that a reload put
+/// in force, as the record of a core is one: each granted admission went where its digits led, by
+/// the configuration that was in force and the endpoints that were registered when it was asked.
 pub fn recorded_admissions_are_routed()
     ensures { RecordedAdmissionsAreRouted }
 {}
 
-/// In every legal history under an accepted configuration: each admission that was refused for its
-/// route had digits that led nowhere, for this reason.
+/// In every legal history under accepted configurations: each admission that was refused for its
+/// route had digits that led nowhere, by the configuration then in force, for this reason.
 pub fn recorded_refusals_are_unrouted()
     ensures { RecordedRefusalsAreUnrouted }
 {}
@@ -61,8 +61,8 @@ pub fn recorded_limits_are_above()
 {}
 
 /// Every legal history has the commands in force that were put in force last, as its version says,
-/// keeps its limits, counts its entries, and leaves no more endpoints, calls or entries than its
-/// limits allow, with room for the entry of the release of each open call.
+/// keeps its limits, counts its entries, and leaves no more endpoints, calls, reloads or entries
+/// than its limits allow, with room for the entry of the release of each open call.
 pub fn records_are_sound()
     ensures { RecordsAreSound }
 {}

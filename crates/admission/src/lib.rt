@@ -25,7 +25,8 @@ pub use limits::{Limits, STATED_LIMITS};
 pub use record::{Entry, Receipt, Record};
 pub use registry::Duplicate;
 pub use replies::{
-    AdmitRefusal, ChangeRefusal, RegisterRefusal, ReleaseRefusal, Reply, UnregisterRefusal,
+    AdmitRefusal, ChangeRefusal, RegisterRefusal, ReleaseRefusal, ReloadRefusal, Reply,
+    UnregisterRefusal,
 };
 pub use routes::{Destination, Route, RouteRefusal};
 pub use routing::route;

@@ -1,13 +1,14 @@
-//! The machine: the state of a running core.
+//! The machine: the state of a running core, but for the tables in force.
 
-ghost use Rattle.std.specs.Prelude.{◌≡◌, ◌≤◌, ◌+◌, nat_le, None, false, true, length, OnOk, OnErr, IsSome};
-ghost use Rattle.registry.specs.Registration.{is_registered, is_full_for, with_endpoint, without_endpoint, in_zone_meant};
+ghost use Rattle.std.specs.Prelude.{◌≡◌, ◌≤◌, ◌+◌, nat_le, None, false, true, length, OnOk, OnErr};
+ghost use Rattle.registry.specs.Registration.{is_registered, is_full_for, with_endpoint, without_endpoint, in_zone_meant, kept_zones};
 ghost use Rattle.bandwidth.specs.Calls.{call_of, is_open, with_call, with_changed, without_call};
-ghost use Rattle.admission.specs.State.{opening_of};
+ghost use Rattle.admission.specs.State.{bare, idle, under};
+ghost use Rattle.admission.specs.Limits.{are_limits};
 ghost use Rattle.admission.specs.Events.{plain};
 ghost use Rattle.admission.specs.Ruling.{register_refusal};
-ghost use Rattle.admission.specs.Step.{with_effect, with_count, no_memory_reply_of};
-ghost use Rattle.admission.specs.Founded.{is_full_of_endpoints, is_owned, IsFounded};
+ghost use Rattle.admission.specs.Step.{with_effect, with_count};
+ghost use Rattle.admission.specs.Founded.{is_full_of_endpoints, is_owned, IsFounded, IsReloadable, IsUnder, IsFallible, takes_memory};
 
 use crate::calling::{close_in, open_in, resize_in};
 use crate::events::Event;
@@ -21,12 +22,12 @@ use registry::{Endpoint, Registry};
 use std::alloc::{AllocError, Global};
 use std::marker::Model;
 
-/// The tables in force, the registered endpoints, the open calls, the number of recorded verdicts
-/// and the limits. A contract sees them as a `State`. The registry takes as many endpoints as the
-/// limit allows, and the open calls are as many as the limit allows.
+/// The version in force, the registered endpoints, the open calls, the number of recorded verdicts
+/// and the limits. With the commands of the tables in force, which the record keeps, they are a
+/// `State`. The registry takes as many endpoints as the limit allows, and the open calls are as
+/// many as the limit allows.
 #[derive(Drop)]
 pub struct Machine {
-    tables: Tables,
     version: Version,
     registry: Registry,
     calls: OpenCalls,
@@ -35,13 +36,13 @@ pub struct Machine {
 }
 
 impl Model for Machine {
-    ghost use Rattle.std.specs.Prelude.{◌≡◌};
-    ghost use Rattle.admission.specs.State.{State};
+    ghost use Rattle.std.specs.Prelude.{◌≡◌, ◌≤◌, ◌+◌, true};
+    ghost use Rattle.admission.specs.State.{MachineParts};
+    ghost use Rattle.admission.specs.Limits.{are_limits};
 
-    ghost Value = { State };
+    ghost Value = { MachineParts };
 
     ghost view = { λ m. record {
-      commands = m.tables.commands;
       version = m.version;
       endpoints = m.registry.endpoints;
       calls = m.calls.calls;
@@ -50,16 +51,18 @@ impl Model for Machine {
     } };
 
     ghost invariant = { λ m. (m.registry.most ≡ m.limits.endpoints)
-        × (m.calls.most ≡ m.limits.calls) };
+        × (m.calls.most ≡ m.limits.calls)
+        × (are_limits m.limits ≡ true)
+        × (m.version ≤ m.limits.reloads + 1) };
 }
 
 impl Machine {
-    /// These tables as version 1, and nothing registered, open or recorded.
-    pub fn new(alloc: Global, tables: Tables, limits: Limits) -> Machine
-        ensures { result ≡ opening_of tables.commands limits }
+    /// Version 1, and nothing registered, open or recorded.
+    pub fn new(alloc: Global, limits: Limits) -> Machine
+        requires { are_limits limits ≡ true }
+        ensures { result ≡ idle limits }
     {
         Machine {
-            tables,
             version: Version::new(1),
             registry: Registry::new(alloc, limits.endpoints),
             calls: OpenCalls::new(alloc, limits.calls),
@@ -70,18 +73,21 @@ impl Machine {
 
     // ---- views
 
+    #[tactic(auto, using(crate::proofs::LimitLemmas::few_versions))]
     /// The number of the version in force.
     pub fn version(&self) -> Version
-        ensures { result ≡ self.now.version }
+        ensures version { result ≡ self.now.version }
+        ensures few { result ≤ 4097 }
     {
         self.version
     }
 
-    /// The tables in force.
-    pub fn tables(&self) -> &Tables
-        ensures { result.now.commands ≡ self.now.commands }
+    /// The number of the version after the one in force.
+    pub fn next_version(&self) -> Version
+        ensures { result ≡ self.now.version + 1 }
     {
-        &self.tables
+        // At most 4,097 versions come to be, so the number is a u32.
+        Version::new(self.version().value() + 1)
     }
 
     /// The registered endpoints.
@@ -124,33 +130,46 @@ impl Machine {
 
     // ---- effects
 
-    /// Carries out an effect, and counts what is recorded. If memory runs out, nothing changes; it
-    /// never does for a release.
-    pub fn apply(&mut self, event: &Event, effect: &Effect) -> Result<(), AllocError>
-        requires founded { IsFounded self.old (plain event.now) effect.now }
+    /// Carries out an effect, with these tables in force, and counts what is recorded. If memory
+    /// runs out, nothing changes; it never does for a release or a reload.
+    pub fn apply(
+        &mut self,
+        tables: &Tables,
+        event: &Event,
+        effect: &Effect,
+    ) -> Result<(), AllocError>
+        requires founded { IsFounded (under tables.now.commands self.old) (plain event.now)
+            effect.now }
         requires counted { 1 + self.old.records ≤ self.old.limits.records }
-        ensures ok { OnOk result (self.new
-            ≡ with_count (with_effect self.old (plain event.now) effect.now)) }
-        ensures err { OnErr result ((self.new ≡ self.old)
-            × IsSome (no_memory_reply_of (plain event.now))) }
+        ensures ok { OnOk result (IsUnder self.new (with_count
+            (with_effect (under tables.now.commands self.old) (plain event.now) effect.now))) }
+        ensures err { OnErr result ((self.new ≡ self.old) × IsFallible (plain event.now)
+            × (takes_memory effect.now ≡ true)) }
     {
         let records = self.next_number();
-        self.carry_out(event, effect)?;
+        self.carry_out(tables, event, effect)?;
         self.records = records;
         Ok(())
     }
 
+    #[tactic(auto, using(crate::proofs::CarryingLemmas::put_under))]
     /// Carries out an effect.
-    fn carry_out(&mut self, event: &Event, effect: &Effect) -> Result<(), AllocError>
-        requires founded { IsFounded self.old (plain event.now) effect.now }
-        ensures ok { OnOk result (self.new
-            ≡ with_effect self.old (plain event.now) effect.now) }
-        ensures err { OnErr result ((self.new ≡ self.old)
-            × IsSome (no_memory_reply_of (plain event.now))) }
+    fn carry_out(
+        &mut self,
+        tables: &Tables,
+        event: &Event,
+        effect: &Effect,
+    ) -> Result<(), AllocError>
+        requires founded { IsFounded (under tables.now.commands self.old) (plain event.now)
+            effect.now }
+        ensures ok { OnOk result (IsUnder self.new
+            (with_effect (under tables.now.commands self.old) (plain event.now) effect.now)) }
+        ensures err { OnErr result ((self.new ≡ self.old) × IsFallible (plain event.now)
+            × (takes_memory effect.now ≡ true)) }
     {
         match effect {
             Effect::Nothing => Ok(()),
-            Effect::Put { zone } => self.put(event, *zone),
+            Effect::Put { zone } => self.put(tables, event, *zone),
             Effect::Remove { id } => {
                 self.remove(id);
                 Ok(())
@@ -164,39 +183,76 @@ impl Machine {
                 self.close(*call, id);
                 Ok(())
             }
+            Effect::PutInForce => {
+                self.put_in_force(event);
+                Ok(())
+            }
         }
     }
 
     /// Puts a copy of the endpoint that asks among the endpoints, in the zone that it means.
     #[inline(never)]
-    fn put(&mut self, event: &Event, zone: Name) -> Result<(), AllocError>
-        requires founded { IsFounded self.old (plain event.now) (Effect.Put zone) }
-        ensures ok { OnOk result (self.new
-            ≡ with_effect self.old (plain event.now) (Effect.Put zone)) }
-        ensures err { OnErr result ((self.new ≡ self.old)
-            × IsSome (no_memory_reply_of (plain event.now))) }
+    fn put(&mut self, tables: &Tables, event: &Event, zone: Name) -> Result<(), AllocError>
+        requires founded { IsFounded (under tables.now.commands self.old) (plain event.now)
+            (Effect.Put zone) }
+        ensures ok { OnOk result (IsUnder self.new
+            (with_effect (under tables.now.commands self.old) (plain event.now)
+            (Effect.Put zone))) }
+        ensures err { OnErr result ((self.new ≡ self.old) × IsFallible (plain event.now)) }
     {
         match event {
-            Event::Register(endpoint) => self.register(endpoint.copy()?),
+            Event::Register(endpoint) => self.register(tables, endpoint.copy()?),
             Event::Unregister { .. }
+            | Event::Admit { .. }
+            | Event::Change { .. }
+            | Event::Release { .. }
+            | Event::Reload(_) => unreachable!(),
+        }
+    }
+
+    /// Begins the next version, which are the tables that are asked for, and lets go of each
+    /// endpoint whose zone is not local in them. Open calls stay as they are.
+    fn put_in_force(&mut self, event: &Event)
+        requires founded { IsReloadable (bare self.old) (plain event.now) }
+        ensures { IsUnder self.new
+            (with_effect (bare self.old) (plain event.now) Effect.PutInForce) }
+    {
+        match event {
+            Event::Reload(tables) => self.begin_version(tables),
+            Event::Register(_)
+            | Event::Unregister { .. }
             | Event::Admit { .. }
             | Event::Change { .. }
             | Event::Release { .. } => unreachable!(),
         }
     }
 
+    /// Begins the next version, which these tables are.
+    fn begin_version(&mut self, tables: &Tables)
+        requires { self.old.version ≤ self.old.limits.reloads }
+        ensures { self.new ≡ record self.old {
+          version = self.old.version + 1;
+          endpoints = kept_zones tables.now.commands self.old.endpoints;
+        } }
+    {
+        self.version = self.next_version();
+        self.registry.keep_zones(tables);
+    }
+
     #[tactic(auto, using(crate::proofs::RegisteringLemmas::not_refused))]
     /// Registers an endpoint that no refusal meets and for which there is room.
-    fn register(&mut self, endpoint: Endpoint) -> Result<(), AllocError>
-        requires unrefused { register_refusal self.old endpoint ≡ None }
-        requires room { is_full_of_endpoints self.old endpoint ≡ false }
+    fn register(&mut self, tables: &Tables, endpoint: Endpoint) -> Result<(), AllocError>
+        requires unrefused { register_refusal (under tables.now.commands self.old) endpoint
+            ≡ None }
+        requires room { is_full_of_endpoints (under tables.now.commands self.old) endpoint
+            ≡ false }
         ensures ok { OnOk result (self.new ≡ record self.old {
           endpoints
-              = with_endpoint self.old.endpoints (in_zone_meant self.old.commands endpoint);
+              = with_endpoint self.old.endpoints (in_zone_meant tables.now.commands endpoint);
         }) }
         ensures err { OnErr result (self.new ≡ self.old) }
     {
-        register_in(&mut self.registry, &self.tables, endpoint)
+        register_in(&mut self.registry, tables, endpoint)
     }
 
     /// Takes out an endpoint that is registered.

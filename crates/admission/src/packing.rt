@@ -24,7 +24,7 @@ impl Slot {
             ≡ Some (entry_by (plain event.now) ruling.now)) }
     {
         match event {
-            Event::Register(_) => None,
+            Event::Register(_) | Event::Reload(_) => None,
             Event::Unregister { id } => unregistration(id, ruling),
             Event::Admit {
                 id,
@@ -52,7 +52,8 @@ impl ShortReply {
             Event::Unregister { .. }
             | Event::Admit { .. }
             | Event::Change { .. }
-            | Event::Release { .. } => None,
+            | Event::Release { .. }
+            | Event::Reload(_) => None,
         }
     }
 }

@@ -1,24 +1,28 @@
 //! The record: what was asked, and what was replied.
 
-ghost use Rattle.std.specs.Prelude.{◌≡◌, ◌↔◌, ◌<◌, ◌≤◌, ◌+◌, ◌-◌, ◌^◌, ◌++◌, ◌∷◌, [], true, length, take, slice_get, OnOk, OnErr, IfErr, IfNone, IfSome, IsSome, map, option_map};
+ghost use Rattle.std.specs.Prelude.{◌≡◌, ◌↔◌, ◌<◌, ◌≤◌, ◌+◌, ◌-◌, ◌^◌, ◌++◌, ◌∷◌, [], true, length, take, slice_get, OnOk, OnErr, IfErr, IfNone, IfSome, IsSome, is_some, Some, map, option_map, if◌then◌else◌};
 ghost use Rattle.std.specs.List.{All, cons_option};
 ghost use Rattle.std.specs.Option.{option_and_then};
 ghost use Rattle.admission.specs.Events.{plain};
 ghost use Rattle.admission.specs.Slots.{entry_meant, other_entry, registration_meant};
-ghost use Rattle.admission.specs.RecordIndex.{slot_meant, plain_whole};
-ghost use Rattle.admission.specs.History.{plain_entry, entry_by, entry_of_number, receipt_of, Stands};
+ghost use Rattle.admission.specs.RecordIndex.{slot_meant, plain_whole, put_by_whole, IsRoomier};
+ghost use Rattle.pieces.specs.declared.list.TheConstants.{PIECE_ITEMS};
+ghost use Rattle.std.specs.Arc.{arc_value};
+ghost use Rattle.admission.specs.History.{plain_entry, entry_by, entry_of_number, receipt_of, Stands, in_force};
 
 use crate::events::{Event, EventKind};
 use crate::replies::Reply;
 use crate::routes::Route;
 use crate::rulings::Ruling;
 use crate::slots::{HeldSlot, ShortReply, Slot};
+use compiler::Tables;
 use gk_terms::Name;
 use pieces::Pieces;
 use std::alloc::{AllocError, Global};
 use std::borrow::Cow;
 use std::marker::Model;
 use std::mem::size_of;
+use std::sync::Arc;
 
 /// One recorded event with its reply.
 #[derive(Drop)]
@@ -52,6 +56,35 @@ pub(crate) struct WholeEntry {
 }
 
 impl WholeEntry {
+    /// The place of the last reload if this entry is put at a place after one at another.
+    fn last_reload(&self, place: u32, before: Option<u32>) -> Option<u32>
+        ensures { result ≡ (if is_some (put_by_whole self.now) then Some place else before) }
+    {
+        match &self.event {
+            Event::Reload(_) => Some(place),
+            Event::Register(_)
+            | Event::Unregister { .. }
+            | Event::Admit { .. }
+            | Event::Change { .. }
+            | Event::Release { .. } => before,
+        }
+    }
+
+    /// The tables that it put in force.
+    fn tables(&self) -> &Tables
+        requires { IsSome (put_by_whole self.now) }
+        ensures { put_by_whole self.now ≡ Some result.now.commands }
+    {
+        match &self.event {
+            Event::Reload(tables) => tables,
+            Event::Register(_)
+            | Event::Unregister { .. }
+            | Event::Admit { .. }
+            | Event::Change { .. }
+            | Event::Release { .. } => unreachable!(),
+        }
+    }
+
     /// The entry, with the event lent.
     pub(crate) fn lent(&self) -> Entry<'_>
         ensures { plain_entry result ≡ plain_whole self.now }
@@ -78,7 +111,7 @@ pub struct Receipt {
     pub number: u32,
     /// What kind of event it was.
     pub kind: EventKind,
-    /// The ID of the endpoint that asked.
+    /// The ID of the endpoint that asked; nothing for a reload.
     pub id: Option<Name>,
     /// The number of the call that it was about, if it was about one.
     pub call: Option<u32>,
@@ -122,7 +155,8 @@ impl Receipt {
     }
 }
 
-/// The recorded events in order. A contract sees them by their values alone, and how many further
+/// The recorded events in order, and the tables that they put in force. A contract sees the events
+/// by their values alone, after the commands that were in force before them, and how many further
 /// ones find room without memory: the places that are kept.
 ///
 /// `slots` has one slot for each entry, in few bytes. The event of a registration stands in
@@ -130,8 +164,14 @@ impl Receipt {
 /// place there; any other entry that does not fit into a slot stands whole in `aside`, and its slot
 /// has its place there. All three grow piece by piece, so that no entry is ever moved, and each has
 /// room for every kept place.
+///
+/// `opening` are the tables that were in force before the first entry. The entry of a reload stands
+/// whole, and owns its tables; `last_reload` is the place in `aside` of the last one, so that the
+/// tables in force are found at once, and the core needs no second owner of them.
 #[derive(Drop)]
 pub struct Record {
+    opening: Arc<Tables>,
+    last_reload: Option<u32>,
     slots: Pieces<HeldSlot>,
     aside: Pieces<WholeEntry>,
     registrations: Pieces<Event>,
@@ -139,26 +179,33 @@ pub struct Record {
 }
 
 impl Model for Record {
+    ghost use Rattle.std.specs.Arc.{arc_value};
     ghost use Rattle.admission.specs.History.{RecordParts};
-    ghost use Rattle.admission.specs.RecordIndex.{entries_told, IsStored};
+    ghost use Rattle.admission.specs.RecordIndex.{entries_told, IsStored, LastReloadIsAt};
 
     ghost Value = { RecordParts };
 
     ghost view = { λ r. record {
+      opening = (arc_value r.opening).commands;
       entries = entries_told r.slots r.aside r.registrations;
       kept = r.kept;
     } };
 
     ghost invariant = { λ r. IsStored r.slots r.aside r.registrations
-        (entries_told r.slots r.aside r.registrations) r.kept };
+        (entries_told r.slots r.aside r.registrations) r.kept
+        × LastReloadIsAt (arc_value r.opening).commands r.aside.items
+        (entries_told r.slots r.aside r.registrations) r.last_reload };
 }
 
 impl Record {
-    /// No entries, and no place kept.
-    pub(crate) fn new(alloc: Global) -> Record
-        ensures { result ≡ record { entries = []; kept = 0 } }
+    /// No entries after these tables, and no place kept.
+    pub(crate) fn new(alloc: Global, opening: Arc<Tables>) -> Record
+        ensures { result
+            ≡ record { opening = (arc_value opening).commands; entries = []; kept = 0 } }
     {
         Record {
+            opening,
+            last_reload: None,
             slots: Pieces::new(alloc),
             aside: Pieces::new(alloc),
             registrations: Pieces::new(alloc),
@@ -170,6 +217,19 @@ impl Record {
     /// admission does if no name in it has more than 19 characters.
     pub fn slot_bytes() -> usize {
         size_of::<HeldSlot>()
+    }
+
+    /// The tables in force after the entries.
+    pub(crate) fn tables(&self) -> &Tables
+        ensures { result.now.commands ≡ in_force self.now }
+    {
+        match self.last_reload {
+            None => &self.opening,
+            Some(place) => match self.aside.get(place as usize) {
+                Some(entry) => entry.tables(),
+                None => unreachable!(),
+            },
+        }
     }
 
     /// How many entries there are.
@@ -240,7 +300,7 @@ impl Record {
     pub(crate) fn keep(&mut self, places: usize) -> Result<(), AllocError>
         requires { places ≤ 2 }
         ensures ok { OnOk result (self.new
-            ≡ record { entries = self.old.entries; kept = self.old.kept + places }) }
+            ≡ record self.old { kept = self.old.kept + places }) }
         ensures err { OnErr result ((self.new ≡ self.old) × (1 ≤ places)) }
     {
         if places == 0 {
@@ -249,9 +309,12 @@ impl Record {
         // So it is known that the sum fits.
         let _count = self.slots.len();
         let kept = self.kept + places;
-        self.slots.reserve(kept)?;
-        self.aside.reserve(kept)?;
-        self.registrations.reserve(kept)?;
+        reserve_each(
+            &mut self.slots,
+            &mut self.aside,
+            &mut self.registrations,
+            kept,
+        )?;
         self.kept = kept;
         Ok(())
     }
@@ -259,8 +322,7 @@ impl Record {
     /// Keeps this many places less.
     pub(crate) fn give_back(&mut self, places: usize)
         requires { places ≤ self.old.kept }
-        ensures { self.new
-            ≡ record { entries = self.old.entries; kept = self.old.kept - places } }
+        ensures { self.new ≡ record self.old { kept = self.old.kept - places } }
     {
         self.kept -= places;
     }
@@ -269,7 +331,7 @@ impl Record {
     pub(crate) fn push(&mut self, event: Event, ruling: &Ruling)
         requires kept { 1 ≤ self.old.kept }
         requires few { length self.old.entries < 2 ^ 32 }
-        ensures { self.new ≡ record {
+        ensures { self.new ≡ record self.old {
           entries = self.old.entries ++ entry_by (plain event) ruling.now ∷ [];
           kept = self.old.kept - 1;
         } }
@@ -285,7 +347,7 @@ impl Record {
     fn push_event(&mut self, event: Event, ruling: &Ruling)
         requires kept { 1 ≤ self.old.kept }
         requires few { length self.old.entries < 2 ^ 32 }
-        ensures { self.new ≡ record {
+        ensures { self.new ≡ record self.old {
           entries = self.old.entries ++ entry_by (plain event) ruling.now ∷ [];
           kept = self.old.kept - 1;
         } }
@@ -303,7 +365,7 @@ impl Record {
     fn push_slot(&mut self, slot: Slot)
         requires kept { 1 ≤ self.old.kept }
         requires meant { IsSome (entry_meant [] [] slot) }
-        ensures { self.new ≡ record {
+        ensures { self.new ≡ record self.old {
           entries = self.old.entries ++ cons_option (entry_meant [] [] slot) [];
           kept = self.old.kept - 1;
         } }
@@ -318,7 +380,7 @@ impl Record {
         requires kept { 1 ≤ self.old.kept }
         requires few { length self.old.entries < 2 ^ 32 }
         requires meant { IsSome (registration_meant replied (plain event)) }
-        ensures { self.new ≡ record {
+        ensures { self.new ≡ record self.old {
           entries = self.old.entries
               ++ cons_option (registration_meant replied (plain event)) [];
           kept = self.old.kept - 1;
@@ -335,16 +397,39 @@ impl Record {
     fn push_whole(&mut self, entry: WholeEntry)
         requires kept { 1 ≤ self.old.kept }
         requires few { length self.old.entries < 2 ^ 32 }
-        ensures { self.new ≡ record {
+        ensures { self.new ≡ record self.old {
           entries = self.old.entries ++ plain_whole entry ∷ [];
           kept = self.old.kept - 1;
         } }
     {
         let place = self.aside.len() as u32;
+        let last_reload = entry.last_reload(place, self.last_reload);
         self.slots.push(HeldSlot::new(Slot::Aside { place }));
         self.aside.push(entry);
+        self.last_reload = last_reload;
         self.kept -= 1;
     }
+}
+
+/// Makes room in each of the three lists for this many further items. If memory runs out, they hold
+/// what they did.
+fn reserve_each(
+    slots: &mut Pieces<HeldSlot>,
+    aside: &mut Pieces<WholeEntry>,
+    registrations: &mut Pieces<Event>,
+    places: usize,
+) -> Result<(), AllocError>
+    requires { (places ≤ slots.old.room + PIECE_ITEMS) × (places ≤ aside.old.room + PIECE_ITEMS)
+        × (places ≤ registrations.old.room + PIECE_ITEMS) }
+    ensures slots { IsRoomier slots.old slots.new }
+    ensures aside { IsRoomier aside.old aside.new }
+    ensures registrations { IsRoomier registrations.old registrations.new }
+    ensures ok { OnOk result ((places ≤ slots.new.room) × (places ≤ aside.new.room)
+        × (places ≤ registrations.new.room)) }
+{
+    slots.reserve(places)?;
+    aside.reserve(places)?;
+    registrations.reserve(places)
 }
 
 /// The entry of the slot at this place.

@@ -2,7 +2,7 @@
 
 use crate::routes::{Destination, RouteRefusal};
 use bandwidth::Over;
-use gk_terms::{Name, Units};
+use gk_terms::{Name, Units, Version};
 use registry::Duplicate;
 
 /// Why a registration is refused. Which case has which of H.225.0's reasons is this project's
@@ -84,6 +84,17 @@ pub enum ReleaseRefusal {
     NoCall,
 }
 
+/// Why a configuration is not replaced. The words are this project's profile.
+#[derive(Clone, Copy, Debug, PartialEq, Eq)]
+pub enum ReloadRefusal {
+    /// The configuration was replaced as often as the limit allows.
+    ReloadsSpent,
+    /// The record has no free place for the entry.
+    RecordFull,
+    /// Memory ran out.
+    NoMemory,
+}
+
 /// What is replied to a request.
 #[derive(Clone, Copy, Debug, PartialEq, Eq)]
 pub enum Reply {
@@ -135,5 +146,13 @@ pub enum Reply {
     ReleaseRefused {
         call: u32,
         reason: ReleaseRefusal,
+    },
+    /// `CCF`, of this project: the new configuration is in force, as this version.
+    Reloaded {
+        version: Version,
+    },
+    /// `CRJ`, of this project: the configuration in force stays.
+    ReloadRefused {
+        reason: ReloadRefusal,
     },
 }

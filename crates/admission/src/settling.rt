@@ -1,10 +1,13 @@
 //! What is done for an event that no count refuses, before its entry is put: room and effect.
 
-ghost use Rattle.std.specs.Prelude.{◌≡◌, ◌≤◌, ◌<◌, ◌+◌, ◌^◌, true, None, length, OnOk, OnErr, IfOk, IsSome};
+ghost use Rattle.std.specs.Prelude.{◌≡◌, ◌≤◌, ◌<◌, ◌+◌, ◌^◌, true, false, None, length, OnOk, OnErr, IfOk, IsOk};
 ghost use Rattle.admission.specs.Events.{plain};
 ghost use Rattle.admission.specs.Ruling.{ruling_of};
-ghost use Rattle.admission.specs.Step.{count_refusal, is_recorded, state_after, no_memory_reply_of, places_needed};
+ghost use Rattle.admission.specs.State.{under};
+ghost use Rattle.admission.specs.Step.{count_refusal, is_recorded, state_after, places_needed};
+ghost use Rattle.admission.specs.History.{in_force};
 ghost use Rattle.admission.specs.HistoryLaws.{IsWithinLimits};
+ghost use Rattle.admission.specs.Founded.{IsUnder, IsFallible, takes_memory};
 
 use crate::events::Event;
 use crate::machine::Machine;
@@ -15,36 +18,47 @@ use std::alloc::AllocError;
 #[tactic(auto, unfolding(crate::specs::Step::state_after))]
 /// Makes room in the record for the entry of an event that no count refuses, and carries out the
 /// effect of the ruling. The answer is the number of that entry, for which there is a place now. If
-/// memory runs out, nothing changes; it never does for a release.
+/// memory runs out, nothing changes; it never does for a release, nor for a reload whose place is
+/// `reserved`.
 pub(crate) fn prepare(
     history: &mut Record,
     machine: &mut Machine,
     event: &Event,
     ruling: &Ruling,
+    reserved: usize,
 ) -> Result<u32, AllocError>
-    requires ruled { ruling.now ≡ ruling_of machine.old (plain event.now) }
-    requires recordable { count_refusal machine.old (plain event.now) ruling.now ≡ None }
+    requires ruled { ruling.now ≡ ruling_of (under (in_force history.old) machine.old)
+        (plain event.now) }
+    requires recordable { count_refusal (under (in_force history.old) machine.old)
+        (plain event.now) ruling.now ≡ None }
     requires recorded { is_recorded ruling.now.verdict ≡ true }
-    requires kept { length machine.old.calls ≤ history.old.kept }
+    requires kept { length machine.old.calls + reserved ≤ history.old.kept }
+    requires one { reserved ≤ 1 }
     requires counted { machine.old.records ≡ length history.old.entries }
-    requires within { IsWithinLimits machine.old }
+    requires within { IsWithinLimits (under (in_force history.old) machine.old) }
     ensures number { IfOk result (λ number. number ≡ machine.old.records + 1) }
-    ensures state { OnOk result (machine.new
-        ≡ state_after machine.old (plain event.now) ruling.now) }
+    ensures state { OnOk result (IsUnder machine.new
+        (state_after (under (in_force history.old) machine.old) (plain event.now) ruling.now)) }
     ensures entries { OnOk result (history.new.entries ≡ history.old.entries) }
+    ensures opening { OnOk result (history.new.opening ≡ history.old.opening) }
     ensures few { OnOk result (length history.new.entries < 2 ^ 32) }
     ensures places { OnOk result (length machine.new.calls + 1 ≤ history.new.kept) }
-    ensures kept { OnOk result (history.new.kept
+    ensures kept { OnOk result (history.new.kept + reserved
         ≡ history.old.kept + places_needed ruling.now.effect) }
     ensures err { OnErr result ((machine.new ≡ machine.old) × (history.new ≡ history.old)
-        × IsSome (no_memory_reply_of (plain event.now))) }
+        × IsFallible (plain event.now)) }
+    ensures unfailing { takes_memory ruling.now.effect ≡ false
+        → places_needed ruling.now.effect ≤ reserved → IsOk result }
 {
     let number = machine.next_number();
-    let places = ruling.effect.places_needed();
-    history.keep(places)?;
-    if let Err(error) = machine.apply(event, &ruling.effect) {
-        history.give_back(places);
+    let needed = ruling.effect.places_needed();
+    // The reserved place is the first of those that are needed; if none is, it is free again.
+    let more = needed.saturating_sub(reserved);
+    history.keep(more)?;
+    if let Err(error) = machine.apply(history.tables(), event, &ruling.effect) {
+        history.give_back(more);
         return Err(error);
     }
+    history.give_back(reserved + more - needed);
     Ok(number)
 }

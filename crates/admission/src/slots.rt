@@ -336,7 +336,8 @@ impl ShortReply {
             Event::Unregister { .. }
             | Event::Admit { .. }
             | Event::Change { .. }
-            | Event::Release { .. } => None,
+            | Event::Release { .. }
+            | Event::Reload(_) => None,
         }
     }
 }

@@ -5,7 +5,9 @@ ghost use Rattle.admission.specs.Events.{plain};
 ghost use Rattle.admission.specs.Step as Spec;
 
 use crate::events::Event;
-use crate::replies::{AdmitRefusal, ChangeRefusal, RegisterRefusal, Reply, UnregisterRefusal};
+use crate::replies::{
+    AdmitRefusal, ChangeRefusal, RegisterRefusal, ReloadRefusal, Reply, UnregisterRefusal,
+};
 
 impl Reply {
     /// Whether it grants what was asked.
@@ -17,12 +19,14 @@ impl Reply {
             | Reply::Unregistered { .. }
             | Reply::Admitted { .. }
             | Reply::Changed { .. }
-            | Reply::Released { .. } => true,
+            | Reply::Released { .. }
+            | Reply::Reloaded { .. } => true,
             Reply::RegisterRefused { .. }
             | Reply::UnregisterRefused { .. }
             | Reply::AdmitRefused { .. }
             | Reply::ChangeRefused { .. }
-            | Reply::ReleaseRefused { .. } => false,
+            | Reply::ReleaseRefused { .. }
+            | Reply::ReloadRefused { .. } => false,
         }
     }
 
@@ -39,7 +43,9 @@ impl Reply {
             | Reply::AdmitRefused { .. }
             | Reply::Changed { .. }
             | Reply::ChangeRefused { .. }
-            | Reply::Released { .. } => true,
+            | Reply::Released { .. }
+            | Reply::Reloaded { .. }
+            | Reply::ReloadRefused { .. } => true,
             Reply::ReleaseRefused { .. } => false,
         }
     }
@@ -68,6 +74,9 @@ impl Event {
                 reason: ChangeRefusal::RecordFull,
             }),
             Event::Release { .. } => None,
+            Event::Reload(_) => Some(Reply::ReloadRefused {
+                reason: ReloadRefusal::RecordFull,
+            }),
         }
     }
 
@@ -93,6 +102,9 @@ impl Event {
                 reason: ChangeRefusal::NoMemory,
             }),
             Event::Release { .. } => None,
+            Event::Reload(_) => Some(Reply::ReloadRefused {
+                reason: ReloadRefusal::NoMemory,
+            }),
         }
     }
 }

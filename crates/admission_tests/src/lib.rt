@@ -8,4 +8,6 @@ mod laws_tests;
 #[cfg(test)]
 mod record_tests;
 #[cfg(test)]
+mod reload_tests;
+#[cfg(test)]
 mod test_cores;

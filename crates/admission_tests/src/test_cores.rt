@@ -11,6 +11,7 @@ use compiler::Tables;
 use gk_terms::{Address, Dialled, Name, Units};
 use registry::{Endpoint, EndpointKind};
 use std::alloc::Global;
+use std::sync::Arc;
 use std::test::Fail;
 
 /// Two zones: `gk-a` here, and `gk-x` of another gatekeeper.
@@ -55,10 +56,30 @@ pub const BAD_LIMITS: [Limits; 8] = [
     },
 ];
 
+/// Other zones: `gk-b` here, and `gk-x` of another gatekeeper, to which all numbers go.
+const OTHER_ZONES: &[u8] = b"zone local gk-b example.com\n\
+    zone remote gk-x example.com 10.9.0.1\n\
+    zone prefix gk-x *\n";
+
+/// The tables of a configuration.
+fn tables_of(alloc: Global, configuration: &[u8]) -> Result<Arc<Tables>, Fail> {
+    let tables = Tables::compile(alloc, read(alloc, configuration)?)?;
+    Ok(Arc::new(alloc, tables)?)
+}
+
+/// The tables that a core opens with.
+pub fn tables(alloc: Global) -> Result<Arc<Tables>, Fail> {
+    tables_of(alloc, ZONES)
+}
+
+/// The tables of the other zones.
+pub fn other_tables(alloc: Global) -> Result<Arc<Tables>, Fail> {
+    tables_of(alloc, OTHER_ZONES)
+}
+
 /// What opening a core with these limits answers.
 pub fn opening(alloc: Global, limits: Limits) -> Result<Result<Core, OpeningFault>, Fail> {
-    let tables = Tables::compile(alloc, read(alloc, ZONES)?)?;
-    Ok(Core::new(alloc, tables, limits))
+    Ok(Core::new(alloc, tables(alloc)?, limits))
 }
 
 /// A core with these limits.

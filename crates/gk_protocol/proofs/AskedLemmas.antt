@@ -1,5 +1,5 @@
 -- What a line asks, and what may be answered to it.
-use Rattle.std.proofs.Common.{◌≡◌, ℕ, true, false, List, [], ◌∷◌, refl, sym, ap, ◌∙◌, inl, inr, cond, ⊎_elim}
+use Rattle.std.proofs.Common.{◌≡◌, ℕ, Bool, true, false, List, [], ◌∷◌, refl, sym, ap, ◌∙◌, inl, inr, cond, ⊎_elim}
 use Rattle.std.specs.Prelude.{Option, Some, None, Result, Ok, Err, option_map, codes, bytes_eq}
 use Rattle.std.proofs.lemmas.Bool.{cases_Bool}
 use Rattle.gk_terms.specs.Text.{words_of, is_too_long}
@@ -9,8 +9,14 @@ use Rattle.gk_protocol.specs.declared.request_faults.NoRequest.{NoRequest}
 use Rattle.gk_protocol.specs.declared.request_faults.NoRequest.TheVariants.{Fault, NoMemory}
 use Rattle.gk_protocol.specs.declared.requests.Request.{Request}
 use Rattle.gk_protocol.specs.declared.answers.Answer.{Answer}
-use Rattle.gk_protocol.specs.Requests.{Whole, asking_of, asking_at, whole_of, registering_of, registering_by_word, registering_at, register_at, other_request_at, no_memory_to, answer_of_none, IsNoRequest}
-use Rattle.gk_protocol.specs.AnswersLine.{AnswersLine}
+use Rattle.gk_protocol.specs.declared.requests.Asking.TheVariants.{Whole, Reload}
+use Rattle.gk_protocol.specs.Requests.{asking_of, asking_at, whole_of, registering_of, registering_by_word, registering_at, register_at, other_asking_at, no_memory_to, answer_of_none, IsNoRequest}
+use Rattle.gk_lines.specs.Streams.{KnownStep}
+use Rattle.gk_lines.specs.declared.line_reader.ReadFault.{ReadFault}
+use Rattle.gk_protocol.specs.declared.owned_lines.TakenLines.{TakenLines}
+use Rattle.gk_protocol.specs.declared.sessions.Outcome.{Outcome}
+use Rattle.gk_protocol.specs.OwnedLines.{GivesLines}
+use Rattle.gk_protocol.specs.AnswersLine.{AnswersAlone, AnswersReload, AnswersByItself, AnswersLine}
 
 -- the words of a registration ask one request, or have one fault
 registering_asks_at : (words : List (List ℕ)) (x : ℕ × List ℕ) → registering_by_word words ≡ Some x → (request : Result Request RequestFault) × (asking_at words ≡ whole_of request)
@@ -19,7 +25,7 @@ registering_asks_at (word ∷ words) x h =
     ⊎_elim
     (λ (yes : bytes_eq word (codes "RRQ") ≡ true). (
       register_at words,
-      ap (λ b. cond b (whole_of (register_at words)) (whole_of (other_request_at word words))) yes,
+      ap (λ b. cond b (whole_of (register_at words)) (other_asking_at word words)) yes,
     ))
     (λ (other : bytes_eq word (codes "RRQ") ≡ false).
     let none : None ≡ Some x = sym (ap (λ b. cond b (registering_at words) None) other) ∙ h in
@@ -40,12 +46,35 @@ registering_asks line x h =
 
 module _ {S : Type 0} (MayAnswer : S → Request → Answer → S → Type 0) where
   -- the answerer's answer to a request
-  pub answered_request : (old new : S) (line : List ℕ) (request : Request) (answer : Answer) → asking_of line ≡ Ok (Some (Whole request)) → MayAnswer old request answer new → AnswersLine MayAnswer old line (Some answer) new
+  pub answered_request : (old new : S) (line : List ℕ) (request : Request) (answer : Answer) → asking_of line ≡ Ok (Some (Whole request)) → MayAnswer old request answer new → AnswersAlone MayAnswer old line answer new
   answered_request old new line request answer e h = (Ok request, e, inl h)
 
   -- the answer to a line that is no request
-  pub answered_none : (old : S) (line : List ℕ) (none : NoRequest) (answer : Answer) → IsNoRequest line none → answer ≡ answer_of_none none → AnswersLine MayAnswer old line (Some answer) old
+  pub answered_none : (old : S) (line : List ℕ) (none : NoRequest) (answer : Answer) → IsNoRequest line none → answer ≡ answer_of_none none → AnswersAlone MayAnswer old line answer old
   answered_none old line (Fault fault) answer e k = (Err fault, e, inl (k, refl))
   answered_none old line (NoMemory sequence id) answer e k =
       let asked = registering_asks line (sequence, id) e in
       (asked.0, asked.1, inr (ap (option_map no_memory_to) e ∙ ap Some (sym k), refl))
+
+  -- ---- over what a reader tells
+  -- a line by itself
+  pub by_itself : (known : Option (List ℕ)) (ended : Bool) (old new : S) (line : List ℕ) (result : Result Outcome ReadFault) → AnswersByItself MayAnswer old line result new
+      → KnownStep known known (AnswersLine MayAnswer ended ended old line result new)
+  by_itself None ended old new line result a = tt
+  by_itself (Some bytes) ended old new line result a = inl (a, refl, refl)
+
+  -- a reload with the lines that belong to it
+  pub reload_tried : (known rest : Option (List ℕ)) (ended now_ended : Bool) (old new : S) (line : List ℕ) (sequence count : ℕ) (taken : TakenLines) (outcome : Outcome)
+      → asking_of line ≡ Ok (Some (Reload sequence count)) → KnownStep known rest (GivesLines ended now_ended count (Ok taken)) → AnswersReload MayAnswer old sequence taken outcome new
+      → KnownStep known rest (AnswersLine MayAnswer ended now_ended old line (Ok outcome) new)
+  reload_tried None rest ended now_ended old new line sequence count taken outcome asks gives a = tt
+  reload_tried (Some bytes) None ended now_ended old new line sequence count taken outcome asks gives a = absurd gives
+  reload_tried (Some bytes) (Some rest) ended now_ended old new line sequence count taken outcome asks gives a = inr (sequence, count, asks, taken, gives, a)
+
+  -- a reload whose lines were not read to their end
+  pub reload_unread : (known rest : Option (List ℕ)) (ended now_ended : Bool) (old : S) (line : List ℕ) (sequence count : ℕ) (fault : ReadFault)
+      → asking_of line ≡ Ok (Some (Reload sequence count)) → KnownStep known rest (GivesLines ended now_ended count (Err fault))
+      → KnownStep known rest (AnswersLine MayAnswer ended now_ended old line (Err fault) old)
+  reload_unread None rest ended now_ended old line sequence count fault asks gives = tt
+  reload_unread (Some bytes) None ended now_ended old line sequence count fault asks gives = absurd gives
+  reload_unread (Some bytes) (Some rest) ended now_ended old line sequence count fault asks gives = inr (sequence, count, asks, refl, gives)

@@ -1,3 +1,5 @@
 pub mod AskedLemmas
+pub mod HandedLemmas
+pub mod OwnedLemmas
 pub mod SessionLemmas
 pub mod SessionUnderWay

@@ -1,6 +1,6 @@
 -- A session, line by line.
 use Rattle.std.proofs.Common.{◌≡◌, ℕ, ◌+◌, Bool, true, false, cond, List, [], ◌∷◌, ◌++◌, length, append_assoc, append-nil, length-append, refl, sym, ap, subst, ◌∙◌, ⊎_elim, inl, inr, arith}
-use Rattle.std.specs.Prelude.{◌==◌, Option, Some, None, Result, Ok, Err, option_map, filter}
+use Rattle.std.specs.Prelude.{◌==◌, ◌⊎◌, Option, Some, None, Result, Ok, Err, option_map, filter, flat_map}
 use Rattle.std.specs.List.{list_any}
 use Rattle.std.specs.Io.KnownBytes.{Appends, Keeps, IsAtEnd, prepend_known}
 use Rattle.gk_terms.specs.Text.{raw_lines_of, content_of, words_of, is_too_long}
@@ -12,15 +12,25 @@ use Rattle.gk_lines.proofs.KeptLines.{TakesLine-says_same, same_of_kept}
 use Rattle.gk_lines.proofs.LinesTaken.{LinesTaken, none_taken, one_more_taken, one_more_whole, all_taken, WholeLinesRead, whole_lines_read}
 use Rattle.gk_lines.proofs.StreamLemmas.{appends_nothing, appends_more}
 use Rattle.gk_protocol.specs.declared.request_faults.RequestFault.{RequestFault}
-use Rattle.gk_protocol.specs.declared.request_faults.RequestFault.TheVariants.{LineTooLong}
+use Rattle.gk_protocol.specs.declared.request_faults.RequestFault.TheVariants.{LineTooLong, CutShort}
 use Rattle.gk_protocol.specs.declared.requests.Request.{Request}
 use Rattle.gk_protocol.specs.declared.session_faults.SessionFault.{SessionFault}
 use Rattle.gk_protocol.specs.declared.session_faults.SessionFault.TheVariants.{WriteFault}
 use Rattle.gk_protocol.specs.declared.answers.Answer.{Answer}
+use Rattle.gk_protocol.specs.declared.answers.Answer.TheVariants.{Malformed}
 use Rattle.gk_protocol.specs.Answers.{line_of}
-use Rattle.gk_protocol.specs.Requests.{Asking, asking_of, asking_at, whole_of, registering_of, registering_by_word, no_memory_to, no_memory_answer_of}
-use Rattle.gk_protocol.specs.Session.{Asked, asked_by, asked_in, lines_owned, requests_of, MayGet, Runs, IsWhole, IsStopped, IsCutShort, Ends, session_fault_of}
-use Rattle.gk_protocol.specs.AnswersLine.{AnswersLine}
+use Rattle.gk_protocol.specs.declared.requests.Request.TheVariants as request
+use Rattle.gk_protocol.specs.declared.requests.Asking.{Asking}
+use Rattle.gk_protocol.specs.declared.requests.Asking.TheVariants.{Reload}
+use Rattle.gk_protocol.specs.declared.owned_lines.TakenLines.{TakenLines}
+use Rattle.gk_protocol.specs.declared.owned_lines.TakenLines.TheVariants as taken
+use Rattle.gk_protocol.specs.declared.sessions.Outcome.{Outcome}
+use Rattle.gk_protocol.specs.declared.sessions.Outcome.TheVariants.{Blank, Answered, CutShort as Cut}
+use Rattle.gk_protocol.specs.Requests.{asking_of, asking_at, whole_of, registering_of, registering_by_word, no_memory_to, no_memory_answer_of, reload_without_memory}
+use Rattle.gk_protocol.specs.Session.{Asked, asked_by, asked_in, lines_owned, handed_on, requests_of, MayGet, Runs, IsWhole, IsStopped, IsCutShort, Ends, session_fault_of}
+use Rattle.gk_protocol.specs.OwnedLines.{TakesLines, GivesLines}
+use Rattle.gk_protocol.specs.AnswersLine.{AnswersAlone, AnswersReload, AnswersByItself, AnswersLine}
+use Rattle.gk_protocol.proofs.OwnedLemmas.{reload_asks, reload_cut, reload_unended, taken_on, nothing_after, whole_on}
 use Rattle.gk_protocol.proofs.SessionUnderWay.{IsUnderWay, UnderWay}
 
 -- ---- what is kept of a line asks what the line asks
@@ -90,81 +100,235 @@ module _ {S : Type 0} (MayAnswer : S → Request → Answer → S → Type 0) wh
     appends_nothing before,
   )
 
-  -- ---- a line
-  module _ (ended next_ended : Bool) (kept bytes rest next : List ℕ) (old now : S) (text : List ℕ) (count : ℕ)
-      (unended : ended ≡ false) (u : IsUnderWay MayAnswer ended bytes rest old now text count) (t : TakesLine next_ended kept rest next) where
-    line_taken : LinesTaken next_ended bytes next (u.raws ++ t.raw ∷ [])
-    line_taken = one_more_taken ended next_ended kept bytes rest next u.raws unended u.taken t
+  -- a reload is never blank
+  never_blank : (lines : TakenLines) (now new : S) (sequence : ℕ) → AnswersReload MayAnswer now sequence lines Blank new → ⊥
+  never_blank (taken.Whole lines) now new sequence h = h
+  never_blank taken.NoMemory now new sequence h = h
+  never_blank taken.CutShort now new sequence h = h
 
-    line_settled : (here : List Asked) → ((at_end : Bool) (raws : List (List ℕ)) → asked_in at_end 0 (t.raw ∷ raws) ≡ here ++ asked_in at_end 0 raws)
-        → (at_end : Bool) (more : List (List ℕ)) → asked_in at_end 0 ((u.raws ++ t.raw ∷ []) ++ more) ≡ (u.asked ++ here) ++ asked_in at_end 0 more
-    line_settled here asks at_end more =
-        ap (asked_in at_end 0) (append_assoc u.raws (t.raw ∷ []) more) ∙ u.settled at_end (t.raw ∷ more)
+  -- ---- raw lines that were taken, and what they ask
+  module _ (ended now_ended : Bool) (bytes rest next : List ℕ) (old now : S) (text : List ℕ) (count : ℕ)
+      (u : IsUnderWay MayAnswer ended bytes rest old now text count) (raws : List (List ℕ)) (taken : LinesTaken now_ended bytes next (u.raws ++ raws)) where
+    lines_settled : (here : List Asked) → ((at_end : Bool) (more : List (List ℕ)) → asked_in at_end 0 (raws ++ more) ≡ here ++ asked_in at_end 0 more)
+        → (at_end : Bool) (more : List (List ℕ)) → asked_in at_end 0 ((u.raws ++ raws) ++ more) ≡ (u.asked ++ here) ++ asked_in at_end 0 more
+    lines_settled here asks at_end more =
+        ap (asked_in at_end 0) (append_assoc u.raws raws more) ∙ u.settled at_end (raws ++ more)
         ∙ ap (λ a. u.asked ++ a) (asks at_end more) ∙ sym (append_assoc u.asked here (asked_in at_end 0 more))
 
-    -- a line that asks nothing
-    blank_line : (new : S) → AnswersLine MayAnswer now (content_of kept) None new → IsUnderWay MayAnswer next_ended bytes next old new text count
-    blank_line new a = record {
-      raws = u.raws ++ t.raw ∷ [];
-      taken = line_taken;
+    -- they ask nothing
+    blank_lines : (new : S) → new ≡ now → ((at_end : Bool) (more : List (List ℕ)) → asked_in at_end 0 (raws ++ more) ≡ asked_in at_end 0 more) → IsUnderWay MayAnswer now_ended bytes next old new text count
+    blank_lines new same asks = record {
+      raws = u.raws ++ raws;
+      taken = taken;
       asked = u.asked ++ [];
-      settled = line_settled [] (blank_asks t.raw (sym (kept_asks next_ended kept rest next t) ∙ a.0));
+      settled = lines_settled [] asks;
       runs = subst (λ (asked : List Asked). Runs MayAnswer old asked text new) (sym (append-nil u.asked))
-          (subst (λ (s : S). Runs MayAnswer old u.asked text s) (sym a.1) u.runs);
+          (subst (λ (s : S). Runs MayAnswer old u.asked text s) (sym same) u.runs);
       counted = u.counted ∙ ap length (sym (append-nil u.asked));
     }
 
-    -- what a line asks
-    one_of : (answer : Answer) (new : S) → AnswersLine MayAnswer now (content_of kept) (Some answer) new → Asked
-    one_of answer new a = record { request = a.0; no_memory = no_memory_answer_of (content_of kept) }
-
-    answered_settled : (answer : Answer) (new : S) (a : AnswersLine MayAnswer now (content_of kept) (Some answer) new)
-        → (at_end : Bool) (more : List (List ℕ)) → asked_in at_end 0 ((u.raws ++ t.raw ∷ []) ++ more) ≡ (u.asked ++ one_of answer new a ∷ []) ++ asked_in at_end 0 more
-    unfolding one_of
-    answered_settled answer new a =
-        line_settled (one_of answer new a ∷ [])
-        (line_asks t.raw a.0 (no_memory_answer_of (content_of kept)) (sym (kept_asks next_ended kept rest next t) ∙ a.1) (sym (kept_registers next_ended kept rest next t)))
-
-    -- a line that is answered
-    answered_line : (answer : Answer) (new : S) → AnswersLine MayAnswer now (content_of kept) (Some answer) new → IsUnderWay MayAnswer next_ended bytes next old new (text ++ line_of answer) (count + 1)
-    unfolding one_of
-    answered_line answer new a = record {
-      raws = u.raws ++ t.raw ∷ [];
-      taken = line_taken;
-      asked = u.asked ++ one_of answer new a ∷ [];
-      settled = answered_settled answer new a;
-      runs = runs_then old now new u.asked (one_of answer new a) text answer u.runs a.2;
-      counted = omega (arith, u.counted, length-append u.asked (one_of answer new a ∷ []));
+    -- they ask one thing, which is answered
+    answered_lines : (one : Asked) (answer : Answer) (new : S) → ((at_end : Bool) (more : List (List ℕ)) → asked_in at_end 0 (raws ++ more) ≡ one ∷ asked_in at_end 0 more)
+        → MayGet MayAnswer now one answer new → IsUnderWay MayAnswer now_ended bytes next old new (text ++ line_of answer) (count + 1)
+    answered_lines one answer new asks get = record {
+      raws = u.raws ++ raws;
+      taken = taken;
+      asked = u.asked ++ one ∷ [];
+      settled = lines_settled (one ∷ []) asks;
+      runs = runs_then old now new u.asked one text answer u.runs get;
+      counted = omega (arith, u.counted, length-append u.asked (one ∷ []));
     }
 
-    -- a line whose reply was not written to its end
-    cut_line : (answer : Answer) (new : S) (written lost : List ℕ) → AnswersLine MayAnswer now (content_of kept) (Some answer) new → line_of answer ≡ written ++ lost → IsCutShort MayAnswer bytes next old new (text ++ written)
-    unfolding one_of
-    cut_line answer new written lost a line = record {
-      read = line_taken.read;
-      split = line_taken.split;
+    -- what is asked at the end of the input
+    asked_at_end : (one : Asked) → asked_in true 0 raws ≡ one ∷ [] → asked_in true 0 (u.raws ++ raws) ≡ u.asked ++ one ∷ []
+    asked_at_end one asks = u.settled true raws ∙ ap (λ a. u.asked ++ a) asks
+
+    -- they ask one thing at the end of the input, which is answered
+    answered_at_end : (one : Asked) (answer : Answer) (new : S) → asked_in true 0 raws ≡ one ∷ [] → next ≡ []
+        → MayGet MayAnswer now one answer new → IsWhole MayAnswer bytes old new (text ++ line_of answer) (count + 1)
+    answered_at_end one answer new asks none get =
+        let asked : requests_of bytes ≡ u.asked ++ one ∷ [] =
+        ap (asked_in true 0) (all_taken now_ended bytes next (u.raws ++ raws) taken none) ∙ asked_at_end one asks in
+        record {
+          runs = subst (λ (a : List Asked). Runs MayAnswer old a (text ++ line_of answer) new) (sym asked) (runs_then old now new u.asked one text answer u.runs get);
+          counted = omega (arith, u.counted, length-append u.asked (one ∷ []), ap length asked);
+        }
+
+    -- they ask one thing, whose reply was not written to its end
+    cut_lines : (one : Asked) (answer : Answer) (new : S) (written lost : List ℕ) → asked_in true 0 raws ≡ one ∷ []
+        → ((filter (list_any (λ b. b == 10)) (u.raws ++ raws) ≡ u.raws ++ raws) × (asked_in false 0 raws ≡ one ∷ [])) ⊎ (next ≡ [])
+        → MayGet MayAnswer now one answer new → line_of answer ≡ written ++ lost → IsCutShort MayAnswer bytes next old new (text ++ written)
+    cut_lines one answer new written lost asks whole get line = record {
+      read = taken.read;
+      split = taken.split;
       earlier = u.asked;
-      last = one_of answer new a;
+      last = one;
       whole = ⊎_elim
-          (λ (w : IsWholeLine t.raw).
-          inl (ap (λ raws. asked_in false 0 (filter (list_any (λ b. b == 10)) raws)) line_taken.read_lines
-          ∙ ap (asked_in false 0) (one_more_whole ended bytes rest u.raws t.raw unended u.taken w ∙ sym (append-nil (u.raws ++ t.raw ∷ [])))
-          ∙ answered_settled answer new a false []
-          ∙ sym (answered_settled answer new a true [])
-          ∙ ap (asked_in true 0) (append-nil (u.raws ++ t.raw ∷ []) ∙ sym line_taken.read_lines)))
-          (λ (none : next ≡ []). inr none) t.last;
-      asked = ap (asked_in true 0) (line_taken.read_lines ∙ sym (append-nil (u.raws ++ t.raw ∷ []))) ∙ answered_settled answer new a true []
-          ∙ append-nil (u.asked ++ one_of answer new a ∷ []);
+          (λ (w : (filter (list_any (λ b. b == 10)) (u.raws ++ raws) ≡ u.raws ++ raws) × (asked_in false 0 raws ≡ one ∷ [])).
+          inl (ap (λ lines. asked_in false 0 (filter (list_any (λ b. b == 10)) lines)) taken.read_lines
+          ∙ ap (asked_in false 0) w.0 ∙ u.settled false raws ∙ ap (λ a. u.asked ++ a) w.1
+          ∙ sym (asked_at_end one asks) ∙ ap (asked_in true 0) (sym taken.read_lines)))
+          (λ (none : next ≡ []). inr none) whole;
+      asked = ap (asked_in true 0) taken.read_lines ∙ asked_at_end one asks;
       replies = text;
       mid = now;
       runs = u.runs;
       answer = answer;
-      answered = a.2;
+      answered = get;
       written = written;
       lost = lost;
       line = line;
       text_is = refl;
     }
+
+  -- ---- a line, and the lines that belong to it
+  -- what was taken after others asks this one thing, and that is answered
+  record IsAnswered (now_ended : Bool) (bytes next : List ℕ) (before : List (List ℕ)) (now : S) (answer : Answer) (new : S) : Type 0 where
+    pub raws : List (List ℕ)
+    pub taken : LinesTaken now_ended bytes next (before ++ raws)
+    pub whole : (filter (list_any (λ b. b == 10)) (before ++ raws) ≡ before ++ raws) ⊎ (next ≡ [])
+    pub one : Asked
+    pub asks : (at_end : Bool) (more : List (List ℕ)) → asked_in at_end 0 (raws ++ more) ≡ one ∷ asked_in at_end 0 more
+    pub get : MayGet MayAnswer now one answer new
+
+  module _ (ended mid_ended now_ended : Bool) (kept bytes rest mid next : List ℕ) (old now : S) (text : List ℕ) (count : ℕ)
+      (unended : ended ≡ false) (u : IsUnderWay MayAnswer ended bytes rest old now text count) (t : TakesLine mid_ended kept rest mid) where
+    line_taken : LinesTaken mid_ended bytes mid (u.raws ++ t.raw ∷ [])
+    line_taken = one_more_taken ended mid_ended kept bytes rest mid u.raws unended u.taken t
+
+    -- the line and those that belong to it
+    group_taken : (raws : List (List ℕ)) → TakesLines mid_ended now_ended raws mid next → LinesTaken now_ended bytes next (u.raws ++ t.raw ∷ raws)
+    group_taken raws takes =
+        subst (λ (r : List (List ℕ)). LinesTaken now_ended bytes next r) (append_assoc u.raws (t.raw ∷ []) raws) (taken_on mid_ended now_ended bytes mid next (u.raws ++ t.raw ∷ []) raws line_taken takes)
+
+    group_whole : (raws : List (List ℕ)) → TakesLines mid_ended now_ended raws mid next → (filter (list_any (λ b. b == 10)) (u.raws ++ t.raw ∷ raws) ≡ u.raws ++ t.raw ∷ raws) ⊎ (next ≡ [])
+    group_whole raws takes =
+        ⊎_elim
+        (λ (w : IsWholeLine t.raw).
+        subst (λ (r : List (List ℕ)). (filter (list_any (λ b. b == 10)) r ≡ r) ⊎ (next ≡ [])) (append_assoc u.raws (t.raw ∷ []) raws)
+        (whole_on mid_ended now_ended raws mid next (u.raws ++ t.raw ∷ []) takes (one_more_whole ended bytes rest u.raws t.raw unended u.taken w)))
+        (λ (none : mid ≡ []). inr (nothing_after mid_ended now_ended raws mid next takes none))
+        t.last
+
+    -- the line says the same as what is kept of it
+    group_asks : (asking : Result (Option Asking) RequestFault) → asking_of (content_of kept) ≡ asking → asking_of (content_of t.raw) ≡ asking
+    group_asks asking asks = sym (kept_asks mid_ended kept rest mid t) ∙ asks
+
+    -- a line by itself takes no other
+    alone : next ≡ mid → now_ended ≡ mid_ended → TakesLines mid_ended now_ended [] mid next
+    alone still same_end = ((λ open_still. sym same_end ∙ open_still), still)
+
+    blank_group : (new : S) → AnswersLine MayAnswer mid_ended now_ended now (content_of kept) (Ok Blank) new mid next → IsUnderWay MayAnswer now_ended bytes next old new text count
+    blank_group new (inl a) =
+        blank_lines ended now_ended bytes rest next old now text count u (t.raw ∷ []) (group_taken [] (alone a.1 a.2)) new a.0.1
+        (blank_asks t.raw (group_asks (Ok None) a.0.0))
+    blank_group new (inr a) = absurd (never_blank a.3 now new a.0 a.5)
+
+    answered_reload : (answer : Answer) (new : S) (sequence owned : ℕ) → asking_of (content_of kept) ≡ Ok (Some (Reload sequence owned)) → (lines : TakenLines)
+        → GivesLines mid_ended now_ended owned (Ok lines) mid next → AnswersReload MayAnswer now sequence lines (Answered answer) new
+        → IsAnswered now_ended bytes next u.raws now answer new
+    answered_reload answer new sequence owned asks (taken.Whole lines) gives a = record {
+      raws = t.raw ∷ gives.0;
+      taken = group_taken gives.0 gives.1;
+      whole = group_whole gives.0 gives.1;
+      one = record { request = Ok (request.Reload sequence (flat_map handed_on gives.0)); no_memory = Some (reload_without_memory sequence) };
+      asks = reload_asks t.raw sequence owned gives.0 (group_asks (Ok (Some (Reload sequence owned))) asks) gives.2;
+      get = inl (subst (λ (text : List ℕ). MayAnswer now (request.Reload sequence text) answer new) gives.3 a);
+    }
+    answered_reload answer new sequence owned asks taken.NoMemory gives a = record {
+      raws = t.raw ∷ gives.0;
+      taken = group_taken gives.0 gives.1;
+      whole = group_whole gives.0 gives.1;
+      one = record { request = Ok (request.Reload sequence (flat_map handed_on gives.0)); no_memory = Some (reload_without_memory sequence) };
+      asks = reload_asks t.raw sequence owned gives.0 (group_asks (Ok (Some (Reload sequence owned))) asks) gives.2;
+      get = inr (ap Some (sym a.0), a.1);
+    }
+    answered_reload answer new sequence owned asks taken.CutShort gives a = absurd a
+
+    answered_group : (answer : Answer) (new : S) → AnswersLine MayAnswer mid_ended now_ended now (content_of kept) (Ok (Answered answer)) new mid next → IsAnswered now_ended bytes next u.raws now answer new
+    answered_group answer new (inl a) = record {
+      raws = t.raw ∷ [];
+      taken = group_taken [] (alone a.1 a.2);
+      whole = group_whole [] (alone a.1 a.2);
+      one = record { request = a.0.0; no_memory = no_memory_answer_of (content_of kept) };
+      asks = line_asks t.raw a.0.0 (no_memory_answer_of (content_of kept)) (group_asks (whole_of a.0.0) a.0.1) (sym (kept_registers mid_ended kept rest mid t));
+      get = a.0.2;
+    }
+    answered_group answer new (inr a) = answered_reload answer new a.0 a.1 a.2 a.3 a.4 a.5
+
+    answered_line : (answer : Answer) (new : S) → AnswersLine MayAnswer mid_ended now_ended now (content_of kept) (Ok (Answered answer)) new mid next
+        → IsUnderWay MayAnswer now_ended bytes next old new (text ++ line_of answer) (count + 1)
+    answered_line answer new a =
+        let g = answered_group answer new a in
+        answered_lines ended now_ended bytes rest next old now text count u g.raws g.taken g.one answer new g.asks g.get
+
+    -- a line whose reply was not written to its end
+    cut_line : (answer : Answer) (new : S) (written lost : List ℕ) → AnswersLine MayAnswer mid_ended now_ended now (content_of kept) (Ok (Answered answer)) new mid next
+        → line_of answer ≡ written ++ lost → IsCutShort MayAnswer bytes next old new (text ++ written)
+    cut_line answer new written lost a line =
+        let g = answered_group answer new a in
+        let asks_at : (at_end : Bool) → asked_in at_end 0 g.raws ≡ g.one ∷ [] = λ at_end. ap (asked_in at_end 0) (sym (append-nil g.raws)) ∙ g.asks at_end [] in
+        cut_lines ended now_ended bytes rest next old now text count u g.raws g.taken g.one answer new written lost (asks_at true)
+        (⊎_elim
+        (λ (w : filter (list_any (λ b. b == 10)) (u.raws ++ g.raws) ≡ u.raws ++ g.raws). inl (w, asks_at false))
+        (λ (none : next ≡ []). inr none) g.whole)
+        g.get line
+
+    -- a reload whose lines are cut short by the end of the input
+    record IsCut (new : S) : Type 0 where
+      pub raws : List (List ℕ)
+      pub taken : LinesTaken now_ended bytes next (u.raws ++ raws)
+      pub asks : asked_in true 0 raws ≡ (record { request = Err CutShort; no_memory = None }) ∷ []
+      pub none : next ≡ []
+      pub same : new ≡ now
+
+    cut_reload : (new : S) (sequence owned : ℕ) → asking_of (content_of kept) ≡ Ok (Some (Reload sequence owned)) → (lines : TakenLines)
+        → GivesLines mid_ended now_ended owned (Ok lines) mid next → AnswersReload MayAnswer now sequence lines Cut new → IsCut new
+    cut_reload new sequence owned asks (taken.Whole lines) gives a = absurd a
+    cut_reload new sequence owned asks taken.NoMemory gives a = absurd a
+    cut_reload new sequence owned asks taken.CutShort gives a = record {
+      raws = t.raw ∷ gives.0;
+      taken = group_taken gives.0 gives.1;
+      asks = reload_cut t.raw sequence owned gives.0 (group_asks (Ok (Some (Reload sequence owned))) asks) gives.2;
+      none = gives.3;
+      same = a;
+    }
+
+    cut_group : (new : S) → AnswersLine MayAnswer mid_ended now_ended now (content_of kept) (Ok Cut) new mid next → IsCut new
+    cut_group new (inl a) = absurd a.0
+    cut_group new (inr a) = cut_reload new a.0 a.1 a.2 a.3 a.4 a.5
+
+    -- its fault is the last answer
+    ended_line : (new : S) → AnswersLine MayAnswer mid_ended now_ended now (content_of kept) (Ok Cut) new mid next
+        → (next ≡ []) × IsWhole MayAnswer bytes old new (text ++ line_of (Malformed CutShort)) (count + 1)
+    ended_line new a =
+        let g = cut_group new a in
+        (g.none, answered_at_end ended now_ended bytes rest next old now text count u g.raws g.taken (record { request = Err CutShort; no_memory = None }) (Malformed CutShort) new g.asks g.none (inl (refl, g.same)))
+
+    lost_line : (new : S) (written lost : List ℕ) → AnswersLine MayAnswer mid_ended now_ended now (content_of kept) (Ok Cut) new mid next
+        → line_of (Malformed CutShort) ≡ written ++ lost → IsCutShort MayAnswer bytes next old new (text ++ written)
+    lost_line new written lost a line =
+        let g = cut_group new a in
+        cut_lines ended now_ended bytes rest next old now text count u g.raws g.taken (record { request = Err CutShort; no_memory = None }) (Malformed CutShort) new written lost g.asks (inr g.none) (inl (refl, g.same)) line
+
+    -- the reader fails within the lines of a reload
+    stopped_within : (fault : LineFault) (new : S) → AnswersLine MayAnswer mid_ended now_ended now (content_of kept) (Err fault) new mid next → IsStopped MayAnswer bytes next old new text
+    stopped_within fault new (inl a) = absurd a.0
+    stopped_within fault new (inr a) =
+        let gives = a.4 in
+        let owned = gives.0 in
+        let raws : List (List ℕ) = u.raws ++ t.raw ∷ owned in
+        let lines : LinesTaken gives.2 bytes gives.1 raws =
+        subst (λ (r : List (List ℕ)). LinesTaken gives.2 bytes gives.1 r) (append_assoc u.raws (t.raw ∷ []) owned) (taken_on mid_ended gives.2 bytes mid gives.1 (u.raws ++ t.raw ∷ []) owned line_taken gives.3) in
+        let read : WholeLinesRead bytes next raws = whole_lines_read gives.2 bytes gives.1 next raws gives.4 lines gives.6 in
+        let unasked : asked_in false 0 (t.raw ∷ owned) ≡ [] = reload_unended t.raw a.0 a.1 owned (group_asks (Ok (Some (Reload a.0 a.1))) a.2) gives.5 in
+        let asked : asked_in false 0 (filter (list_any (λ b. b == 10)) (raw_lines_of read.read)) ≡ u.asked =
+        ap (asked_in false 0) read.whole ∙ u.settled false (t.raw ∷ owned) ∙ ap (λ b. u.asked ++ b) unasked ∙ append-nil u.asked in
+        record {
+          read = read.read;
+          split = read.split;
+          runs = subst (λ (b : List Asked). Runs MayAnswer old b text new) (sym asked) (subst (λ (s : S). Runs MayAnswer old u.asked text s) (sym a.3) u.runs);
+        }
 
   -- ---- the end of the input, and a fault of reading
   whole_session : (ended : Bool) (bytes rest : List ℕ) (old now : S) (text : List ℕ) (count : ℕ) → IsUnderWay MayAnswer ended bytes rest old now text count → rest ≡ [] → IsWhole MayAnswer bytes old now text count
@@ -188,25 +352,27 @@ module _ {S : Type 0} (MayAnswer : S → Request → Answer → S → Type 0) wh
       }
 
   -- ---- the same over what a reader tells
-  pub session_passes : (known rest next : Option (List ℕ)) (ended next_ended : Bool) (kept : List ℕ) (old now new : S) (before after : Option (List ℕ)) (count : ℕ)
-      → ended ≡ false → KnownStep known rest (UnderWay MayAnswer ended old now before after count) → KnownStep rest next (TakesLine next_ended kept)
-      → AnswersLine MayAnswer now (content_of kept) None new → KnownStep known next (UnderWay MayAnswer next_ended old new before after count)
-  session_passes None rest next ended next_ended kept old now new before after count unended u t a = tt
-  session_passes (Some bytes) None next ended next_ended kept old now new before after count unended u t a = absurd u
-  session_passes (Some bytes) (Some rest) None ended next_ended kept old now new before after count unended u t a = absurd t
-  session_passes (Some bytes) (Some rest) (Some next) ended next_ended kept old now new before after count unended u t a =
-      (u.0, blank_line ended next_ended kept bytes rest next old now u.0 count unended u.1 t new a, u.2)
+  pub session_passes : (known rest mid next : Option (List ℕ)) (ended mid_ended now_ended : Bool) (kept : List ℕ) (old now new : S) (before after : Option (List ℕ)) (count : ℕ)
+      → ended ≡ false → KnownStep known rest (UnderWay MayAnswer ended old now before after count) → KnownStep rest mid (TakesLine mid_ended kept)
+      → KnownStep mid next (AnswersLine MayAnswer mid_ended now_ended now (content_of kept) (Ok Blank) new) → KnownStep known next (UnderWay MayAnswer now_ended old new before after count)
+  session_passes None rest mid next ended mid_ended now_ended kept old now new before after count unended u t a = tt
+  session_passes (Some bytes) None mid next ended mid_ended now_ended kept old now new before after count unended u t a = absurd u
+  session_passes (Some bytes) (Some rest) None next ended mid_ended now_ended kept old now new before after count unended u t a = absurd t
+  session_passes (Some bytes) (Some rest) (Some mid) None ended mid_ended now_ended kept old now new before after count unended u t a = absurd a
+  session_passes (Some bytes) (Some rest) (Some mid) (Some next) ended mid_ended now_ended kept old now new before after count unended u t a =
+      (u.0, blank_group ended mid_ended now_ended kept bytes rest mid next old now u.0 count unended u.1 t new a, u.2)
 
-  pub session_answers : (known rest next : Option (List ℕ)) (ended next_ended : Bool) (kept : List ℕ) (old now new : S) (answer : Answer) (before after written : Option (List ℕ)) (count : ℕ)
-      → ended ≡ false → KnownStep known rest (UnderWay MayAnswer ended old now before after count) → KnownStep rest next (TakesLine next_ended kept)
-      → AnswersLine MayAnswer now (content_of kept) (Some answer) new → Appends after written (line_of answer)
-      → KnownStep known next (UnderWay MayAnswer next_ended old new before written (count + 1))
-  session_answers None rest next ended next_ended kept old now new answer before after written count unended u t a w = tt
-  session_answers (Some bytes) None next ended next_ended kept old now new answer before after written count unended u t a w = absurd u
-  session_answers (Some bytes) (Some rest) None ended next_ended kept old now new answer before after written count unended u t a w = absurd t
-  session_answers (Some bytes) (Some rest) (Some next) ended next_ended kept old now new answer before after written count unended u t a w = (
+  pub session_answers : (known rest mid next : Option (List ℕ)) (ended mid_ended now_ended : Bool) (kept : List ℕ) (old now new : S) (answer : Answer) (before after written : Option (List ℕ)) (count : ℕ)
+      → ended ≡ false → KnownStep known rest (UnderWay MayAnswer ended old now before after count) → KnownStep rest mid (TakesLine mid_ended kept)
+      → KnownStep mid next (AnswersLine MayAnswer mid_ended now_ended now (content_of kept) (Ok (Answered answer)) new) → Appends after written (line_of answer)
+      → KnownStep known next (UnderWay MayAnswer now_ended old new before written (count + 1))
+  session_answers None rest mid next ended mid_ended now_ended kept old now new answer before after written count unended u t a w = tt
+  session_answers (Some bytes) None mid next ended mid_ended now_ended kept old now new answer before after written count unended u t a w = absurd u
+  session_answers (Some bytes) (Some rest) None next ended mid_ended now_ended kept old now new answer before after written count unended u t a w = absurd t
+  session_answers (Some bytes) (Some rest) (Some mid) None ended mid_ended now_ended kept old now new answer before after written count unended u t a w = absurd a
+  session_answers (Some bytes) (Some rest) (Some mid) (Some next) ended mid_ended now_ended kept old now new answer before after written count unended u t a w = (
     u.0 ++ line_of answer,
-    answered_line ended next_ended kept bytes rest next old now u.0 count unended u.1 t answer new a,
+    answered_line ended mid_ended now_ended kept bytes rest mid next old now u.0 count unended u.1 t answer new a,
     appends_more before after written u.0 (line_of answer) u.2 w,
   )
 
@@ -236,17 +402,62 @@ module _ {S : Type 0} (MayAnswer : S → Request → Answer → S → Type 0) wh
       let part : TakesPart rest next = subst (λ (q : List ℕ). TakesPart rest (q ++ next)) none p in
       (u.0, ends_stopped fault bytes pending next old now u.0 none (stopped_session ended bytes rest next old now u.0 count unended u.1 part), u.2)
 
+  -- the same within the lines of a reload
+  pub session_stops_within : (known rest mid remaining : Option (List ℕ)) (pending : List ℕ) (ended mid_ended now_ended : Bool) (kept : List ℕ) (old now new : S) (before after : Option (List ℕ)) (count : ℕ) (fault : LineFault)
+      → ended ≡ false → KnownStep known rest (UnderWay MayAnswer ended old now before after count) → KnownStep rest mid (TakesLine mid_ended kept)
+      → KnownStep mid (prepend_known pending remaining) (AnswersLine MayAnswer mid_ended now_ended now (content_of kept) (Err fault) new) → pending ≡ []
+      → KnownStep known remaining (λ bytes rest. (text : List ℕ) × Ends MayAnswer bytes pending rest old new text (Err (session_fault_of fault)) × Appends before after text)
+  session_stops_within None rest mid remaining pending ended mid_ended now_ended kept old now new before after count fault unended u t a none = tt
+  session_stops_within (Some bytes) None mid remaining pending ended mid_ended now_ended kept old now new before after count fault unended u t a none = absurd u
+  session_stops_within (Some bytes) (Some rest) None remaining pending ended mid_ended now_ended kept old now new before after count fault unended u t a none = absurd t
+  session_stops_within (Some bytes) (Some rest) (Some mid) None pending ended mid_ended now_ended kept old now new before after count fault unended u t a none = absurd a
+  session_stops_within (Some bytes) (Some rest) (Some mid) (Some next) pending ended mid_ended now_ended kept old now new before after count fault unended u t a none =
+      let stopped : IsStopped MayAnswer bytes (pending ++ next) old new u.0 = stopped_within ended mid_ended now_ended kept bytes rest mid (pending ++ next) old now u.0 count unended u.1 t fault new a in
+      (u.0, ends_stopped fault bytes pending next old new u.0 none (subst (λ (q : List ℕ). IsStopped MayAnswer bytes (q ++ next) old new u.0) none stopped), u.2)
+
   -- a fault of writing
-  pub session_cut : (known rest remaining : Option (List ℕ)) (pending : List ℕ) (ended next_ended : Bool) (kept : List ℕ) (old now new : S) (answer : Answer) (before after written : Option (List ℕ)) (count : ℕ)
-      → ended ≡ false → KnownStep known rest (UnderWay MayAnswer ended old now before after count) → KnownStep rest (prepend_known pending remaining) (TakesLine next_ended kept)
-      → AnswersLine MayAnswer now (content_of kept) (Some answer) new → AppendsFront after written (line_of answer)
+  pub session_cut : (known rest mid remaining : Option (List ℕ)) (pending : List ℕ) (ended mid_ended now_ended : Bool) (kept : List ℕ) (old now new : S) (answer : Answer) (before after written : Option (List ℕ)) (count : ℕ)
+      → ended ≡ false → KnownStep known rest (UnderWay MayAnswer ended old now before after count) → KnownStep rest mid (TakesLine mid_ended kept)
+      → KnownStep mid (prepend_known pending remaining) (AnswersLine MayAnswer mid_ended now_ended now (content_of kept) (Ok (Answered answer)) new) → AppendsFront after written (line_of answer)
       → KnownStep known remaining (λ bytes rest. (text : List ℕ) × Ends MayAnswer bytes pending rest old new text (Err WriteFault) × Appends before written text)
-  session_cut None rest remaining pending ended next_ended kept old now new answer before after written count unended u t a w = tt
-  session_cut (Some bytes) None remaining pending ended next_ended kept old now new answer before after written count unended u t a w = absurd u
-  session_cut (Some bytes) (Some rest) None pending ended next_ended kept old now new answer before after written count unended u t a w = absurd t
-  session_cut (Some bytes) (Some rest) (Some next) pending ended next_ended kept old now new answer before after written count unended u t a w = (
+  session_cut None rest mid remaining pending ended mid_ended now_ended kept old now new answer before after written count unended u t a w = tt
+  session_cut (Some bytes) None mid remaining pending ended mid_ended now_ended kept old now new answer before after written count unended u t a w = absurd u
+  session_cut (Some bytes) (Some rest) None remaining pending ended mid_ended now_ended kept old now new answer before after written count unended u t a w = absurd t
+  session_cut (Some bytes) (Some rest) (Some mid) None pending ended mid_ended now_ended kept old now new answer before after written count unended u t a w = absurd a
+  session_cut (Some bytes) (Some rest) (Some mid) (Some next) pending ended mid_ended now_ended kept old now new answer before after written count unended u t a w = (
     u.0 ++ w.1.0,
-    cut_line ended next_ended kept bytes rest (pending ++ next) old now u.0 count unended u.1 t answer new w.1.0 w.0 a w.1.1,
+    cut_line ended mid_ended now_ended kept bytes rest mid (pending ++ next) old now u.0 count unended u.1 t answer new w.1.0 w.0 a w.1.1,
+    appends_more before after written u.0 w.1.0 u.2 w.1.2,
+  )
+
+  -- ---- the input ends within the lines of a reload
+  pub session_cut_short : (known rest mid remaining : Option (List ℕ)) (pending : List ℕ) (ended mid_ended now_ended : Bool) (kept : List ℕ) (old now new : S) (before after written : Option (List ℕ)) (count : ℕ)
+      → ended ≡ false → KnownStep known rest (UnderWay MayAnswer ended old now before after count) → KnownStep rest mid (TakesLine mid_ended kept)
+      → KnownStep mid (prepend_known pending remaining) (AnswersLine MayAnswer mid_ended now_ended now (content_of kept) (Ok Cut) new)
+      → pending ≡ [] → IsAtEnd remaining → Appends after written (line_of (Malformed CutShort))
+      → KnownStep known remaining (λ bytes rest. (text : List ℕ) × Ends MayAnswer bytes pending rest old new text (Ok (count + 1)) × Appends before written text)
+  session_cut_short None rest mid remaining pending ended mid_ended now_ended kept old now new before after written count unended u t a none end w = tt
+  session_cut_short (Some bytes) None mid remaining pending ended mid_ended now_ended kept old now new before after written count unended u t a none end w = absurd u
+  session_cut_short (Some bytes) (Some rest) None remaining pending ended mid_ended now_ended kept old now new before after written count unended u t a none end w = absurd t
+  session_cut_short (Some bytes) (Some rest) (Some mid) None pending ended mid_ended now_ended kept old now new before after written count unended u t a none end w = absurd a
+  session_cut_short (Some bytes) (Some rest) (Some mid) (Some next) pending ended mid_ended now_ended kept old now new before after written count unended u t a none end w = (
+    u.0 ++ line_of (Malformed CutShort),
+    (none, end, (ended_line ended mid_ended now_ended kept bytes rest mid (pending ++ next) old now u.0 count unended u.1 t new a).1),
+    appends_more before after written u.0 (line_of (Malformed CutShort)) u.2 w,
+  )
+
+  -- and the reply is not written to its end
+  pub session_lost : (known rest mid remaining : Option (List ℕ)) (pending : List ℕ) (ended mid_ended now_ended : Bool) (kept : List ℕ) (old now new : S) (before after written : Option (List ℕ)) (count : ℕ)
+      → ended ≡ false → KnownStep known rest (UnderWay MayAnswer ended old now before after count) → KnownStep rest mid (TakesLine mid_ended kept)
+      → KnownStep mid (prepend_known pending remaining) (AnswersLine MayAnswer mid_ended now_ended now (content_of kept) (Ok Cut) new) → AppendsFront after written (line_of (Malformed CutShort))
+      → KnownStep known remaining (λ bytes rest. (text : List ℕ) × Ends MayAnswer bytes pending rest old new text (Err WriteFault) × Appends before written text)
+  session_lost None rest mid remaining pending ended mid_ended now_ended kept old now new before after written count unended u t a w = tt
+  session_lost (Some bytes) None mid remaining pending ended mid_ended now_ended kept old now new before after written count unended u t a w = absurd u
+  session_lost (Some bytes) (Some rest) None remaining pending ended mid_ended now_ended kept old now new before after written count unended u t a w = absurd t
+  session_lost (Some bytes) (Some rest) (Some mid) None pending ended mid_ended now_ended kept old now new before after written count unended u t a w = absurd a
+  session_lost (Some bytes) (Some rest) (Some mid) (Some next) pending ended mid_ended now_ended kept old now new before after written count unended u t a w = (
+    u.0 ++ w.1.0,
+    lost_line ended mid_ended now_ended kept bytes rest mid (pending ++ next) old now u.0 count unended u.1 t new w.1.0 w.0 a w.1.1,
     appends_more before after written u.0 w.1.0 u.2 w.1.2,
   )
 

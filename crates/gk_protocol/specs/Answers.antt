@@ -4,6 +4,8 @@ use Rattle.gk_terms.specs.Text.{line_text}
 use Rattle.gk_terms.specs.Reason.{word_of}
 use Rattle.gk_terms.specs.declared.reasons.Reason.TheVariants as reason
 use Rattle.command_reader.specs.Printing.{limit_word}
+use Rattle.command_reader.specs.declared.faults.FaultKind.{FaultKind}
+use Rattle.command_reader.specs.declared.faults.FaultKind.TheVariants as kind
 use Rattle.bandwidth.specs.declared.over.Over.{Over}
 use Rattle.bandwidth.specs.declared.over.Over.TheVariants as overs
 use Rattle.admission.specs.Routes.{destination_words, route_refusal_word}
@@ -19,12 +21,14 @@ use Rattle.admission.specs.declared.replies.ChangeRefusal.{ChangeRefusal}
 use Rattle.admission.specs.declared.replies.ChangeRefusal.TheVariants as change
 use Rattle.admission.specs.declared.replies.ReleaseRefusal.{ReleaseRefusal}
 use Rattle.admission.specs.declared.replies.ReleaseRefusal.TheVariants as release
+use Rattle.admission.specs.declared.replies.ReloadRefusal.{ReloadRefusal}
+use Rattle.admission.specs.declared.replies.ReloadRefusal.TheVariants as reload
 use Rattle.admission.specs.declared.replies.Reply.{Reply as CoreReply}
 use Rattle.admission.specs.declared.replies.Reply.TheVariants as reply
 use Rattle.gk_protocol.specs.declared.request_faults.RequestFault.{RequestFault}
 use Rattle.gk_protocol.specs.declared.request_faults.RequestFault.TheVariants as fault
 use Rattle.gk_protocol.specs.declared.answers.Answer.{Answer}
-use Rattle.gk_protocol.specs.declared.answers.Answer.TheVariants.{Reply, Malformed}
+use Rattle.gk_protocol.specs.declared.answers.Answer.TheVariants.{Reply, Misconfigured, Malformed}
 
 -- ---- why a registration is refused
 abbrev pub duplicate_word : Duplicate → List ℕ
@@ -83,6 +87,12 @@ release_refusal_words release.NotRegistered = word_of reason.NotRegistered ∷ [
 release_refusal_words release.NotYours = word_of reason.RequestToDropOther ∷ codes "not-yours" ∷ []
 release_refusal_words release.NoCall = word_of reason.RequestToDropOther ∷ codes "no-call" ∷ []
 
+-- ---- why a configuration is not replaced
+abbrev pub reload_refusal_word : ReloadRefusal → List ℕ
+reload_refusal_word reload.ReloadsSpent = codes "reloads-spent"
+reload_refusal_word reload.RecordFull = codes "record-full"
+reload_refusal_word reload.NoMemory = codes "no-memory"
+
 -- ---- replies
 abbrev pub reply_words : ℕ → CoreReply → List (List ℕ)
 reply_words sequence (reply.Registered id zone) = codes "RCF" ∷ decimal sequence ∷ id ∷ zone ∷ []
@@ -104,6 +114,28 @@ reply_words sequence (reply.Released call) =
     codes "DCF" ∷ decimal sequence ∷ decimal call ∷ []
 reply_words sequence (reply.ReleaseRefused call refusal) =
     codes "DRJ" ∷ decimal sequence ∷ decimal call ∷ release_refusal_words refusal
+reply_words sequence (reply.Reloaded version) =
+    codes "CCF" ∷ decimal sequence ∷ decimal version ∷ []
+reply_words sequence (reply.ReloadRefused refusal) =
+    codes "CRJ" ∷ decimal sequence ∷ codes "0" ∷ reload_refusal_word refusal ∷ []
+
+-- ---- lines that are no configuration
+-- the name of the kind of a fault
+abbrev pub kind_word : FaultKind → List ℕ
+kind_word kind.TooLong = codes "TooLong"
+kind_word kind.UnknownCommand = codes "UnknownCommand"
+kind_word kind.Unsupported = codes "Unsupported"
+kind_word kind.Missing = codes "Missing"
+kind_word kind.Extra = codes "Extra"
+kind_word kind.BadName = codes "BadName"
+kind_word kind.BadPattern = codes "BadPattern"
+kind_word kind.BadNumber = codes "BadNumber"
+kind_word kind.BadAddress = codes "BadAddress"
+kind_word kind.UnknownZone = codes "UnknownZone"
+kind_word kind.DuplicateZone = codes "DuplicateZone"
+kind_word kind.NoLocalZone = codes "NoLocalZone"
+kind_word kind.TooMany = codes "TooMany"
+kind_word kind.NoMemory = codes "NoMemory"
 
 -- ---- lines that are no requests
 -- the word of a fault
@@ -123,6 +155,8 @@ fault_word fault.CutShort = codes "cut"
 -- ---- answers
 abbrev pub words_of : Answer → List (List ℕ)
 words_of (Reply sequence reply) = reply_words sequence reply
+words_of (Misconfigured sequence fault) =
+    codes "CRJ" ∷ decimal sequence ∷ decimal fault.line ∷ kind_word fault.kind ∷ []
 words_of (Malformed fault) = codes "ERR" ∷ fault_word fault ∷ []
 
 -- an answer's line, with its line feed

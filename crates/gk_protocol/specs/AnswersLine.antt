@@ -1,16 +1,58 @@
--- What a session does with one line.
-use Rattle.std.specs.Prelude.{◌≡◌, ℕ, List, Option, Some, None, Result, Ok}
+-- What a session does with one line, and with the lines that belong to it.
+use Rattle.std.specs.Prelude.{◌≡◌, ◌⊎◌, ℕ, Bool, List, Option, Some, None, Result, Ok, Err}
+use Rattle.gk_lines.specs.declared.line_reader.ReadFault.{ReadFault}
 use Rattle.gk_protocol.specs.declared.request_faults.RequestFault.{RequestFault}
 use Rattle.gk_protocol.specs.declared.requests.Request.{Request}
+use Rattle.gk_protocol.specs.declared.requests.Request.TheVariants as request
+use Rattle.gk_protocol.specs.declared.requests.Asking.TheVariants.{Reload}
 use Rattle.gk_protocol.specs.declared.answers.Answer.{Answer}
-use Rattle.gk_protocol.specs.Requests.{asking_of, whole_of, no_memory_answer_of}
+use Rattle.gk_protocol.specs.declared.owned_lines.TakenLines.{TakenLines}
+use Rattle.gk_protocol.specs.declared.owned_lines.TakenLines.TheVariants as taken
+use Rattle.gk_protocol.specs.declared.sessions.Outcome.{Outcome}
+use Rattle.gk_protocol.specs.declared.sessions.Outcome.TheVariants.{Blank, Answered, CutShort}
+use Rattle.gk_protocol.specs.Requests.{asking_of, whole_of, no_memory_answer_of, reload_without_memory}
+use Rattle.gk_protocol.specs.OwnedLines.{GivesLines}
 use Rattle.gk_protocol.specs.Session.{MayGet}
 
 module _ {S : Type 0} (MayAnswer : S → Request → Answer → S → Type 0) where
-  -- one line: nothing is answered if it asks nothing, and else what it asks is answered
-  abbrev pub AnswersLine : S → List ℕ → Option Answer → S → Type 0
-  AnswersLine old line None new = (asking_of line ≡ Ok None) × (new ≡ old)
-  AnswersLine old line (Some answer) new =
+  -- what a line asks by itself is answered
+  abbrev pub AnswersAlone : S → List ℕ → Answer → S → Type 0
+  AnswersAlone old line answer new =
       (request : Result Request RequestFault) × (asking_of line ≡ whole_of request)
       × MayGet MayAnswer old
       (record { request = request; no_memory = no_memory_answer_of line }) answer new
+
+  -- the answer to a reload by what became of its lines
+  abbrev pub AnswersReload : S → ℕ → TakenLines → Outcome → S → Type 0
+  AnswersReload old sequence (taken.Whole lines) (Answered answer) new =
+      MayAnswer old (request.Reload sequence lines) answer new
+  AnswersReload old sequence taken.NoMemory (Answered answer) new =
+      (answer ≡ reload_without_memory sequence) × (new ≡ old)
+  AnswersReload old sequence taken.CutShort CutShort new = new ≡ old
+  AnswersReload old sequence lines outcome new = ⊥
+
+  -- a line asks for a reload with the next lines, which are taken; or their end was not read, and
+  -- the answerer was not asked
+  abbrev pub TriesReload : Bool → Bool → S → List ℕ → Result Outcome ReadFault → S → List ℕ → List ℕ
+      → Type 0
+  TriesReload ended now_ended old line (Ok outcome) new bytes rest =
+      (sequence : ℕ) × (count : ℕ) × (asking_of line ≡ Ok (Some (Reload sequence count)))
+      × (lines : TakenLines) × GivesLines ended now_ended count (Ok lines) bytes rest
+      × AnswersReload old sequence lines outcome new
+  TriesReload ended now_ended old line (Err fault) new bytes rest =
+      (sequence : ℕ) × (count : ℕ) × (asking_of line ≡ Ok (Some (Reload sequence count)))
+      × (new ≡ old) × GivesLines ended now_ended count (Err fault) bytes rest
+
+  -- a line by itself leaves the input after it as it is
+  abbrev pub AnswersByItself : S → List ℕ → Result Outcome ReadFault → S → Type 0
+  AnswersByItself old line (Ok Blank) new = (asking_of line ≡ Ok None) × (new ≡ old)
+  AnswersByItself old line (Ok (Answered answer)) new = AnswersAlone old line answer new
+  AnswersByItself old line (Ok CutShort) new = ⊥
+  AnswersByItself old line (Err fault) new = ⊥
+
+  -- what comes of a line before these bytes, of which this rest is left
+  abbrev pub AnswersLine : Bool → Bool → S → List ℕ → Result Outcome ReadFault → S → List ℕ → List ℕ
+      → Type 0
+  AnswersLine ended now_ended old line result new bytes rest =
+      (AnswersByItself old line result new × (rest ≡ bytes) × (now_ended ≡ ended))
+      ⊎ TriesReload ended now_ended old line result new bytes rest

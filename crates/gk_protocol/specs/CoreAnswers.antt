@@ -1,24 +1,71 @@
 -- The answers of a core to requests.
-use Rattle.std.specs.Prelude.{◌≡◌, ℕ}
-use Rattle.admission.specs.Events.{PlainEvent, Registering, Unregistering, Admitting, Changing, Releasing}
+use Rattle.std.specs.Prelude.{◌≡◌, ◌≢◌, ◌⊎◌, ℕ, List, Result, Ok, Err}
+use Rattle.gk_terms.specs.Text.{lines_of}
+use Rattle.command_reader.specs.declared.faults.LineFault.{LineFault}
+use Rattle.command_reader.specs.declared.faults.FaultKind.TheVariants as fault_kind
+use Rattle.command_reader.specs.Configuration.{Configuration}
+use Rattle.command_reader.specs.Reading.{reading_in, MayRead}
+use Rattle.admission.specs.Events.{PlainEvent, Registering, Unregistering, Admitting, Changing, Releasing, Reloading}
 use Rattle.admission.specs.History.{CoreParts, MayReply}
 use Rattle.admission.specs.declared.replies.Reply.{Reply as CoreReply}
 use Rattle.gk_protocol.specs.declared.requests.Request.{Request}
-use Rattle.gk_protocol.specs.declared.requests.Request.TheVariants.{Register, Unregister, Admit, Change, Release}
+use Rattle.gk_protocol.specs.declared.requests.Request.TheVariants.{Register, Unregister, Admit, Change, Release, Reload}
 use Rattle.gk_protocol.specs.declared.answers.Answer.{Answer}
-use Rattle.gk_protocol.specs.declared.answers.Answer.TheVariants.{Reply}
+use Rattle.gk_protocol.specs.declared.answers.Answer.TheVariants.{Reply, Misconfigured}
+use Rattle.gk_protocol.specs.Requests.{reload_without_memory}
+use Rattle.gk_protocol.specs.declared.reloads.NoTables.{NoTables}
+use Rattle.gk_protocol.specs.declared.reloads.NoTables.TheVariants as none
 
--- the sequence number of a request, and the event that it asks for
-abbrev pub numbered_event : Request → ℕ × PlainEvent
-numbered_event (Register sequence endpoint) = (sequence, Registering endpoint)
-numbered_event (Unregister sequence id) = (sequence, Unregistering id)
-numbered_event (Admit sequence id call digits units) = (sequence, Admitting id call digits units)
-numbered_event (Change sequence id call units) = (sequence, Changing id call units)
-numbered_event (Release sequence id call) = (sequence, Releasing id call)
+-- the answer is the core's reply to an event, and repeats the request's sequence number
+abbrev pub Replies : CoreParts → ℕ → PlainEvent → Answer → CoreParts → Type 0
+Replies old sequence event answer new =
+    (reply : CoreReply) × (answer ≡ Reply sequence reply) × MayReply old event reply new
 
--- a core may answer a request so and be the new one after it: the answer is its reply to the event,
--- and repeats the request's sequence number
+-- ---- reloads
+-- memory may run out for these lines: at one that would be kept, after lines without a fault; or
+-- for all of them, if they are accepted
+abbrev pub MayLackMemory : List (List ℕ) → Type 0
+MayLackMemory lines =
+    ((fault : LineFault) × (fault.kind ≡ fault_kind.NoMemory) × MayRead lines (Err fault))
+    ⊎ ((configuration : Configuration) × (reading_in lines ≡ Ok configuration))
+
+-- by what the lines say: the core's reply to their configuration; or their first fault, which
+-- leaves the core
+abbrev pub ReloadsBy : CoreParts → ℕ → Result Configuration LineFault → Answer → CoreParts → Type 0
+ReloadsBy old sequence (Ok configuration) answer new =
+    Replies old sequence (Reloading configuration.commands) answer new
+ReloadsBy old sequence (Err fault) answer new =
+    (answer ≡ Misconfigured sequence fault) × (new ≡ old)
+
+-- what may be answered to a reload: that; or that memory ran out for the lines, which leaves the
+-- core
+abbrev pub MayReload : CoreParts → ℕ → List (List ℕ) → Answer → CoreParts → Type 0
+MayReload old sequence lines answer new =
+    ReloadsBy old sequence (reading_in lines) answer new
+    ⊎ ((answer ≡ reload_without_memory sequence) × (new ≡ old) × MayLackMemory lines)
+
+-- why there are no tables to put in force: the first fault of the lines, or memory ran out
+abbrev pub IsNoConfiguration : List (List ℕ) → NoTables → Type 0
+IsNoConfiguration lines (none.Faulty fault) = reading_in lines ≡ Err fault
+IsNoConfiguration lines none.NoMemory = MayLackMemory lines
+
+-- the same of a fault that was read
+abbrev pub IsNoTablesFor : LineFault → NoTables → Type 0
+IsNoTablesFor fault (none.Faulty other) = (other ≡ fault) × (fault.kind ≢ fault_kind.NoMemory)
+IsNoTablesFor fault none.NoMemory = fault.kind ≡ fault_kind.NoMemory
+
+-- ---- requests
+-- a core may answer a request so and be the new one after it
 abbrev pub MayAnswer : CoreParts → Request → Answer → CoreParts → Type 0
-MayAnswer old request answer new =
-    let asked = numbered_event request in (reply : CoreReply) × (answer ≡ Reply asked.0 reply)
-    × MayReply old asked.1 reply new
+MayAnswer old (Register sequence endpoint) answer new =
+    Replies old sequence (Registering endpoint) answer new
+MayAnswer old (Unregister sequence id) answer new =
+    Replies old sequence (Unregistering id) answer new
+MayAnswer old (Admit sequence id call digits units) answer new =
+    Replies old sequence (Admitting id call digits units) answer new
+MayAnswer old (Change sequence id call units) answer new =
+    Replies old sequence (Changing id call units) answer new
+MayAnswer old (Release sequence id call) answer new =
+    Replies old sequence (Releasing id call) answer new
+MayAnswer old (Reload sequence lines) answer new =
+    MayReload old sequence (lines_of lines) answer new

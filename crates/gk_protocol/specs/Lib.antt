@@ -1,5 +1,6 @@
 pub mod Answers
 pub mod AnswersLine
 pub mod CoreAnswers
+pub mod OwnedLines
 pub mod Requests
 pub mod Session

@@ -9,13 +9,14 @@ use Rattle.gk_terms.specs.Number.{number_of}
 use Rattle.gk_terms.specs.Address.{AddressParts, address_of}
 use Rattle.gk_terms.specs.Dialled.{dialled_of}
 use Rattle.gk_terms.specs.TechPrefix.{tech_prefix_of}
-use Rattle.gk_terms.specs.declared.limits.TheConstants.{MOST_ALIASES, MOST_TECHNOLOGIES, MOST_SEQUENCE}
+use Rattle.gk_terms.specs.declared.limits.TheConstants.{MOST_LINES, MOST_ALIASES, MOST_TECHNOLOGIES, MOST_SEQUENCE}
 use Rattle.registry.specs.Endpoint.{EndpointParts, with_alias, with_technology}
 use Rattle.registry.specs.declared.faults.RegistryFault.{RegistryFault}
 use Rattle.registry.specs.declared.endpoints.EndpointKind.{EndpointKind}
 use Rattle.registry.specs.declared.endpoints.EndpointKind.TheVariants.{Gateway, Terminal}
 use Rattle.admission.specs.declared.replies.RegisterRefusal.TheVariants as register
-use Rattle.admission.specs.declared.replies.Reply.TheVariants.{RegisterRefused}
+use Rattle.admission.specs.declared.replies.ReloadRefusal.TheVariants as reload
+use Rattle.admission.specs.declared.replies.Reply.TheVariants.{RegisterRefused, ReloadRefused}
 use Rattle.gk_protocol.specs.declared.answers.Answer.{Answer}
 use Rattle.gk_protocol.specs.declared.answers.Answer.TheVariants.{Reply, Malformed}
 use Rattle.gk_protocol.specs.declared.request_faults.RequestFault.{RequestFault}
@@ -28,6 +29,8 @@ use Rattle.gk_protocol.specs.declared.registrations.RegistrationOption.{Registra
 use Rattle.gk_protocol.specs.declared.registrations.RegistrationOption.TheVariants.{Alias, Technology}
 use Rattle.gk_protocol.specs.declared.requests.Request.{Request}
 use Rattle.gk_protocol.specs.declared.requests.Request.TheVariants.{Register, Unregister, Admit, Change, Release}
+use Rattle.gk_protocol.specs.declared.requests.Asking.{Asking}
+use Rattle.gk_protocol.specs.declared.requests.Asking.TheVariants as asking
 
 -- ---- fields
 abbrev pub sequence_of : List ℕ → Option ℕ
@@ -38,6 +41,10 @@ call_of text = number_of 1 4294967295 text
 
 abbrev pub units_of : List ℕ → Option ℕ
 units_of text = number_of 0 4294967295 text
+
+-- a count of lines
+abbrev pub count_of : List ℕ → Option ℕ
+count_of text = number_of 0 MOST_LINES text
 
 abbrev pub kind_of : List ℕ → Option EndpointKind
 kind_of word =
@@ -171,17 +178,25 @@ release_at words = do
   call ← field_at call_of fault.BadNumber id.1
   nothing_more fault.Extra (Release sequence.0 id.0 call.0) call.1
 
--- ---- a line
--- what a line asks: a request, or one to which the next so many lines belong, by what these say
-pub data Asking : Type 0 where
-  Whole : (request : Request) → Asking
-  WithLines : (count : ℕ) (request : List ℕ → Request) → Asking
+-- ---- CFG seq n, to which the next n lines belong
+abbrev pub reload_at : List (List ℕ) → Result Asking RequestFault
+reload_at words = do
+  sequence ← field_at sequence_of fault.BadSequence words
+  count ← field_at count_of fault.BadNumber sequence.1
+  nothing_more fault.Extra (asking.Reload sequence.0 count.0) count.1
 
+-- ---- a line
+-- what is asked, if it could be read
+abbrev pub asked_of : Result Asking RequestFault → Result (Option Asking) RequestFault
+asked_of (Ok asked) = Ok (Some asked)
+asked_of (Err fault) = Err fault
+
+-- a request that stands whole in its line
 abbrev pub whole_of : Result Request RequestFault → Result (Option Asking) RequestFault
-whole_of (Ok request) = Ok (Some (Whole request))
+whole_of (Ok request) = Ok (Some (asking.Whole request))
 whole_of (Err fault) = Err fault
 
--- the request of another first word than RRQ
+-- the request of another first word than RRQ and CFG
 abbrev pub other_request_at : List ℕ → List (List ℕ) → Result Request RequestFault
 other_request_at word words =
     if bytes_eq word (codes "URQ") then unregister_at words
@@ -189,12 +204,18 @@ other_request_at word words =
     else (if bytes_eq word (codes "BRQ") then change_at words
     else (if bytes_eq word (codes "DRQ") then release_at words else Err fault.UnknownWord)))
 
+-- what is asked by a line of another first word than RRQ
+abbrev pub other_asking_at : List ℕ → List (List ℕ) → Result (Option Asking) RequestFault
+other_asking_at word words =
+    if bytes_eq word (codes "CFG") then asked_of (reload_at words)
+    else whole_of (other_request_at word words)
+
 -- what the words of a line ask; without a word they ask nothing
 abbrev pub asking_at : List (List ℕ) → Result (Option Asking) RequestFault
 asking_at [] = Ok None
 asking_at (word ∷ words) =
     if bytes_eq word (codes "RRQ") then whole_of (register_at words)
-    else whole_of (other_request_at word words)
+    else other_asking_at word words
 
 -- what a line asks
 unfoldable pub asking_of : List ℕ → Result (Option Asking) RequestFault
@@ -226,6 +247,10 @@ registering_of line = if is_too_long line then None else registering_by_word (wo
 -- a registration's refusal if memory runs out
 abbrev pub no_memory_to : ℕ × List ℕ → Answer
 no_memory_to registering = Reply registering.0 (RegisterRefused registering.1 register.NoMemory)
+
+-- a reload's refusal if memory runs out
+abbrev pub reload_without_memory : ℕ → Answer
+reload_without_memory sequence = Reply sequence (ReloadRefused reload.NoMemory)
 
 -- the answer that may stand in the place of another, if memory runs out for the options of a line
 abbrev pub no_memory_answer_of : List ℕ → Option Answer

@@ -5,6 +5,9 @@ use Rattle.gk_terms.specs.declared.limits.TheConstants.{MOST_LINE_BYTES}
 use Rattle.gk_protocol.specs.declared.request_faults.RequestFault.{RequestFault}
 use Rattle.gk_protocol.specs.declared.request_faults.RequestFault.TheVariants.{CutShort}
 use Rattle.gk_protocol.specs.declared.requests.Request.{Request}
+use Rattle.gk_protocol.specs.declared.requests.Request.TheVariants as request
+use Rattle.gk_protocol.specs.declared.requests.Asking.{Asking}
+use Rattle.gk_protocol.specs.declared.requests.Asking.TheVariants.{Whole, Reload}
 use Rattle.gk_protocol.specs.declared.session_faults.SessionFault.{SessionFault}
 use Rattle.gk_protocol.specs.declared.session_faults.SessionFault.TheVariants.{ReadFault, WriteFault, NoMemory, TurnsSpent}
 use Rattle.gk_lines.specs.declared.line_reader.ReadFault as read
@@ -12,7 +15,7 @@ use Rattle.gk_lines.specs.declared.line_reader.ReadFault.TheVariants as line
 use Rattle.gk_protocol.specs.declared.answers.Answer.{Answer}
 use Rattle.gk_protocol.specs.declared.answers.Answer.TheVariants.{Malformed}
 use Rattle.gk_protocol.specs.Answers.{line_of}
-use Rattle.gk_protocol.specs.Requests.{Asking, Whole, WithLines, asking_of, no_memory_answer_of}
+use Rattle.gk_protocol.specs.Requests.{asking_of, no_memory_answer_of, reload_without_memory}
 
 -- ---- the requests of an input
 -- what a line asks, or its first fault; and the answer that may stand in its place, if memory runs
@@ -26,10 +29,10 @@ abbrev pub lines_owned : Result (Option Asking) RequestFault → ℕ
 lines_owned (Err fault) = 0
 lines_owned (Ok None) = 0
 lines_owned (Ok (Some (Whole request))) = 0
-lines_owned (Ok (Some (WithLines count request))) = count
+lines_owned (Ok (Some (Reload sequence count))) = count
 
 -- a line that belongs to a request, as it is handed on: as it stood, and a too long one as 513
--- bytes `a`
+-- bytes `a` and a line feed
 abbrev pub handed_on : List ℕ → List ℕ
 handed_on raw =
     if is_too_long (content_of raw) then replicate (MOST_LINE_BYTES + 1) 97 ++ 10 ∷ [] else raw
@@ -55,8 +58,9 @@ asked_by at_end no_memory raws (Err fault) =
 asked_by at_end no_memory raws (Ok None) = []
 asked_by at_end no_memory raws (Ok (Some (Whole request))) =
     (record { request = Ok request; no_memory = no_memory }) ∷ []
-asked_by at_end no_memory raws (Ok (Some (WithLines count request))) =
-    with_its_lines at_end no_memory count request raws
+asked_by at_end no_memory raws (Ok (Some (Reload sequence count))) =
+    with_its_lines at_end (Some (reload_without_memory sequence)) count (request.Reload sequence)
+    raws
 
 -- what these lines ask, of which the first so many belong to the request before; at the end of the
 -- input or before it

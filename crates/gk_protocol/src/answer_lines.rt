@@ -8,15 +8,17 @@ ghost use Rattle.gk_protocol.specs.Answers as Spec;
 
 use crate::answers::Answer;
 use crate::refusal_words::{
-    admit_refusal, change_refusal, register_refusal, release_refusal, unregister_refusal,
+    admit_refusal, change_refusal, kind_word, register_refusal, release_refusal,
+    reload_refusal_word, unregister_refusal,
 };
 use crate::request_faults::RequestFault;
 use admission::{
-    AdmitRefusal, ChangeRefusal, Destination, RegisterRefusal, ReleaseRefusal, Reply,
-    UnregisterRefusal,
+    AdmitRefusal, ChangeRefusal, Destination, RegisterRefusal, ReleaseRefusal, ReloadRefusal,
+    Reply, UnregisterRefusal,
 };
+use command_reader::LineFault;
 use gk_lines::LineBuffer;
-use gk_terms::{Address, Name, Units};
+use gk_terms::{Address, Name, Units, Version};
 
 #[tactic(auto, using(gk_lines::proofs::LineBufferLemmas::line_in_room))]
 /// Makes it the line of an answer, with its line feed. Each answer has room.
@@ -34,6 +36,7 @@ fn show_words(line: &mut LineBuffer, answer: &Answer)
 {
     match answer {
         Answer::Reply { sequence, reply } => show_reply(line, *sequence, reply),
+        Answer::Misconfigured { sequence, fault } => misconfigured(line, *sequence, fault),
         Answer::Malformed(fault) => malformed(line, *fault),
     }
 }
@@ -60,6 +63,8 @@ fn show_reply(line: &mut LineBuffer, sequence: u32, reply: &Reply)
         Reply::ChangeRefused { call, reason } => change_refused(line, sequence, *call, *reason),
         Reply::Released { call } => released(line, sequence, *call),
         Reply::ReleaseRefused { call, reason } => release_refused(line, sequence, *call, *reason),
+        Reply::Reloaded { version } => reloaded(line, sequence, *version),
+        Reply::ReloadRefused { reason } => reload_refused(line, sequence, *reason),
     }
 }
 
@@ -197,6 +202,46 @@ fn release_refused(line: &mut LineBuffer, sequence: u32, call: u32, reason: Rele
     line.number(sequence);
     line.number(call);
     release_refusal(line, reason);
+}
+
+/// `CCF seq version`
+fn reloaded(line: &mut LineBuffer, sequence: u32, version: Version)
+    ensures words { line.new
+        ≡ line_of_words (codes "CCF" ∷ decimal sequence ∷ decimal version ∷ []) }
+    ensures room { room_of (codes "CCF" ∷ decimal sequence ∷ decimal version ∷ []) < ROOM_BYTES }
+{
+    line.begin(b"CCF");
+    line.number(sequence);
+    line.number(version.value());
+}
+
+/// `CRJ seq 0` and why
+fn reload_refused(line: &mut LineBuffer, sequence: u32, reason: ReloadRefusal)
+    ensures words { line.new ≡ line_of_words
+        (codes "CRJ" ∷ decimal sequence ∷ codes "0" ∷ Spec.reload_refusal_word reason ∷ []) }
+    ensures room { room_of
+        (codes "CRJ" ∷ decimal sequence ∷ codes "0" ∷ Spec.reload_refusal_word reason ∷ [])
+        < ROOM_BYTES }
+{
+    line.begin(b"CRJ");
+    line.number(sequence);
+    line.word(b"0");
+    line.word(reload_refusal_word(reason));
+}
+
+/// `CRJ seq LINE KIND`
+fn misconfigured(line: &mut LineBuffer, sequence: u32, fault: &LineFault)
+    ensures words { line.new ≡ line_of_words
+        (codes "CRJ" ∷ decimal sequence ∷ decimal fault.now.line
+        ∷ Spec.kind_word fault.now.kind ∷ []) }
+    ensures room { room_of
+        (codes "CRJ" ∷ decimal sequence ∷ decimal fault.now.line
+        ∷ Spec.kind_word fault.now.kind ∷ []) < ROOM_BYTES }
+{
+    line.begin(b"CRJ");
+    line.number(sequence);
+    line.number(fault.line);
+    line.word(kind_word(fault.kind));
 }
 
 /// `ERR` and the word of the fault

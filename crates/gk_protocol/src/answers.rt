@@ -2,6 +2,7 @@
 
 use crate::request_faults::RequestFault;
 use admission::Reply as CoreReply;
+use command_reader::LineFault;
 
 /// What is answered to a line. It is written as one line of words, of which the second, but for
 /// `ERR`, is the request's sequence number.
@@ -14,6 +15,16 @@ pub enum Answer {
         /// What is replied.
         reply: CoreReply,
     },
-    /// `ERR` and the word of the fault, of this project: the line is not a request.
+    /// `CRJ` with the fault of a line, of this project: the lines of a reload are not a
+    /// configuration, and the one in force stays.
+    Misconfigured {
+        /// The sequence number of the request, 1 to 65535.
+        sequence: u32,
+        /// The first fault of the lines, and not that memory ran out. The first of them has the
+        /// number 1.
+        fault: LineFault,
+    },
+    /// `ERR` and the word of the fault, of this project: the line is not a request, or the input
+    /// ended before the lines that belong to it.
     Malformed(RequestFault),
 }

@@ -4,9 +4,12 @@
 pub mod answer_lines;
 pub mod answerer;
 pub mod answers;
+mod core_events;
 mod open_call_requests;
+pub mod owned_lines;
 mod refusal_words;
 mod registrations;
+mod reloads;
 pub mod request_faults;
 mod request_fields;
 pub mod request_lines;
@@ -16,7 +19,8 @@ pub mod sessions;
 
 pub use answerer::Answerer;
 pub use answers::Answer;
+pub use owned_lines::OwnedLines;
 pub use request_faults::{NoRequest, RequestFault};
-pub use requests::Request;
+pub use requests::{Asking, Request};
 pub use session_faults::SessionFault;
 pub use sessions::{session, session_from};

@@ -8,10 +8,11 @@ ghost use Rattle.admission.specs.Routes as RouteSpec;
 ghost use Rattle.gk_protocol.specs.Answers as Spec;
 
 use admission::{
-    AdmitRefusal, ChangeRefusal, Duplicate, RegisterRefusal, ReleaseRefusal, RouteRefusal,
-    UnregisterRefusal,
+    AdmitRefusal, ChangeRefusal, Duplicate, RegisterRefusal, ReleaseRefusal, ReloadRefusal,
+    RouteRefusal, UnregisterRefusal,
 };
 use bandwidth::Over;
+use command_reader::FaultKind;
 use compiler::LimitKind;
 use gk_lines::LineBuffer;
 use gk_terms::Reason;
@@ -99,6 +100,41 @@ pub(crate) fn release_refusal(line: &mut LineBuffer, refusal: ReleaseRefusal)
         ReleaseRefusal::NotRegistered => line.word(Reason::NotRegistered.word().as_bytes()),
         ReleaseRefusal::NotYours => reason(line, Reason::RequestToDropOther, b"not-yours"),
         ReleaseRefusal::NoCall => reason(line, Reason::RequestToDropOther, b"no-call"),
+    }
+}
+
+/// The word of why a configuration is not replaced.
+pub(crate) fn reload_refusal_word(refusal: ReloadRefusal) -> &'static [u8]
+    ensures word { result.now ≡ Spec.reload_refusal_word refusal }
+    ensures short { length (Spec.reload_refusal_word refusal) ≤ 13 }
+{
+    match refusal {
+        ReloadRefusal::ReloadsSpent => b"reloads-spent",
+        ReloadRefusal::RecordFull => b"record-full",
+        ReloadRefusal::NoMemory => b"no-memory",
+    }
+}
+
+/// The name of the kind of a configuration's fault.
+pub(crate) fn kind_word(kind: FaultKind) -> &'static [u8]
+    ensures word { result.now ≡ Spec.kind_word kind }
+    ensures short { length (Spec.kind_word kind) ≤ 14 }
+{
+    match kind {
+        FaultKind::TooLong => b"TooLong",
+        FaultKind::UnknownCommand => b"UnknownCommand",
+        FaultKind::Unsupported => b"Unsupported",
+        FaultKind::Missing => b"Missing",
+        FaultKind::Extra => b"Extra",
+        FaultKind::BadName => b"BadName",
+        FaultKind::BadPattern => b"BadPattern",
+        FaultKind::BadNumber => b"BadNumber",
+        FaultKind::BadAddress => b"BadAddress",
+        FaultKind::UnknownZone => b"UnknownZone",
+        FaultKind::DuplicateZone => b"DuplicateZone",
+        FaultKind::NoLocalZone => b"NoLocalZone",
+        FaultKind::TooMany => b"TooMany",
+        FaultKind::NoMemory => b"NoMemory",
     }
 }
 

@@ -7,7 +7,7 @@ ghost use Rattle.gk_protocol.specs.Requests as Spec;
 use crate::request_faults::RequestFault;
 use gk_terms::Units;
 use gk_terms::fields::number_field;
-use gk_terms::limits::MOST_SEQUENCE;
+use gk_terms::limits::{MOST_LINES, MOST_SEQUENCE};
 use gk_terms::words::Words;
 use registry::EndpointKind;
 
@@ -51,4 +51,12 @@ pub fn units_field(words: &mut Words<'_>) -> Result<Units, RequestFault>
 {
     let units = number_field(words, 0, u32::MAX, RequestFault::BadNumber)?;
     Ok(Units::new(units))
+}
+
+/// The next word as a count of the lines that belong to a request, 0 to 20,000.
+pub fn count_field(words: &mut Words<'_>) -> Result<u32, RequestFault>
+    ensures { Gives (Spec.field_at Spec.count_of RequestFault.BadNumber (words_of words.old)) result
+        (words_of words.new) }
+{
+    number_field(words, 0, MOST_LINES as u32, RequestFault::BadNumber)
 }

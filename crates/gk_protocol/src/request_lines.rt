@@ -7,15 +7,15 @@ ghost use Rattle.gk_protocol.specs.Requests as Spec;
 use crate::open_call_requests::{change, release};
 use crate::registrations::register;
 use crate::request_faults::{NoRequest, RequestFault};
-use crate::request_fields::{call_field, sequence_field, units_field};
-use crate::requests::Request;
+use crate::request_fields::{call_field, count_field, sequence_field, units_field};
+use crate::requests::{Asking, Request};
 use gk_terms::fields::{dialled_field, name_field, nothing_more};
 use gk_terms::limits::MOST_LINE_BYTES;
 use gk_terms::words::Words;
 use std::alloc::Global;
 
 #[tactic(auto, unfolding(crate::specs::Requests::asking_of, crate::specs::Requests::registering_of))]
-/// The request of a line, whose ending is taken off, or nothing if the line is blank.
+/// What a line asks, whose ending is taken off; nothing if the line is blank.
 ///
 /// A line of more than 512 bytes is `LineTooLong`, and an unknown first word `UnknownWord`. Then
 /// the fields are read from the left: an absent one is `Missing`, one that cannot be read is its
@@ -23,33 +23,41 @@ use std::alloc::Global;
 /// 8 options `tech=P` in any order, counted as written; one more is `BadOption` before its value is
 /// looked at, and so is any other word. Memory is taken only for these options.
 #[inline(never)]
-pub fn request_in(alloc: Global, line: &[u8]) -> Result<Option<Request>, NoRequest>
-    ensures { MatchResult result
-        (λ request. Spec.asking_of line.now ≡ Ok (option_map Spec.Whole request))
+pub fn asking_in(alloc: Global, line: &[u8]) -> Result<Option<Asking>, NoRequest>
+    ensures { MatchResult result (λ asked. Spec.asking_of line.now ≡ Ok asked)
         (Spec.IsNoRequest line.now) }
 {
     if line.len() > MOST_LINE_BYTES {
         return Err(NoRequest::Fault(RequestFault::LineTooLong));
     }
-    request_at(alloc, &mut Words::of(line))
+    asking_at(alloc, &mut Words::of(line))
 }
 
 /// The same, by the words of the line.
-fn request_at(alloc: Global, words: &mut Words<'_>) -> Result<Option<Request>, NoRequest>
-    ensures { MatchResult result
-        (λ request. Spec.asking_at (words_of words.old) ≡ Ok (option_map Spec.Whole request))
+fn asking_at(alloc: Global, words: &mut Words<'_>) -> Result<Option<Asking>, NoRequest>
+    ensures { MatchResult result (λ asked. Spec.asking_at (words_of words.old) ≡ Ok asked)
         (Spec.IsNoRequestAt (words_of words.old)) }
 {
     let Some(word) = words.next() else {
         return Ok(None);
     };
     if word == b"RRQ".as_slice() {
-        return Ok(Some(register(alloc, words)?));
+        return Ok(Some(Asking::Whole(register(alloc, words)?)));
     }
-    Ok(Some(other_request(word, words)?))
+    Ok(Some(other_asking(word, words)?))
 }
 
-/// The request of another first word than `RRQ`. It takes no memory.
+/// What is asked by a line of another first word than `RRQ`. It takes no memory.
+fn other_asking(word: &[u8], words: &mut Words<'_>) -> Result<Asking, RequestFault>
+    ensures { Spec.asked_of result ≡ Spec.other_asking_at word.now (words_of words.old) }
+{
+    if word == b"CFG".as_slice() {
+        return reload(words);
+    }
+    Ok(Asking::Whole(other_request(word, words)?))
+}
+
+/// The request of another first word than `RRQ` and `CFG`.
 fn other_request(word: &[u8], words: &mut Words<'_>) -> Result<Request, RequestFault>
     ensures { result ≡ Spec.other_request_at word.now (words_of words.old) }
 {
@@ -90,4 +98,13 @@ fn admit(words: &mut Words<'_>) -> Result<Request, RequestFault>
         digits,
         units,
     })
+}
+
+/// `CFG seq n`, after its first word.
+fn reload(words: &mut Words<'_>) -> Result<Asking, RequestFault>
+    ensures { result ≡ Spec.reload_at (words_of words.old) }
+{
+    let sequence = sequence_field(words)?;
+    let count = count_field(words)?;
+    nothing_more(Asking::Reload { sequence, count }, words)
 }

@@ -1,14 +1,10 @@
 //! Requests, as they are read.
 
-ghost use Rattle.std.specs.Prelude.{◌≡◌};
-ghost use Rattle.admission.specs.Events.{plain, Unregistering, Admitting, Changing, Releasing};
-ghost use Rattle.gk_protocol.specs.CoreAnswers as Spec;
-
-use admission::Event;
+use crate::owned_lines::OwnedLines;
 use gk_terms::{Dialled, Name, Units};
 use registry::Endpoint;
 
-/// A request of an endpoint.
+/// A request of an endpoint, or of an operator.
 #[derive(Drop)]
 pub enum Request {
     /// `RRQ`, H.225.0's registration request. Options are this project's profile.
@@ -58,88 +54,25 @@ pub enum Request {
         /// The number of the call, 1 to 4294967295.
         call: u32,
     },
+    /// `CFG`, of this project: another configuration, whole, in place of the one in force.
+    Reload {
+        /// The sequence number, 1 to 65535, which the reply repeats.
+        sequence: u32,
+        /// The lines of the configuration.
+        lines: OwnedLines,
+    },
 }
 
-impl Request {
-    /// The sequence number, 1 to 65535, which the reply repeats.
-    pub fn sequence(&self) -> u32
-        ensures { result ≡ (Spec.numbered_event self.now).0 }
-    {
-        match self {
-            Request::Register { sequence, .. }
-            | Request::Unregister { sequence, .. }
-            | Request::Admit { sequence, .. }
-            | Request::Change { sequence, .. }
-            | Request::Release { sequence, .. } => *sequence,
-        }
-    }
-
-    /// The event that the core is asked for.
-    #[inline(never)]
-    pub fn into_event(self) -> Event
-        ensures { plain result ≡ (Spec.numbered_event self).1 }
-    {
-        match self {
-            Request::Register { endpoint, .. } => Event::Register(endpoint),
-            Request::Unregister { id, .. } => unregistration(&id),
-            Request::Admit {
-                id,
-                call,
-                digits,
-                units,
-                ..
-            } => admission(&id, call, &digits, units),
-            Request::Change {
-                id,
-                call,
-                units,
-                ..
-            } => change(&id, call, units),
-            Request::Release { id, call, .. } => release(&id, call),
-        }
-    }
-}
-
-// What is large is lent to these functions, and they are never inlined: else the compiler takes
-// each name apart and puts it together again.
-
-/// An endpoint asks to be unregistered.
-#[inline(never)]
-fn unregistration(id: &Name) -> Event
-    ensures { plain result ≡ Unregistering id.now }
-{
-    Event::Unregister { id: *id }
-}
-
-/// An endpoint asks for a call to what it dialled.
-#[inline(never)]
-fn admission(id: &Name, call: u32, digits: &Dialled, units: Units) -> Event
-    ensures { plain result ≡ Admitting id.now call digits.now units }
-{
-    Event::Admit {
-        id: *id,
-        call,
-        digits: *digits,
-        units,
-    }
-}
-
-/// An endpoint asks for another bandwidth of an open call.
-#[inline(never)]
-fn change(id: &Name, call: u32, units: Units) -> Event
-    ensures { plain result ≡ Changing id.now call units }
-{
-    Event::Change {
-        id: *id,
-        call,
-        units,
-    }
-}
-
-/// An endpoint asks to be released from an open call.
-#[inline(never)]
-fn release(id: &Name, call: u32) -> Event
-    ensures { plain result ≡ Releasing id.now call }
-{
-    Event::Release { id: *id, call }
+/// What a line asks.
+#[derive(Drop)]
+pub enum Asking {
+    /// A request that stands whole in its line.
+    Whole(Request),
+    /// `CFG`: to put the configuration in force that the next lines are.
+    Reload {
+        /// The sequence number, 1 to 65535, which the reply repeats.
+        sequence: u32,
+        /// How many of the next lines belong to the request, 0 to 20,000.
+        count: u32,
+    },
 }

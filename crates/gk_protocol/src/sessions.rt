@@ -1,22 +1,26 @@
 //! A session: requests in, replies out.
 
-ghost use Rattle.std.specs.Prelude.{◌≡◌, ◌≢◌, ◌+◌, ◌^◌, ◌<◌, ◌≤◌, ℕ, List, IfOk, IfErr, OnOk, OnErr};
+ghost use Rattle.std.specs.Prelude.{◌≡◌, ◌≢◌, ◌+◌, ◌^◌, ◌<◌, ◌≤◌, ℕ, List, [], IfOk, IfErr, OnOk, OnErr};
 ghost use Rattle.std.specs.Io.KnownBytes.{Appends, IsAtEnd};
 ghost use Rattle.gk_lines.specs.Streams.{Notes, NotesIf, KnownStep, AppendsFront};
-ghost use Rattle.gk_lines.specs.LineReader.{left_of, AtEndIfEnded, CountsTurns};
+ghost use Rattle.gk_lines.specs.LineReader.{left_of, work_left, AtEndIfEnded, CountsTurns, is_failure};
+ghost use Rattle.gk_terms.specs.Text.{content_of};
 ghost use Rattle.gk_protocol.specs.Answers.{line_of};
 ghost use Rattle.gk_protocol.specs.Requests.{answer_of_none};
 ghost use Rattle.gk_protocol.specs.Session.{Ends, is_read_fault, is_write_fault};
-ghost use Rattle.gk_protocol.specs.AnswersLine.{AnswersLine};
+ghost use Rattle.gk_protocol.specs.AnswersLine.{AnswersLine, AnswersReload};
 
 use crate::answer_lines::show;
 use crate::answerer::Answerer;
 use crate::answers::Answer;
-use crate::request_faults::NoRequest;
-use crate::request_lines::request_in;
+use crate::owned_lines::{TakenLines, take_lines};
+use crate::reloads::no_memory;
+use crate::request_faults::{NoRequest, RequestFault};
+use crate::request_lines::asking_in;
+use crate::requests::{Asking, Request};
 use crate::session_faults::SessionFault;
 use admission::{RegisterRefusal, Reply};
-use gk_lines::{LineBuffer, LineReader, Sink, Source, WriteFault, write_whole};
+use gk_lines::{LineBuffer, LineReader, ReadFault, Sink, Source, WriteFault, write_whole};
 use std::alloc::Global;
 
 /// Answers the requests that the reader gives to its end, and says how many replies were written.
@@ -90,25 +94,92 @@ pub fn session_from<R: Source, W: Sink, A: Answerer>(
     let mut reply = LineBuffer::new();
     let mut replies = 0u64;
     while lines.next_line(reader, &mut line)? {
-        match &answer_to(alloc, line.content(), answerer) {
-            None => {}
-            Some(answer) => {
-                send(&mut reply, writer, answer)?;
-                replies += 1;
-            }
+        match &outcome_of(alloc, lines, reader, &mut line, answerer) {
+            Err(fault) => return Err(SessionFault::from(*fault)),
+            Ok(outcome) => match outcome {
+                Outcome::Blank => {}
+                Outcome::Answered(answer) => {
+                    send(&mut reply, writer, answer)?;
+                    replies += 1;
+                }
+                Outcome::CutShort => {
+                    send(
+                        &mut reply,
+                        writer,
+                        &Answer::Malformed(RequestFault::CutShort),
+                    )?;
+                    return Ok(replies + 1);
+                }
+            },
         }
     }
     Ok(replies)
 }
 
-/// The answer to a line; nothing to a blank one.
-fn answer_to<A: Answerer>(alloc: Global, line: &[u8], answerer: &mut A) -> Option<Answer>
-    ensures { AnswersLine A.may_answer answerer.old line.now result answerer.new }
+/// What comes of a line.
+#[derive(Clone, Copy, Debug, PartialEq, Eq)]
+enum Outcome {
+    /// It is blank, and gets no answer.
+    Blank,
+    /// It is answered.
+    Answered(Answer),
+    /// The input ended before the lines that belong to it, and so does the session.
+    CutShort,
+}
+
+/// What comes of a line, and of the lines that belong to it, which are taken off the input.
+fn outcome_of<R: Source, A: Answerer>(
+    alloc: Global,
+    lines: &mut LineReader,
+    reader: &mut R,
+    line: &mut LineBuffer,
+    answerer: &mut A,
+) -> Result<Outcome, ReadFault>
+    requires { AtEndIfEnded lines.old (R.remaining reader.old) }
+    ensures outcome { KnownStep (left_of lines.old (R.remaining reader.old))
+        (left_of lines.new (R.remaining reader.new))
+        (AnswersLine A.may_answer lines.old.ended lines.new.ended answerer.old
+        (content_of line.old) result answerer.new) }
+    ensures ended { AtEndIfEnded lines.new (R.remaining reader.new) }
+    ensures part_read { IfErr result (λ _. lines.new.pending ≡ []) }
+    ensures nothing_left { IfOk result (λ outcome. outcome ≡ Outcome.CutShort
+        → (lines.new.pending ≡ []) × IsAtEnd (R.remaining reader.new)) }
+    ensures turns { CountsTurns (R.calls reader.old)
+        (R.calls reader.new) lines.old.turns lines.new.turns }
+    ensures turns_spent { IfErr result
+        (λ fault. fault ≡ ReadFault.TurnsSpent → lines.new.turns ≡ 0) }
+    ensures noted { NotesIf is_failure (R.has_failed reader.old)
+        (R.has_failed reader.new) result }
+    ensures work { work_left lines.new ≤ work_left lines.old }
 {
-    match request_in(alloc, line) {
-        Ok(None) => None,
-        Ok(Some(request)) => Some(answerer.answer(request)),
-        Err(none) => Some(answer_to_none(none)),
+    match asking_in(alloc, line.content()) {
+        Ok(None) => Ok(Outcome::Blank),
+        Ok(Some(Asking::Whole(request))) => {
+            Ok(Outcome::Answered(answerer.answer(alloc, request)))
+        }
+        Ok(Some(Asking::Reload { sequence, count })) => {
+            let taken = take_lines(alloc, count, lines, reader, line)?;
+            Ok(answer_reload(alloc, sequence, taken, answerer))
+        }
+        Err(none) => Ok(Outcome::Answered(answer_to_none(none))),
+    }
+}
+
+/// What comes of a reload, by what became of its lines.
+fn answer_reload<A: Answerer>(
+    alloc: Global,
+    sequence: u32,
+    lines: TakenLines,
+    answerer: &mut A,
+) -> Outcome
+    ensures { AnswersReload A.may_answer answerer.old sequence lines result answerer.new }
+{
+    match lines {
+        TakenLines::Whole(lines) => {
+            Outcome::Answered(answerer.answer(alloc, Request::Reload { sequence, lines }))
+        }
+        TakenLines::NoMemory => Outcome::Answered(no_memory(sequence)),
+        TakenLines::CutShort => Outcome::CutShort,
     }
 }
 

@@ -3,15 +3,17 @@
 use admission::Duplicate::{E164, Id};
 use admission::{
     AdmitRefusal, ChangeRefusal as Change, Destination as At, RegisterRefusal as Register,
-    ReleaseRefusal as Release, Reply, RouteRefusal, UnregisterRefusal as Unregister,
+    ReleaseRefusal as Release, ReloadRefusal as Reload, Reply, RouteRefusal,
+    UnregisterRefusal as Unregister,
 };
 use bandwidth::Over;
+use command_reader::{FaultKind, LineFault};
 use compiler::LimitKind;
 use gk_lines::LineBuffer;
 use gk_protocol::answer_lines::show;
 use gk_protocol::answers::Answer;
 use gk_protocol::request_faults::RequestFault as Fault;
-use gk_terms::{Address, Name, Units};
+use gk_terms::{Address, Name, Units, Version};
 use std::process::Abort;
 use std::test::Fail;
 
@@ -151,5 +153,37 @@ fn changes_and_releases(rt: HostRuntime) {
     ] {
         let reply = Reply::ReleaseRefused { call, reason };
         assert_replied(&rt, reply, b"DRJ 5 1001 ", words);
+    }
+}
+
+#[test]
+fn reloads(rt: HostRuntime) {
+    let version = Version::new(4_097);
+    assert_replied(&rt, Reply::Reloaded { version }, b"CCF 5 ", "4097");
+    for (reason, words) in [
+        (Reload::ReloadsSpent, "0 reloads-spent"),
+        (Reload::RecordFull, "0 record-full"),
+        (Reload::NoMemory, "0 no-memory"),
+    ] {
+        assert_replied(&rt, Reply::ReloadRefused { reason }, b"CRJ 5 ", words);
+    }
+    for (kind, words) in [
+        (FaultKind::TooLong, "20001 TooLong"),
+        (FaultKind::UnknownCommand, "20001 UnknownCommand"),
+        (FaultKind::Unsupported, "20001 Unsupported"),
+        (FaultKind::Missing, "20001 Missing"),
+        (FaultKind::Extra, "20001 Extra"),
+        (FaultKind::BadName, "20001 BadName"),
+        (FaultKind::BadPattern, "20001 BadPattern"),
+        (FaultKind::BadNumber, "20001 BadNumber"),
+        (FaultKind::BadAddress, "20001 BadAddress"),
+        (FaultKind::UnknownZone, "20001 UnknownZone"),
+        (FaultKind::DuplicateZone, "20001 DuplicateZone"),
+        (FaultKind::NoLocalZone, "20001 NoLocalZone"),
+        (FaultKind::TooMany, "20001 TooMany"),
+    ] {
+        let fault = LineFault { line: 20_001, kind };
+        let answer = Answer::Misconfigured { sequence: 5, fault };
+        assert_shown(&rt, answer, b"CRJ 5 ", words);
     }
 }

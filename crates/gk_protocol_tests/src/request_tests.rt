@@ -1,8 +1,8 @@
 //! Which lines are requests, by examples from outside.
 
 use gk_protocol::request_faults::NoRequest;
-use gk_protocol::request_lines::request_in;
-use gk_protocol::requests::Request;
+use gk_protocol::request_lines::asking_in;
+use gk_protocol::requests::{Asking, Request};
 use gk_terms::{Address, Name};
 use registry::EndpointKind;
 use std::alloc::{AllocError, Global};
@@ -10,7 +10,7 @@ use std::test::Fail;
 
 /// The word of the fault of a line.
 fn fault_word(alloc: Global, line: &[u8]) -> Option<&'static str> {
-    match request_in(alloc, line) {
+    match asking_in(alloc, line) {
         Err(NoRequest::Fault(fault)) => Some(fault.word()),
         _ => None,
     }
@@ -74,6 +74,15 @@ fn faults(rt: HostRuntime) -> Result<(), Fail> {
         (b"DRQ 5 t\x7F 1001", "name"),
         (b"DRQ 5 ta 4294967296", "number"),
         (b"DRQ 5 ta 1001 640", "extra"),
+        (b"cfg 5 1", "word"),
+        (b"CFG", "missing"),
+        (b"CFG 5", "missing"),
+        (b"CFG 0 1", "seq"),
+        (b"CFG 65536 1", "seq"),
+        (b"CFG 5 20001", "number"),
+        (b"CFG 5 01", "number"),
+        (b"CFG 5 -1", "number"),
+        (b"CFG 5 1 x", "extra"),
         (b"RRQ 5 PBX tb gk-a 10.0.0.3", "option"),
         (b"RRQ 5 TERM tb gk-a 10.0.0.300", "address"),
         (b"RRQ 5 TERM tb gk-a 10.0.0.3:0", "address"),
@@ -103,16 +112,16 @@ fn faults(rt: HostRuntime) -> Result<(), Fail> {
 fn blank_lines(rt: HostRuntime) -> Result<(), Fail> {
     let longest = [b' '; 512];
     for line in [b"".as_slice(), b" \t ", longest.as_slice()] {
-        assert!(rt; matches!(request_in(rt.alloc(), line), Ok(None)));
+        assert!(rt; matches!(asking_in(rt.alloc(), line), Ok(None)));
     }
     Ok(())
 }
 
 /// The request of a line, which is to be one.
 fn request(alloc: Global, line: &[u8]) -> Result<Request, Fail> {
-    match request_in(alloc, line)? {
-        Some(request) => Ok(request),
-        None => Err(Fail::new("no request")),
+    match asking_in(alloc, line)? {
+        Some(Asking::Whole(request)) => Ok(request),
+        _ => Err(Fail::new("no request")),
     }
 }
 
@@ -216,5 +225,20 @@ fn releases(rt: HostRuntime) -> Result<(), Fail> {
     assert_eq!(rt; sequence, 1);
     assert_eq!(rt; id.as_str(), "ta");
     assert_eq!(rt; call, u32::MAX);
+    Ok(())
+}
+
+#[test]
+fn reloads(rt: HostRuntime) -> Result<(), Fail> {
+    for (line, number, lines) in [
+        (b"CFG 1 0".as_slice(), 1, 0),
+        (b" CFG\t65535  20000 ", 65_535, 20_000),
+    ] {
+        let Some(Asking::Reload { sequence, count }) = asking_in(rt.alloc(), line)? else {
+            return Err(Fail::new("no reload"));
+        };
+        assert_eq!(rt; sequence, number);
+        assert_eq!(rt; count, lines);
+    }
     Ok(())
 }

@@ -1,7 +1,8 @@
 //! Sessions over readers and writers that do little at a time, or fail.
 
 use admission::{
-    AdmitRefusal, ChangeRefusal, RegisterRefusal, ReleaseRefusal, Reply, UnregisterRefusal,
+    AdmitRefusal, ChangeRefusal, RegisterRefusal, ReleaseRefusal, ReloadRefusal, Reply,
+    UnregisterRefusal,
 };
 use gk_lines::fakes::Piecewise;
 use gk_lines::{Noted, Sink, Source};
@@ -25,7 +26,7 @@ impl Answerer for Refuser {
 
     ghost may_answer = { λ _ _ _ _. ⊤ };
 
-    fn answer(&mut self, request: Request) -> Answer {
+    fn answer(&mut self, _alloc: Global, request: Request) -> Answer {
         self.asked = self.asked.saturating_add(1);
         let (sequence, reply) = match request {
             Request::Register { sequence, endpoint } => {
@@ -48,6 +49,13 @@ impl Answerer for Refuser {
             Request::Release { sequence, call, .. } => {
                 let reason = ReleaseRefusal::NoCall;
                 (sequence, Reply::ReleaseRefused { call, reason })
+            }
+            Request::Reload { sequence, lines } => {
+                let reason = match lines.as_bytes() {
+                    b"a\r\n\nb" => ReloadRefusal::ReloadsSpent,
+                    _ => ReloadRefusal::RecordFull,
+                };
+                (sequence, Reply::ReloadRefused { reason })
             }
         };
         Answer::Reply { sequence, reply }
@@ -247,4 +255,96 @@ fn long_lines(rt: HostRuntime) -> Result<(), Fail> {
         }
     }
     Ok(())
+}
+
+#[test]
+fn lines_belong_to_a_reload_as_they_stand(rt: HostRuntime) {
+    for (input, replies, asked, text) in [
+        (
+            b"CFG 1 3\na\r\n\nb".as_slice(),
+            1,
+            1,
+            b"CRJ 1 0 reloads-spent\n".as_slice(),
+        ),
+        (b"CFG 1 3\na\n\nb", 1, 1, b"CRJ 1 0 record-full\n"),
+        (b"CFG 1 3\na\r\n\nb\n", 1, 1, b"CRJ 1 0 record-full\n"),
+        (
+            b"CFG 1 2\nURQ 1 a\nURQ 1 a\nURQ 1 a\n",
+            2,
+            2,
+            b"CRJ 1 0 record-full\nURJ 1 a notCurrentlyRegistered\n",
+        ),
+        (
+            b"CFG 65535 0\nURQ 1 a",
+            2,
+            2,
+            b"CRJ 65535 0 record-full\nURJ 1 a notCurrentlyRegistered\n",
+        ),
+        (b"CFG 1 1", 1, 0, b"ERR cut\n"),
+        (b"CFG 1 1\n", 1, 0, b"ERR cut\n"),
+        (b"CFG 1 3\na\r\n\n", 1, 0, b"ERR cut\n"),
+        (b"CFG 1 20000\n\nURQ 1 a", 1, 0, b"ERR cut\n"),
+        (
+            b"CFG 0 1\nURQ 1 a",
+            2,
+            1,
+            b"ERR seq\nURJ 1 a notCurrentlyRegistered\n",
+        ),
+        (
+            b"CFG 1 20001\nURQ 1 a\n",
+            2,
+            1,
+            b"ERR number\nURJ 1 a notCurrentlyRegistered\n",
+        ),
+    ] {
+        for most in [1, 2, 3, 7, 10_000] {
+            assert_session(&rt, rt.alloc(), most, input, (replies, asked, text));
+        }
+    }
+}
+
+/// A request, and a reload with two lines, of 8, 8, 2 and 2 bytes.
+const RELOADED: &[u8] = b"URQ 1 a\nCFG 2 2\na\nb\n";
+
+/// A session over that request and reload ends so, after so many calls of this reader.
+fn assert_reload_read(
+    rt: &impl Abort,
+    alloc: Global,
+    reader: Piecewise<&[u8]>,
+    turns: u32,
+    want: End,
+    calls: u64,
+) {
+    let mut output = Vec::new(alloc);
+    let mut reader = Noted::new(reader);
+    let mut writer = Noted::new(&mut output);
+    assert_ends(rt, alloc, &mut reader, &mut writer, turns, want);
+    assert_eq!(rt; reader.calls(), calls);
+}
+
+#[test]
+fn nothing_is_asked_before_the_last_line_of_a_reload(rt: HostRuntime) {
+    let failed = Err(SessionFault::ReadFault);
+    for (most, call, asked) in [
+        (1, 9, 1),
+        (1, 17, 1),
+        (1, 20, 1),
+        (1, 21, 2),
+        (18, 2, 1),
+        (20, 2, 2),
+    ] {
+        let reader = Piecewise::failing_at(RELOADED, most, call);
+        assert_reload_read(&rt, rt.alloc(), reader, 100, (failed, asked), call);
+    }
+    let spent = Err(SessionFault::TurnsSpent);
+    for (turns, want) in [
+        (16, (spent, 1)),
+        (18, (spent, 1)),
+        (19, (spent, 1)),
+        (20, (spent, 2)),
+        (21, (Ok(2), 2)),
+    ] {
+        let reader = Piecewise::new(RELOADED, 1);
+        assert_reload_read(&rt, rt.alloc(), reader, turns, want, u64::from(turns));
+    }
 }

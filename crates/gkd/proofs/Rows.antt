@@ -11,7 +11,7 @@ use Rattle.admission.specs.Step.{count_refusal, state_after, step}
 use Rattle.admission.specs.History.{state_of}
 use Rattle.gk_protocol.specs.Requests.{asking_of, registering_of}
 use Rattle.gkd.specs.Output.{output_of}
-use Rattle.gkd.specs.Rows.{FirstRun, OpenCall, FullRecord, Stranger, Faults, ByPatternCostAndHopoff, PrefixAlone, GreatestPriority, PriorityZero, UnknownPrefix, AliasOrDefault, NoDefault, OtherAliases, LongDigits, FullTotal, SessionBeforeTotal, BetweenZones, ToRemoteZones, RaisedAndLowered, CountedInTargetZone, ByOwnerAlone}
+use Rattle.gkd.specs.Rows.{FirstRun, OpenCall, FullRecord, Stranger, Faults, ByPatternCostAndHopoff, PrefixAlone, GreatestPriority, PriorityZero, UnknownPrefix, AliasOrDefault, NoDefault, OtherAliases, LongDigits, FullTotal, SessionBeforeTotal, BetweenZones, ToRemoteZones, RaisedAndLowered, CountedInTargetZone, ByOwnerAlone, RoutedByNewLines, LimitedByNewLines, WithoutSecondZone, FaultyReloads, SmallestLimits}
 
 pub first_run : FirstRun
 unfolding digits plan_of route_of line_of line_after over_of ruling_of count_refusal state_after step state_of asking_of registering_of output_of
@@ -96,3 +96,23 @@ counted_in_target_zone = refl
 pub by_owner_alone : ByOwnerAlone
 unfolding digits plan_of route_of line_of line_after over_of ruling_of count_refusal state_after step state_of asking_of registering_of output_of
 by_owner_alone = refl
+
+pub routed_by_new_lines : RoutedByNewLines
+unfolding digits plan_of route_of line_of line_after over_of ruling_of count_refusal state_after step state_of asking_of registering_of output_of
+routed_by_new_lines = refl
+
+pub limited_by_new_lines : LimitedByNewLines
+unfolding digits plan_of route_of line_of line_after over_of ruling_of count_refusal state_after step state_of asking_of registering_of output_of
+limited_by_new_lines = refl
+
+pub without_second_zone : WithoutSecondZone
+unfolding digits plan_of route_of line_of line_after over_of ruling_of count_refusal state_after step state_of asking_of registering_of output_of
+without_second_zone = refl
+
+pub faulty_reloads : FaultyReloads
+unfolding digits plan_of route_of line_of line_after over_of ruling_of count_refusal state_after step state_of asking_of registering_of output_of
+faulty_reloads = refl
+
+pub smallest_limits : SmallestLimits
+unfolding digits plan_of route_of line_of line_after over_of ruling_of count_refusal state_after step state_of asking_of registering_of output_of
+smallest_limits = refl

@@ -3,28 +3,62 @@ use Rattle.std.specs.Prelude.{◌≡◌, ℕ, List, [], ◌∷◌, ◌++◌, Res
 use Rattle.command_reader.specs.declared.faults.LineFault.{LineFault}
 use Rattle.command_reader.specs.Configuration.{Configuration}
 use Rattle.command_reader.specs.Reading.{reading_in}
+use Rattle.gk_terms.specs.Text.{lines_of}
 use Rattle.admission.specs.declared.limits.Limits.{Limits}
+use Rattle.admission.specs.Events.{PlainEvent, Registering, Unregistering, Admitting, Changing, Releasing, Reloading}
 use Rattle.admission.specs.Step.{step}
 use Rattle.admission.specs.History.{CoreParts, state_of, core_after}
 use Rattle.gk_protocol.specs.declared.request_faults.RequestFault.{RequestFault}
 use Rattle.gk_protocol.specs.declared.requests.Request.{Request}
+use Rattle.gk_protocol.specs.declared.requests.Request.TheVariants.{Register, Unregister, Admit, Change, Release, Reload}
 use Rattle.gk_protocol.specs.declared.answers.Answer.{Answer}
-use Rattle.gk_protocol.specs.declared.answers.Answer.TheVariants.{Reply, Malformed}
+use Rattle.gk_protocol.specs.declared.answers.Answer.TheVariants.{Reply, Misconfigured, Malformed}
 use Rattle.gk_protocol.specs.Answers.{line_of}
-use Rattle.gk_protocol.specs.CoreAnswers.{numbered_event, MayAnswer}
+use Rattle.gk_protocol.specs.CoreAnswers.{MayAnswer}
 use Rattle.gk_protocol.specs.Session.{Asked, requests_of, Runs}
 use Rattle.configuration_reader.specs.declared.configuration.Until.TheVariants.{EndLine}
 use Rattle.configuration_reader.specs.Configuration.{configuration_of, rest_of}
 use Rattle.gkd.specs.Run.{opened}
 
--- the machine's answer to what was asked, and the core after it
+-- the sequence number of a request
+abbrev pub sequence_of : Request → ℕ
+sequence_of (Register sequence endpoint) = sequence
+sequence_of (Unregister sequence id) = sequence
+sequence_of (Admit sequence id call digits units) = sequence
+sequence_of (Change sequence id call units) = sequence
+sequence_of (Release sequence id call) = sequence
+sequence_of (Reload sequence lines) = sequence
+
+-- a reload of what was read, or its fault
+abbrev pub reloading : Result Configuration LineFault → Result PlainEvent LineFault
+reloading (Ok configuration) = Ok (Reloading configuration.commands)
+reloading (Err fault) = Err fault
+
+-- the event that a request asks for, or the first fault of the lines that belong to it
+abbrev pub event_of : Request → Result PlainEvent LineFault
+event_of (Register sequence endpoint) = Ok (Registering endpoint)
+event_of (Unregister sequence id) = Ok (Unregistering id)
+event_of (Admit sequence id call digits units) = Ok (Admitting id call digits units)
+event_of (Change sequence id call units) = Ok (Changing id call units)
+event_of (Release sequence id call) = Ok (Releasing id call)
+event_of (Reload sequence lines) = reloading (reading_in (lines_of lines))
+
+-- the machine's answer to an event, and the core after it; a fault leaves the core
+abbrev pub answer_to : CoreParts → ℕ → Result PlainEvent LineFault → Answer
+answer_to core sequence (Ok event) = Reply sequence (step (state_of core) event).reply
+answer_to core sequence (Err fault) = Misconfigured sequence fault
+
+abbrev pub core_with : CoreParts → Result PlainEvent LineFault → CoreParts
+core_with core (Ok event) = core_after core event
+core_with core (Err fault) = core
+
+-- the same of what was asked
 abbrev pub answer_of : CoreParts → Result Request RequestFault → Answer
-answer_of core (Ok request) =
-    let asked = numbered_event request in Reply asked.0 (step (state_of core) asked.1).reply
+answer_of core (Ok request) = answer_to core (sequence_of request) (event_of request)
 answer_of core (Err fault) = Malformed fault
 
 abbrev pub core_of : CoreParts → Result Request RequestFault → CoreParts
-core_of core (Ok request) = let asked = numbered_event request in core_after core asked.1
+core_of core (Ok request) = core_with core (event_of request)
 core_of core (Err fault) = core
 
 -- the lines of the answers, one after another

@@ -247,3 +247,84 @@ ByOwnerAlone = Writes stated
     ∷ codes "BRJ 9 1001 invalidPermission not-yours" ∷ codes "DCF 10 1001"
     ∷ codes "DRJ 11 1001 requestToDropOther no-call" ∷ codes "DRJ 12 1001 notRegistered"
     ∷ codes "BRJ 13 1001 undefinedReason no-call" ∷ []))
+
+-- ---- reloads
+-- the dial plan with other lines in the place of the prefix of gk-a and of the total of gk-a, and
+-- without gk-b if it is left out
+abbrev pub reloaded_lines : List (List ℕ) → List (List ℕ) → List (List ℕ)
+    → List (List ℕ)
+reloaded_lines second_zone prefixes limits =
+    codes "gatekeeper" ∷ codes " zone local gk-a example.com 10.0.0.1"
+    ∷ second_zone ++ codes " zone remote gk-x example.com 10.9.0.1 1719 cost 50"
+    ∷ codes " zone remote gk-y example.com 10.9.0.2 1719 cost 20"
+    ∷ prefixes ++ codes " zone prefix gk-x 9*" ∷ codes " zone prefix gk-y 9*"
+    ∷ codes " gw-type-prefix 1#* default-technology" ∷ codes " gw-type-prefix 2# hopoff gk-x"
+    ∷ limits ++ codes " bandwidth session default 128" ∷ codes " no shutdown" ∷ codes "end" ∷ []
+
+-- the new configuration routes
+abbrev pub RoutedByNewLines : Type 0
+RoutedByNewLines = Writes stated
+    (dial_plan default_technology []
+    ++ after_endpoints (codes "CFG 5 15"
+    ∷ reloaded_lines (codes " zone local gk-b example.com" ∷ [])
+    (codes " zone prefix gk-x 408*" ∷ codes " zone prefix gk-b 4085......" ∷ [])
+    (codes " bandwidth total zone gk-a 256" ∷ [])
+    ++ codes "ARQ 6 ta 1001 40855512345 640" ∷ []))
+    (after_registered (codes "CCF 5 2" ∷ codes "ACF 6 1001 ZONE gk-x 10.9.0.1:1719 640" ∷ []))
+
+-- open calls stay, and count against its limits
+abbrev pub LimitedByNewLines : Type 0
+LimitedByNewLines = Writes stated
+    (dial_plan default_technology []
+    ++ after_endpoints (codes "ARQ 5 ta 1001 9123 1280" ∷ codes "ARQ 6 ta 1002 9124 1280"
+    ∷ codes "CFG 7 15"
+    ∷ reloaded_lines (codes " zone local gk-b example.com" ∷ [])
+    (codes " zone prefix gk-a 408*" ∷ codes " zone prefix gk-b 4085......" ∷ [])
+    (codes " bandwidth total zone gk-a 100" ∷ [])
+    ++ codes "ARQ 8 ta 1003 9125 0" ∷ codes "BRQ 9 ta 1001 1280" ∷ codes "BRQ 10 ta 1001 640"
+    ∷ codes "BRQ 11 ta 1001 641" ∷ codes "DRQ 12 ta 1002" ∷ codes "BRQ 13 ta 1001 1000" ∷ []))
+    (after_registered (codes "ACF 5 1001 ZONE gk-y 10.9.0.2:1719 1280"
+    ∷ codes "ACF 6 1002 ZONE gk-y 10.9.0.2:1719 1280" ∷ codes "CCF 7 2"
+    ∷ codes "ARJ 8 1003 requestDenied total gk-a" ∷ codes "BCF 9 1001 1280"
+    ∷ codes "BCF 10 1001 640" ∷ codes "BRJ 11 1001 insufficientResources total gk-a"
+    ∷ codes "DCF 12 1002" ∷ codes "BCF 13 1001 1000" ∷ []))
+
+-- a registration goes with its zone, and its call stays
+abbrev pub WithoutSecondZone : Type 0
+WithoutSecondZone = Writes stated
+    (dial_plan default_technology []
+    ++ after_endpoints (codes "ARQ 5 gb1 1001 9123 640" ∷ codes "CFG 6 13"
+    ∷ reloaded_lines [] (codes " zone prefix gk-a 408*" ∷ [])
+    (codes " bandwidth total zone gk-a 256" ∷ [])
+    ++ codes "ARQ 7 gb1 1002 9123 640" ∷ codes "DRQ 8 gb1 1001" ∷ codes "URQ 9 gb1" ∷ []))
+    (after_registered (codes "ACF 5 1001 ZONE gk-y 10.9.0.2:1719 640" ∷ codes "CCF 6 2"
+    ∷ codes "ARJ 7 1002 callerNotRegistered" ∷ codes "DCF 8 1001"
+    ∷ codes "URJ 9 gb1 notCurrentlyRegistered" ∷ []))
+
+-- lines that are no configuration, each with its first fault, and one that is cut short
+abbrev pub FaultyReloads : Type 0
+FaultyReloads = Writes stated
+    (dial_plan default_technology []
+    ++ after_endpoints (codes "CFG 5 3" ∷ codes "zone local gk-a example.com"
+    ∷ codes "zone prefix gk-a 408*" ∷ codes "zone prefix gk-z 9*"
+    ∷ codes "CFG 6 1" ∷ replicate 513 97 ∷ codes "CFG 7 0" ∷ codes "CFG 8 15"
+    ∷ dial_plan default_technology []
+    ++ codes "CFG 9 3" ∷ codes "zone local gk-a example.com" ∷ codes "zone prefix gk-a 408*" ∷ []))
+    (after_registered (codes "CRJ 5 3 UnknownZone" ∷ codes "CRJ 6 1 TooLong"
+    ∷ codes "CRJ 7 1 NoLocalZone" ∷ codes "CCF 8 2" ∷ codes "ERR cut" ∷ []))
+
+-- limits of one endpoint, one call, four entries and one reload
+abbrev pub SmallestLimits : Type 0
+SmallestLimits =
+    Writes (record { endpoints = 1; calls = 1; records = 4; reloads = 1 })
+    (dial_plan default_technology []
+    ++ codes "RRQ 1 TERM ta gk-a 10.0.1.1" ∷ codes "RRQ 2 TERM tb gk-a 10.0.1.2"
+    ∷ codes "ARQ 3 ta 1001 9123 640" ∷ codes "ARQ 4 ta 1002 9123 640"
+    ∷ codes "CFG 5 15" ∷ dial_plan default_technology []
+    ++ codes "CFG 6 15" ∷ dial_plan default_technology []
+    ++ codes "ARQ 7 nobody 1003 9123 0" ∷ codes "DRQ 8 ta 1001" ∷ codes "URQ 9 ta" ∷ [])
+    (codes "RCF 1 ta gk-a" ∷ codes "RRJ 2 tb undefinedReason endpoints-full"
+    ∷ codes "ACF 3 1001 ZONE gk-y 10.9.0.2:1719 640"
+    ∷ codes "ARJ 4 1002 resourceUnavailable calls-full" ∷ codes "CCF 5 2"
+    ∷ codes "CRJ 6 0 reloads-spent" ∷ codes "ARJ 7 1003 resourceUnavailable record-full"
+    ∷ codes "DCF 8 1001" ∷ codes "URJ 9 ta undefinedReason record-full" ∷ [])

@@ -20,10 +20,10 @@ use Rattle.gkd.specs.declared.run.RunFault.TheVariants.{BadLimits, Config, Sessi
 use Rattle.configuration_reader.specs.Configuration.{configuration_of, rest_of, IsUnended}
 
 -- a core in its opening state: a configuration's commands as version 1, and nothing registered,
--- open or recorded
+-- open, recorded or reserved
 abbrev pub opened : Configuration → Limits → CoreParts
 opened configuration limits =
-    record { opening = opening_of configuration.commands limits; entries = [] }
+    record { opening = opening_of configuration.commands limits; entries = []; reserved = false }
 
 -- a run within these limits opens such a core
 abbrev pub OpensWithin : Limits → Configuration → CoreParts → Type 0

@@ -60,6 +60,28 @@ fn write_release(input: &mut String, replies: &mut String) -> Result<(), AllocEr
     writeln!(replies, "ACF 60005 60001 ZONE gk-x 10.9.0.1:1719 640")
 }
 
+/// Adds three reloads, to configurations in which the zone of all callers is gone.
+fn write_reloads(input: &mut String, replies: &mut String) -> Result<(), AllocError> {
+    for version in 2u32..=4 {
+        writeln!(input, "CFG 60006 2")?;
+        writeln!(input, "zone local gk-b example.com")?;
+        writeln!(input, "bandwidth remote {version}")?;
+        writeln!(replies, "CCF 60006 {version}")?;
+    }
+    Ok(())
+}
+
+/// Adds a release, and that it is granted to its owner, who is no longer registered.
+fn write_late_release(
+    input: &mut String,
+    replies: &mut String,
+    number: u32,
+) -> Result<(), AllocError> {
+    let caller = number / 7;
+    writeln!(input, "DRQ {number} t{caller} {number}")?;
+    writeln!(replies, "DCF {number} {number}")
+}
+
 /// How a run over this input ends, and what it writes.
 fn run_of(alloc: Global, input: &[u8]) -> (Result<u64, RunFault>, Vec<u8>) {
     let mut output = Vec::new(alloc);
@@ -83,8 +105,12 @@ fn ten_thousand_endpoints_and_fifty_thousand_calls(rt: HostRuntime) -> Result<()
     }
     write_refusals(&mut input, &mut replies)?;
     write_release(&mut input, &mut replies)?;
+    write_reloads(&mut input, &mut replies)?;
+    for number in 10_001..=11_000 {
+        write_late_release(&mut input, &mut replies, number)?;
+    }
     let (result, output) = run_of(rt.alloc(), input.as_bytes());
     assert!(rt; output.as_slice() == replies.as_bytes());
-    assert_eq!(rt; result, Ok(60_005));
+    assert_eq!(rt; result, Ok(61_008));
     Ok(())
 }

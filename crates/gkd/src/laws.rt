@@ -13,7 +13,7 @@ pub fn output_is_run()
 {}
 
 /// Worked rows, computed on the definitions alone, from the bytes of configuration and requests to
-/// those of the replies, within the stated limits.
+/// those of the replies, within the stated limits, or smaller ones that a row names.
 pub fn worked_rows()
     ensures limits { Rows.stated ≡ STATED_LIMITS }
     ensures first_run { Rows.FirstRun }
@@ -37,4 +37,9 @@ pub fn worked_rows()
     ensures raised_and_lowered { Rows.RaisedAndLowered }
     ensures counted_in_target_zone { Rows.CountedInTargetZone }
     ensures by_owner_alone { Rows.ByOwnerAlone }
+    ensures routed_by_new_lines { Rows.RoutedByNewLines }
+    ensures limited_by_new_lines { Rows.LimitedByNewLines }
+    ensures without_second_zone { Rows.WithoutSecondZone }
+    ensures faulty_reloads { Rows.FaultyReloads }
+    ensures smallest_limits { Rows.SmallestLimits }
 {}

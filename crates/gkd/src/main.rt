@@ -19,6 +19,8 @@ pub mod laws;
 mod limit_tests;
 #[cfg(test)]
 mod registration_tests;
+#[cfg(test)]
+mod reload_tests;
 pub mod run;
 #[cfg(test)]
 mod run_tests;

@@ -16,7 +16,8 @@ use configuration_reader::configuration::{
 };
 use gk_lines::{LineReader, Sink, Source};
 use gk_protocol::{SessionFault, session, session_from};
-use std::alloc::{AllocError, Global};
+use std::alloc::{AllocError, AllocFailed, Global};
+use std::sync::Arc;
 use thiserror::Error;
 
 /// Why a run ended before the end of its input.
@@ -82,6 +83,17 @@ impl From<AllocError> for RunFault {
     ghost from_gives = { λ _ run. run ≡ NoMemory };
 
     fn from(_refused: AllocError) -> RunFault {
+        RunFault::NoMemory
+    }
+}
+
+impl<T: Drop> From<AllocFailed<T>> for RunFault {
+    ghost use Rattle.std.specs.Prelude.{◌≡◌};
+    ghost use Rattle.gkd.specs.declared.run.RunFault.TheVariants.{NoMemory};
+
+    ghost from_gives = { λ _ run. run ≡ NoMemory };
+
+    fn from(_refused: AllocFailed<T>) -> RunFault {
         RunFault::NoMemory
     }
 }
@@ -185,6 +197,7 @@ fn opened(alloc: Global, commands: Commands, limits: Limits) -> Result<Core, Run
     ensures fault { IfErr result (λ fault. fault ≡ RunFault.NoMemory) }
 {
     let tables = Tables::compile(alloc, commands)?;
-    let core = Core::new(alloc, tables, limits)?;
+    let shared = Arc::new(alloc, tables)?;
+    let core = Core::new(alloc, shared, limits)?;
     Ok(core)
 }

@@ -1,5 +1,6 @@
-use Rattle.std.proofs.Common.{refl, ap, subst, arith}
+use Rattle.std.proofs.Common.{refl, ap, ◌-◌, arith}
 use Rattle.std.specs.Prelude.{◌≤◌, length}
+use Rattle.admission.specs.Step.{places_needed}
 use Rattle.command_reader.proofs.PrintingLemmas.{OnErr-from}
 use Rattle.admission.specs.State.{State}
 use Rattle.admission.specs.History.{RecordParts}
@@ -12,7 +13,8 @@ next_number-number-requires c =
 
 pub apply-requires-clause-founded : goal.apply-requires-clause-founded
 apply-requires-clause-founded c =
-    ruled_founded _ _ _ c.requires.ruled c.requires.recordable
+    rw (c.tables.ensures, c.in_ok-keep.ensures.ok)
+    (ruled_founded _ _ _ c.requires.ruled c.requires.recordable)
 
 pub apply-requires-clause-counted : goal.apply-requires-clause-counted
 apply-requires-clause-counted c =
@@ -21,17 +23,24 @@ apply-requires-clause-counted c =
 pub returns-in_err-keep-clause-err : goal.returns-in_err-keep-clause-err
 returns-in_err-keep-clause-err c =
     let err = c.in_err-keep.ensures.err in
-    let one = subst (λ n. 1 ≤ n) c.places_needed-places.ensures err.1 in
+    let one : 1 ≤ places_needed c.args.ruling.now.effect =
+    omega (arith, err.1, c.saturating_sub-more.ensures, c.places_needed-needed.ensures) in
     OnErr-from c.from_residual.result _
     (refl, err.0, ruled_lacks _ _ _ c.requires.ruled c.requires.recordable c.requires.recorded one)
 
 pub returns-clause-places : goal.returns-clause-places
 returns-clause-places c =
+    let moved = rw (c.tables.ensures, c.in_ok-keep.ensures.ok) at c.in_default.ensures.ok in
+    let enough : length c.args.machine.now.calls
+    ≤ c.args.history.now.kept - c.args.reserved = omega (arith, c.requires.kept) in
     omega (
       arith,
       ap (λ (h : RecordParts). h.kept) c.in_ok-keep.ensures.ok,
-      ap (λ (s : State). length s.calls) c.in_default.ensures.ok,
-      c.places_needed-places.ensures,
-      ruled_one _ _ _ c.requires.ruled c.requires.recordable _ c.requires.kept,
-      ruled_enough _ _ _ c.requires.ruled c.requires.recordable _ c.requires.kept,
+      ap (λ (h : RecordParts). h.kept) c.give_back-2.ensures,
+      ap (λ (s : State). length s.calls) moved,
+      c.saturating_sub-more.ensures,
+      c.places_needed-needed.ensures,
+      c.requires.kept,
+      ruled_one _ _ _ c.requires.ruled c.requires.recordable _ enough,
+      ruled_enough _ _ _ c.requires.ruled c.requires.recordable _ enough,
     )

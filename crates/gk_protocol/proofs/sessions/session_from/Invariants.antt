@@ -4,8 +4,8 @@ use Rattle.gk_lines.specs.LineReader.{work_left, left_of, AtEndIfEnded, CountsTu
 use Rattle.gk_protocol.proofs.SessionUnderWay.{UnderWay}
 use Rattle.gk_protocol.proofs.sessions.session_from.Given as goal
 
-abbrev pub invariant-loop-line : goal.invariant-loop-line
-invariant-loop-line g l =
+abbrev pub invariant-loop-lines : goal.invariant-loop-lines
+invariant-loop-lines g l =
     let remaining = g.R.Source.remaining in
     let contents = g.W.Sink.contents in
     record {
@@ -17,5 +17,5 @@ invariant-loop-line g l =
       writer_noted : g.W.Sink.has_failed l.writer ≡ g.W.Sink.has_failed l.fn.writer;
     }
 
-abbrev pub decreases-loop-line : goal.decreases-loop-line
-decreases-loop-line g l = work_left l.lines
+abbrev pub decreases-loop-lines : goal.decreases-loop-lines
+decreases-loop-lines g l = work_left l.lines

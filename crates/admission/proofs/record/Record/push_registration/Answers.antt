@@ -1,11 +1,14 @@
-use Rattle.std.proofs.Common.{◌≤◌, ◌-◌, ◌++◌, [], ◌∷◌, ap, ap₂, ◌∙◌, arith}
+use Rattle.std.proofs.Common.{◌≡◌, ◌≤◌, ◌-◌, ◌++◌, [], ◌∷◌, refl, sym, ap, subst, ◌∙◌, arith}
+use Rattle.std.specs.Prelude.{Option, Some, None, IsSome}
+use Rattle.std.specs.Arc.{arc_value}
 use Rattle.std.specs.List.{cons_option}
 use Rattle.admission.specs.Events.{plain}
-use Rattle.admission.specs.History.{RecordParts}
+use Rattle.admission.specs.History.{RecordParts, PlainEntry}
 use Rattle.admission.specs.Slots.{registration_meant}
-use Rattle.admission.specs.RecordIndex.{entries_told, IsStored}
+use Rattle.admission.specs.RecordIndex.{entries_told, IsStored, LastReloadIsAt}
 use Rattle.admission.specs.declared.slots.Slot.{Slot}
 use Rattle.admission.proofs.StoredLemmas.{registration_stored, told_are, stored_told}
+use Rattle.admission.proofs.ReloadLemmas.{none_more, registration_puts_none}
 use Rattle.admission.proofs.record.Record.push_registration.Goals as goal
 
 -- what is stored with the registration
@@ -17,7 +20,7 @@ stored : (c : goal.After-self-1)
 stored c =
     let one : 1 ≤ c.self.inside.kept =
     omega (arith, c.requires.kept, ap (λ (h : RecordParts). h.kept) c.self.view_is) in
-    registration_stored _ _ _ _ _ c.self.invariant one c.len-place.result c.args.replied
+    registration_stored _ _ _ _ _ c.self.invariant.0 one c.len-place.result c.args.replied
     c.args.event c.push.new.self c.push-2.new.self c.len-place.ensures.value c.requires.meant
     (c.push.ensures ∙ ap (λ (s : Slot). record {
       items = c.self.inside.slots.items ++ s ∷ [];
@@ -25,14 +28,39 @@ stored c =
     }) c.new.ensures)
     c.push-2.ensures
 
+-- the tables in force stay
+last : (c : goal.After-self-1)
+    → LastReloadIsAt (arc_value c.self.inside.opening).commands c.self.inside.aside.items
+    (entries_told c.self.inside.slots c.self.inside.aside c.self.inside.registrations
+    ++ cons_option (registration_meant c.args.replied (plain c.args.event)) []) c.self.inside.last_reload
+last c = by (registration_meant c.args.replied (plain c.args.event)) refl c.requires.meant
+  where
+    by : (meant : Option PlainEntry) → registration_meant c.args.replied (plain c.args.event) ≡ meant → IsSome meant
+        → LastReloadIsAt (arc_value c.self.inside.opening).commands c.self.inside.aside.items
+        (entries_told c.self.inside.slots c.self.inside.aside c.self.inside.registrations
+        ++ cons_option meant []) c.self.inside.last_reload
+    by None h some = let impossible : ⊥ = cc in absurd impossible
+    by (Some e) h some =
+        none_more (arc_value c.self.inside.opening).commands c.self.inside.aside.items
+        (entries_told c.self.inside.slots c.self.inside.aside c.self.inside.registrations)
+        c.self.inside.last_reload c.self.invariant.1 e
+        (registration_puts_none c.args.replied (plain c.args.event) e h)
+
 pub invariant_of-self : goal.invariant_of-self
-invariant_of-self c = stored_told _ _ _ _ _ (stored c)
+invariant_of-self c = (
+  stored_told _ _ _ _ _ (stored c),
+  subst (λ es. LastReloadIsAt (arc_value c.self.inside.opening).commands c.self.inside.aside.items es
+      c.self.inside.last_reload) (sym (told_are _ _ _ _ _ (stored c))) (last c),
+)
 
 pub returns : goal.returns
 returns c =
-    ap₂ (λ es kept. record { entries = es; kept = kept })
-    (told_are _ _ _ _ _ (stored c)
-    ∙ ap (λ (h : RecordParts).
-    h.entries ++ cons_option (registration_meant c.args.replied (plain c.args.event)) [])
-    c.self.view_is)
-    (ap (λ (h : RecordParts). h.kept - 1) c.self.view_is)
+    ap (λ es. record {
+      opening = (arc_value c.self.inside.opening).commands;
+      entries = es;
+      kept = c.self.inside.kept - 1;
+    }) (told_are _ _ _ _ _ (stored c))
+    ∙ ap (λ (h : RecordParts). record h {
+      entries = h.entries ++ cons_option (registration_meant c.args.replied (plain c.args.event)) [];
+      kept = h.kept - 1;
+    }) c.self.view_is

@@ -1,8 +1,10 @@
-use Rattle.std.proofs.Common.{◌≤◌, ◌-◌, ◌++◌, [], ◌∷◌, ap, ap₂, ◌∙◌, arith}
+use Rattle.std.proofs.Common.{◌≤◌, ◌-◌, ◌++◌, [], ◌∷◌, sym, ap, subst, ◌∙◌, arith}
+use Rattle.std.specs.Arc.{arc_value}
 use Rattle.admission.specs.History.{RecordParts}
-use Rattle.admission.specs.RecordIndex.{plain_whole, entries_told, IsStored}
+use Rattle.admission.specs.RecordIndex.{plain_whole, entries_told, IsStored, LastReloadIsAt}
 use Rattle.admission.specs.declared.slots.Slot.{Slot}
 use Rattle.admission.proofs.StoredLemmas.{whole_stored, told_are, stored_told}
+use Rattle.admission.proofs.ReloadLemmas.{whole_more}
 use Rattle.admission.proofs.record.Record.push_whole.Goals as goal
 
 -- what is stored with the entry
@@ -14,7 +16,7 @@ stored : (c : goal.After-self-1)
 stored c =
     let one : 1 ≤ c.self.inside.kept =
     omega (arith, c.requires.kept, ap (λ (h : RecordParts). h.kept) c.self.view_is) in
-    whole_stored _ _ _ _ _ c.self.invariant one c.len-place.result c.args.entry c.push.new.self
+    whole_stored _ _ _ _ _ c.self.invariant.0 one c.len-place.result c.args.entry c.push.new.self
     c.push-2.new.self c.len-place.ensures.value
     (c.push.ensures ∙ ap (λ (s : Slot). record {
       items = c.self.inside.slots.items ++ s ∷ [];
@@ -22,12 +24,33 @@ stored c =
     }) c.new.ensures)
     c.push-2.ensures
 
+-- the tables in force are its own, if it is of a reload
+last : (c : goal.After-self-1)
+    → LastReloadIsAt (arc_value c.self.inside.opening).commands c.push-2.new.self.items
+    (entries_told c.self.inside.slots c.self.inside.aside c.self.inside.registrations
+    ++ plain_whole c.args.entry ∷ []) c.last_reload-last_reload.result
+last c =
+    rw (c.push-2.ensures, c.last_reload-last_reload.ensures)
+    (whole_more (arc_value c.self.inside.opening).commands c.self.inside.aside.items
+    (entries_told c.self.inside.slots c.self.inside.aside c.self.inside.registrations)
+    c.self.inside.last_reload c.self.invariant.1 c.args.entry c.len-place.result
+    c.len-place.ensures.value)
+
 pub invariant_of-self : goal.invariant_of-self
-invariant_of-self c = stored_told _ _ _ _ _ (stored c)
+invariant_of-self c = (
+  stored_told _ _ _ _ _ (stored c),
+  subst (λ es. LastReloadIsAt (arc_value c.self.inside.opening).commands c.push-2.new.self.items es
+      c.last_reload-last_reload.result) (sym (told_are _ _ _ _ _ (stored c))) (last c),
+)
 
 pub returns : goal.returns
 returns c =
-    ap₂ (λ es kept. record { entries = es; kept = kept })
-    (told_are _ _ _ _ _ (stored c)
-    ∙ ap (λ (h : RecordParts). h.entries ++ plain_whole c.args.entry ∷ []) c.self.view_is)
-    (ap (λ (h : RecordParts). h.kept - 1) c.self.view_is)
+    ap (λ es. record {
+      opening = (arc_value c.self.inside.opening).commands;
+      entries = es;
+      kept = c.self.inside.kept - 1;
+    }) (told_are _ _ _ _ _ (stored c))
+    ∙ ap (λ (h : RecordParts). record h {
+      entries = h.entries ++ plain_whole c.args.entry ∷ [];
+      kept = h.kept - 1;
+    }) c.self.view_is

@@ -1,0 +1,127 @@
+-- The tables in force, as a record finds them.
+use Rattle.std.proofs.Common.{◌≡◌, ◌≤◌, ℕ, List, [], ◌∷◌, ◌++◌, length, slice_get, refl, sym, ap, ◌∙◌, arith}
+use Rattle.std.specs.Prelude.{Option, Some, None, is_some, if◌then◌else◌}
+use Rattle.std.specs.Option.{option_and_then, option_map}
+use Rattle.std.proofs.lemmas.Option.{none-some, same_Some, slice_get_past}
+use Rattle.command_reader.specs.declared.commands.Command.{Command}
+use Rattle.registry.specs.Endpoint.{EndpointParts}
+use Rattle.admission.specs.Events.{PlainEvent, put_in_force, endpoint_asking}
+use Rattle.admission.specs.History.{PlainEntry, in_force_after, in_force_of}
+use Rattle.admission.specs.Slots.{entry_meant, registration_meant, register_entry}
+use Rattle.pieces.specs.Pieces.{PiecesParts}
+use Rattle.admission.specs.RecordIndex.{plain_whole, put_by_whole, entries_told, in_force_at, IsStored, LastReloadIsAt}
+use Rattle.admission.specs.declared.events.Event.{Event}
+use Rattle.admission.specs.declared.record.WholeEntry.{WholeEntry}
+use Rattle.admission.specs.declared.slots.ShortReply.{ShortReply}
+use Rattle.admission.specs.declared.slots.Slot.{Slot}
+use Rattle.admission.specs.declared.slots.Slot.TheVariants as slot
+use Rattle.admission.proofs.StoredLemmas.{still_told, next_is}
+
+-- ---- one entry more
+pub in_force_more : (commands : List Command) (entries : List PlainEntry) (e : PlainEntry)
+    → in_force_of commands (entries ++ e ∷ [])
+    ≡ in_force_after (in_force_of commands entries) (put_in_force e.event)
+in_force_more commands [] e = refl
+in_force_more commands (f ∷ entries) e =
+    in_force_more (in_force_after commands (put_in_force f.event)) entries e
+
+module _ (opening : List Command) (aside : List WholeEntry) (entries : List PlainEntry)
+    (last : Option ℕ) (at : LastReloadIsAt opening aside entries last) where
+  -- that puts no commands in force
+  pub none_more : (e : PlainEntry) → put_in_force e.event ≡ None
+      → LastReloadIsAt opening aside (entries ++ e ∷ []) last
+  none_more e none =
+      at
+      ∙ ap Some (sym (in_force_more opening entries e
+      ∙ ap (in_force_after (in_force_of opening entries)) none))
+
+  -- the place of the last reload stays if there are more whole entries
+  stays : (more : List WholeEntry)
+      → in_force_at opening (aside ++ more) last ≡ Some (in_force_of opening entries)
+  stays more = by last at
+    where
+      by : (place : Option ℕ) → in_force_at opening aside place ≡ Some (in_force_of opening entries)
+          → in_force_at opening (aside ++ more) place ≡ Some (in_force_of opening entries)
+      by None h = h
+      by (Some place) h = still_told put_by_whole aside more place _ h
+
+  -- an entry that stands whole
+  pub whole_more : (whole : WholeEntry) (place : ℕ) → place ≡ length aside
+      → LastReloadIsAt opening (aside ++ whole ∷ []) (entries ++ plain_whole whole ∷ [])
+      (if is_some (put_by_whole whole) then Some place else last)
+  whole_more whole place counted = by (put_by_whole whole) refl
+    where
+      by : (put : Option (List Command)) → put_by_whole whole ≡ put
+          → in_force_at opening (aside ++ whole ∷ [])
+          (if is_some put then Some place else last)
+          ≡ Some (in_force_of opening (entries ++ plain_whole whole ∷ []))
+      by None none =
+          stays (whole ∷ [])
+          ∙ ap Some (sym (in_force_more opening entries (plain_whole whole)
+          ∙ ap (in_force_after (in_force_of opening entries)) none))
+      by (Some commands) puts =
+          ap (option_and_then put_by_whole) (next_is aside whole place counted) ∙ puts
+          ∙ ap Some (sym (in_force_more opening entries (plain_whole whole)
+          ∙ ap (in_force_after (in_force_of opening entries)) puts))
+
+-- ---- entries that put no commands in force
+nothing_there : {X : Type 0} (xs : List X) (place : ℕ) → xs ≡ [] → slice_get xs place ≡ None
+nothing_there xs place none = slice_get_past xs place (omega (arith, ap length none))
+
+puts_as : (e f : PlainEntry) → Some e ≡ Some f → put_in_force e.event ≡ None
+    → put_in_force f.event ≡ None
+puts_as e f same none =
+    sym (ap (λ (entry : PlainEntry). put_in_force entry.event) (same_Some e f same)) ∙ none
+
+-- of a registration
+pub registration_puts_none : (replied : ShortReply) (event : PlainEvent) (e : PlainEntry)
+    → registration_meant replied event ≡ Some e → put_in_force e.event ≡ None
+registration_puts_none replied event e h = by (endpoint_asking event) h
+  where
+    by : (asking : Option EndpointParts) → option_map (register_entry replied) asking ≡ Some e
+        → put_in_force e.event ≡ None
+    by None h = absurd (none-some e h)
+    by (Some endpoint) h = puts_as (register_entry replied endpoint) e h refl
+
+-- of a slot
+pub slot_puts_none : (s : Slot) (e : PlainEntry) → entry_meant [] [] s ≡ Some e
+    → put_in_force e.event ≡ None
+slot_puts_none (slot.Admitted call units id digits zone to at) e h = puts_as _ e h refl
+slot_puts_none (slot.OverLimit call units id digits zone to at over) e h = puts_as _ e h refl
+slot_puts_none (slot.Refused call units id digits cause) e h = puts_as _ e h refl
+slot_puts_none (slot.Change id call units) e h = puts_as _ e h refl
+slot_puts_none (slot.Release id call) e h = puts_as _ e h refl
+slot_puts_none (slot.Unregistration id) e h = puts_as _ e h refl
+slot_puts_none (slot.Registration place replied) e h =
+    absurd (none-some e
+    (sym (ap (option_and_then (registration_meant replied)) (nothing_there [] place refl)) ∙ h))
+slot_puts_none (slot.Aside place) e h = absurd (none-some e (sym (nothing_there [] place refl) ∙ h))
+
+-- ---- more room
+-- lists that hold the same, with room for so many, are stored and found alike
+module _ (slots more_slots : PiecesParts Slot) (aside more_aside : PiecesParts WholeEntry)
+    (events more_events : PiecesParts Event)
+    (same_slots : more_slots.items ≡ slots.items) (same_aside : more_aside.items ≡ aside.items)
+    (same_events : more_events.items ≡ events.items) where
+  pub told_alike : entries_told more_slots more_aside more_events ≡ entries_told slots aside events
+  told_alike = rw (same_slots, same_aside, same_events) refl
+
+  pub stored_alike : (kept places : ℕ)
+      → IsStored slots aside events (entries_told slots aside events) kept
+      → places ≤ more_slots.room → places ≤ more_aside.room → places ≤ more_events.room
+      → IsStored more_slots more_aside more_events
+      (entries_told more_slots more_aside more_events) places
+  stored_alike kept places stored room room_aside room_events = record {
+    meant = rw (same_slots, same_aside, same_events) stored.meant;
+    few_aside = rw (same_slots, same_aside, same_events) stored.few_aside;
+    few_registrations = rw (same_slots, same_aside, same_events) stored.few_registrations;
+    room = room;
+    room_aside = room_aside;
+    room_registrations = room_events;
+  }
+
+  pub last_alike : (opening : List Command) (last : Option ℕ)
+      → LastReloadIsAt opening aside.items (entries_told slots aside events) last
+      → LastReloadIsAt opening more_aside.items
+      (entries_told more_slots more_aside more_events) last
+  last_alike opening last at = rw (same_slots, same_aside, same_events) at

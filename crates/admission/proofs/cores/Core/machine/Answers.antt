@@ -1,0 +1,5 @@
+use Rattle.admission.proofs.CoreLemmas.{machine_is}
+use Rattle.admission.proofs.cores.Core.machine.Goals as goal
+
+pub returns : goal.returns
+returns c = machine_is _ _ _ c.self.invariant _ c.self.view_is

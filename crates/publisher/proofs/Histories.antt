@@ -1,0 +1,92 @@
+-- What a draft and a confirmation at the end of a history do.
+use Rattle.std.proofs.Common.{◌≡◌, ℕ, ◌+◌, ◌-◌, ◌≤◌, Bool, true, false, List, [], ◌∷◌, ◌++◌, length, Option, Some, None, option_map, unwrap_or, refl, ap, sym, ◌∙◌, subst, arith, ⊎_elim, append_assoc, length-append}
+use Rattle.std.proofs.lemmas.List.{append-nil}
+use Rattle.std.proofs.lemmas.List.Elements.{filter_map-append}
+use Rattle.std.proofs.lemmas.List.Sums.{fold-append}
+use mathlib.Core.List.{IsPrefix}
+use native.Mathlib.Decide.{dec_le}
+use Rattle.command_reader.specs.declared.commands.Command.{Command}
+use Rattle.publisher.specs.declared.entries.Entry.{Entry}
+use Rattle.publisher.specs.History.{draft_of, in_force_of, generation_of, generations, shown_by, last_of, MayFollow, IsLegal}
+use Rattle.publisher.proofs.Prefixes.{prefix_self, prefix_trans, prefix_snoc, prefix_after}
+
+pub generations_append : (xs ys : List Entry)
+    → generations (xs ++ ys) ≡ generations xs ++ generations ys
+generations_append xs ys = filter_map-append generation_of xs ys
+
+pub generations_prefix : (xs ys : List Entry) → IsPrefix xs ys
+    → IsPrefix (generations xs) (generations ys)
+generations_prefix xs ys p =
+    (generations p.0, sym (generations_append xs p.0) ∙ ap generations p.1)
+
+-- a draft is no generation
+pub generations_draft : (log : List Entry) (commands : List Command)
+    → generations (log ++ draft_of commands ∷ []) ≡ generations log
+generations_draft log commands =
+    generations_append log (draft_of commands ∷ []) ∙ append-nil (generations log)
+
+-- a confirmed draft is one more
+pub generations_in_force : (log : List Entry) (commands : List Command)
+    → generations (log ++ in_force_of commands ∷ []) ≡ generations log ++ commands ∷ []
+generations_in_force log commands = generations_append log (in_force_of commands ∷ [])
+
+pub last_of_snoc : (log : List Entry) (entry : Entry) → last_of (log ++ entry ∷ []) ≡ Some entry
+last_of_snoc log entry = fold-append (λ _ e. Some e) None log (entry ∷ [])
+
+-- a draft may follow anything
+pub draft_follows : (log : List Entry) (commands : List Command)
+    → MayFollow log (draft_of commands)
+draft_follows log commands is = absurd (cc)
+
+pub legal_prefix : (xs ys : List Entry) → IsPrefix xs ys → IsLegal ys → IsLegal xs
+legal_prefix xs ys p legal before entry q =
+    legal before entry (prefix_trans (before ++ entry ∷ []) xs ys q p)
+
+pub legal_snoc : (log : List Entry) (entry : Entry) → IsLegal log → MayFollow log entry
+    → IsLegal (log ++ entry ∷ [])
+legal_snoc log entry legal may before e p =
+    ⊎_elim (legal before e) (λ (q : (before ≡ log) × (e ≡ entry)). rw (q.0, q.1) may)
+    (prefix_snoc before log e entry p)
+
+module _ (commands : List Command) where
+  -- what the entry after a draft of these commands stands for
+  after_draft : (shown : List Entry) (entry : Entry) (b : Bool) → entry.in_force ≡ b
+      → last_of shown ≡ Some (draft_of commands) → MayFollow shown entry
+      → IsPrefix (generations (entry ∷ [])) (commands ∷ [])
+  after_draft shown entry true is last may =
+      let same : Some (draft_of commands) ≡ Some (draft_of entry.commands) =
+      sym last ∙ may is in
+      let commands_are : commands ≡ entry.commands =
+      ap (λ (o : Option Entry). unwrap_or (option_map (λ (e : Entry). e.commands) o) commands)
+      same in
+      rw is ([], ap (λ w. w ∷ []) (sym commands_are))
+  after_draft shown entry false is last may = rw is (commands ∷ [], refl)
+
+  -- a legal history with at most one entry more than one that ends with a draft
+  one_more : (told shown more : List Entry) → shown ++ more ≡ told
+      → length told - 1 ≤ length shown → last_of shown ≡ Some (draft_of commands) → IsLegal told
+      → IsPrefix (generations told) (shown_by shown commands)
+  one_more told shown [] e le last legal =
+      let same : shown ≡ told = sym (append-nil shown) ∙ e in
+      subst (λ (w : List Entry). IsPrefix (generations w) (shown_by shown commands)) same
+      (commands ∷ [], refl)
+  one_more told shown (x ∷ []) e le last legal =
+      let may : MayFollow shown x = legal shown x ([], append-nil (shown ++ x ∷ []) ∙ e) in
+      let more = after_draft shown x x.in_force refl last may in
+      subst (λ (w : List Entry). IsPrefix (generations w) (shown_by shown commands)) e
+      (rw (generations_append shown (x ∷ []))
+      (prefix_after (generations shown) (generations (x ∷ [])) (commands ∷ []) more))
+  one_more told shown (x ∷ y ∷ more) e le last legal =
+      absurd (let n = ap length e in omega (arith, n, length-append shown (x ∷ y ∷ more)))
+
+  -- what was told is in what is shown, if it has at most one entry more
+  pub told_is_shown : (told shown : List Entry) → last_of shown ≡ Some (draft_of commands)
+      → IsLegal told → (length told ≤ length shown → IsPrefix told shown)
+      → (length shown ≤ length told → IsPrefix shown told) → length told - 1 ≤ length shown
+      → IsPrefix (generations told) (shown_by shown commands)
+  told_is_shown told shown last legal shorter longer le =
+      elim (dec_le (length shown) (length told)) [
+        | yes d ↦ one_more told shown (longer d).0 (longer d).1 le last legal
+        | no d ↦ prefix_trans (generations told) (generations shown) (shown_by shown commands)
+            (generations_prefix told shown (shorter (omega arith))) (commands ∷ [], refl)
+      ]

@@ -1,0 +1,4 @@
+pub mod Prefixes
+pub mod Histories
+pub mod Adding
+pub mod Rules

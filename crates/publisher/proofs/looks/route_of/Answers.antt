@@ -1,0 +1,5 @@
+use Rattle.publisher.proofs.Rules.{looks}
+use Rattle.publisher.proofs.looks.route_of.Goals as goal
+
+pub enter_as-requires : goal.enter_as-requires
+enter_as-requires g c = looks g.J.Imprint.book _ _

@@ -1,0 +1,9 @@
+use Rattle.std.proofs.Common.{ap, ◌∙◌}
+use Rattle.publisher.specs.History.{generations}
+use Rattle.publisher.proofs.Histories.{generations_in_force}
+use Rattle.publisher.proofs.publishers.confirm.Goals as goal
+
+pub returns : goal.returns
+returns g c =
+    ap generations c.in-Some.ensures ∙
+    generations_in_force c.args.drafted.now c.args.tables.now.value.commands

@@ -1,0 +1,41 @@
+-- The history of publications, and the list of generations that it stands for.
+use Rattle.std.specs.Prelude.{◌≡◌, Bool, true, false, List, [], ◌∷◌, ◌++◌, fold, Option, Some, None}
+use Rattle.std.specs.Bool.{then_some}
+use Rattle.std.specs.List.{filter_map}
+use mathlib.Core.List.{IsPrefix}
+use Rattle.command_reader.specs.declared.commands.Command.{Command}
+use Rattle.publisher.specs.declared.entries.Entry.{Entry}
+
+-- the draft of a publication
+abbrev pub draft_of : List Command → Entry
+draft_of commands = record { in_force = false; commands = commands }
+
+-- that a draft was shown
+abbrev pub in_force_of : List Command → Entry
+in_force_of commands = record { in_force = true; commands = commands }
+
+-- the commands, if the entry says that they are in force
+abbrev pub generation_of : Entry → Option (List Command)
+generation_of entry = then_some entry.in_force entry.commands
+
+-- the commands of the entries in force, in order
+abbrev pub generations : List Entry → List (List Command)
+generations log = filter_map generation_of log
+
+-- the generations while the publication of the last draft is shown
+abbrev pub shown_by : List Entry → List Command → List (List Command)
+shown_by log commands = generations log ++ commands ∷ []
+
+-- the last entry
+abbrev pub last_of : List Entry → Option Entry
+last_of log = fold (λ _ entry. Some entry) None log
+
+-- an entry in force comes just after the draft of the same commands
+abbrev pub MayFollow : List Entry → Entry → Type 0
+MayFollow log entry = entry.in_force ≡ true → last_of log ≡ Some (draft_of entry.commands)
+
+-- each entry may follow those before it
+abbrev pub IsLegal : List Entry → Type 0
+IsLegal log =
+    (before : List Entry) (entry : Entry) → IsPrefix (before ++ entry ∷ []) log
+    → MayFollow before entry

@@ -1,0 +1,5 @@
+//! The tests of the publisher, over the public calls of the crate `publisher`.
+#![tactic(auto)]
+
+#[cfg(test)]
+mod tests;
