@@ -5,8 +5,8 @@ ghost use Rattle.std.specs.Arc.{arc_value};
 ghost use mathlib.Core.List.{IsPrefix};
 ghost use Rattle.publisher.specs.declared.faults.NewFault.TheVariants.{BadPlaces};
 ghost use Rattle.publisher.specs.declared.faults.ReaderFault.TheVariants.{NoPlace};
-ghost use Rattle.publisher.specs.History.{draft_of, generations, last_of};
-ghost use Rattle.publisher.specs.Publications.{list_of};
+ghost use Rattle.publisher.specs.History.{draft_of, generations, in_force_of, last_of};
+ghost use Rattle.publisher.specs.Publications.{confirmed_by, list_of};
 
 use crate::blanks::{Blank, Imprint};
 use crate::entries::{Confirms, Drafts};
@@ -38,16 +38,17 @@ pub struct Publisher<J: Imprint> {
     head: Head<J>,
     /// All entries of the history, the drafts of refused publications among them.
     newest: Front<J>,
-    /// The entries up to the last one in force.
+    /// The entries up to the last one in force, which says that what is shown is in force.
     told: Front<J>,
     version: u32,
 }
 
 impl<J: Imprint> Model for Publisher<J> {
     ghost use Rattle.std.specs.Prelude.{◌≡◌, List, length};
+    ghost use mathlib.Core.List.{IsPrefix};
     ghost use Rattle.command_reader.specs.declared.commands.Command.{Command};
     ghost use Rattle.publisher.specs.History.{generations};
-    ghost use Rattle.publisher.specs.Publications.{list_of};
+    ghost use Rattle.publisher.specs.Publications.{confirmed_by, list_of};
 
     ghost Value = { List (List Command) };
 
@@ -55,7 +56,9 @@ impl<J: Imprint> Model for Publisher<J> {
 
     ghost invariant = { λ p. (generations p.newest ≡ generations p.told) ×
         (list_of p.copies.desk.shown.value ≡ generations p.told) ×
-        (p.version ≡ length (generations p.told)) };
+        (p.version ≡ length (generations p.told)) ×
+        (p.told ≡ confirmed_by p.copies.desk.shown.value) ×
+        IsPrefix p.told p.newest };
 }
 
 impl<J: Imprint> Publisher<J> {
@@ -120,8 +123,8 @@ impl<J: Imprint> Publisher<J> {
 
     /// Puts these tables in force, and answers their version. It waits until no reader is inside
     /// the copy that it writes. `NoMemory` if memory is refused, or after 2^61 drafts and
-    /// confirmations: then the version that was in force stays, no reader sees these tables, and the next publication has the number that this one
-    /// would have had. This project's profile.
+    /// confirmations: then the version that was in force stays, no reader sees these tables, and
+    /// the next publication has the number that this one would have had. This project's profile.
     pub fn publish<R: Wait>(
         &mut self,
         rt: &R,
@@ -190,9 +193,12 @@ fn draft<J: Imprint>(
     ensures kept { IfSome result (λ d. generations d.0 ≡ generations newest.now) }
     ensures drafted { IfSome result (λ d.
         last_of d.0 ≡ Some (draft_of (arc_value tables).commands)) }
+    ensures goes_on { IfSome result (λ d. IsPrefix newest.now d.0) }
     ensures book { IfSome result (λ d. d.1.stem.seen.book ≡ J.book) }
     ensures list { IfSome result (λ d.
         list_of d.1 ≡ generations newest.now ++ (arc_value tables).commands ∷ []) }
+    ensures confirmed { IfSome result (λ d.
+        confirmed_by d.1 ≡ d.0 ++ in_force_of (arc_value tables).commands ∷ []) }
 {
     let about = Snapshot::of(&*tables);
     let Some(drafted) = newest.add::<Drafts>(head, &about) else {
@@ -210,6 +216,9 @@ fn show<J: Imprint, R: Wait>(copies: Copies<J>, asked: (&R, Publication)) -> (Co
     ensures shown { MatchBool result.1
         (list_of result.0.desk.shown.value ≡ list_of asked.entry.1)
         (list_of result.0.desk.shown.value ≡ list_of copies.desk.shown.value) }
+    ensures confirmed { MatchBool result.1
+        (confirmed_by result.0.desk.shown.value ≡ confirmed_by asked.entry.1)
+        (confirmed_by result.0.desk.shown.value ≡ confirmed_by copies.desk.shown.value) }
 {
     let mut copies = copies;
     let (rt, next) = asked;
@@ -231,8 +240,10 @@ fn confirm<J: Imprint>(
 ) -> Option<Front<J>>
     requires room { length drafted.now < 2 ^ 62 }
     requires drafted { last_of drafted.now ≡ Some (draft_of tables.now.value.commands) }
-    ensures { IfSome result (λ front. generations front ≡
+    ensures list { IfSome result (λ front. generations front ≡
         generations drafted.now ++ tables.now.value.commands ∷ []) }
+    ensures confirmed { IfSome result (λ front. front ≡
+        drafted.now ++ in_force_of tables.now.value.commands ∷ []) }
 {
     let Some(front) = drafted.add::<Confirms>(head, tables) else {
         return None;
@@ -250,8 +261,9 @@ fn put_in_force<J: Imprint, R: Wait>(
 ) -> Front<J>
     requires room { length drafted.now < 2 ^ 62 }
     requires drafted { last_of drafted.now ≡ Some (draft_of tables.now.value.commands) }
-    ensures { generations result ≡
+    ensures list { generations result ≡
         generations drafted.now ++ tables.now.value.commands ∷ [] }
+    ensures confirmed { result ≡ drafted.now ++ in_force_of tables.now.value.commands ∷ [] }
 {
     for _ in rt.forever() {
         if let Some(front) = confirm(head, drafted, tables) {

@@ -41,7 +41,8 @@ impl<J: Imprint> Model for Reader<J> {
 }
 
 impl<J: Imprint> Reader<J> {
-    /// A reader at this place, which has read nothing and was told of the entries of this beginning.
+    /// A reader at this place, which has read nothing and was told of the entries of this
+    /// beginning.
     pub(crate) fn new(place: Place<J>, told: Front<J>) -> Reader<J>
         ensures list { result.list ≡ view place.place }
         ensures told { result.told ≡ generations told }
@@ -74,8 +75,8 @@ impl<J: Imprint> Reader<J> {
         replace_with(&mut self.place, &self.told, version_of)
     }
 
-    /// Where a call to these digits is to go by the tables in force, with their version. It takes no
-    /// memory. `Lost` if the reader isn't let in.
+    /// Where a call to these digits is to go by the tables in force, with their version. It takes
+    /// no memory. `Lost` if the reader isn't let in.
     pub fn route(&mut self, digits: &Dialled) -> Result<Routed, Lost>
         ensures grows { IsPrefix self.old.list self.new.list }
         ensures told { IfOk result (λ _. IsPrefix self.old.told self.new.list) }

@@ -34,7 +34,7 @@ fn tables_of(
 }
 
 /// The tables that lead to zone 1 and those that lead to zone 2.
-fn both(
+pub(crate) fn both(
     rt: &impl Abort,
     alloc: Global,
 ) -> Result<(Arc<Tables, Global>, Arc<Tables, Global>), Fail> {
@@ -246,7 +246,7 @@ fn plan_of(rt: &impl Abort, tables: &Tables) -> Plan {
 }
 
 /// To the remote zone of this number.
-fn to(zone: u32) -> Plan {
+pub(crate) fn to(zone: u32) -> Plan {
     Plan::Remote(ZoneNo::new(zone))
 }
 
@@ -258,7 +258,9 @@ fn a_refused_publication_leaves_the_list(rt: HostRuntime) -> Result<(), Fail> {
 }
 
 /// If memory is refused at some growth, the next publication has the number that the refused one
-/// would have had.
+/// would have had. The test takes memory 49 times, and `rt try --test --fail-alloc N --
+/// a_refused_publication` refuses the N-th: 41 to 48 are the growths of `new`, and 49 is that of
+/// the first publication, the only one that grows, since the others find the room that it made.
 fn refusals_leave_the_list<J: Imprint, R: Wait + Abort>(
     rt: &R,
     alloc: Global,

@@ -17,6 +17,11 @@ impl Model for Meaning {
     ghost also_owns = { λ _. ftrue };
 }
 
+// A meaning owns nothing, so it may cross threads.
+unsafe impl Send for Meaning {}
+
+unsafe impl Sync for Meaning {}
+
 impl Meaning {
     /// No row.
     pub(crate) fn new() -> Meaning

@@ -3,7 +3,7 @@ use Rattle.publisher.specs.History.{generations}
 use Rattle.publisher.proofs.Histories.{generations_in_force}
 use Rattle.publisher.proofs.publishers.confirm.Goals as goal
 
-pub returns : goal.returns
-returns g c =
+pub returns-clause-list : goal.returns-clause-list
+returns-clause-list g c =
     ap generations c.in-Some.ensures ∙
     generations_in_force c.args.drafted.now c.args.tables.now.value.commands

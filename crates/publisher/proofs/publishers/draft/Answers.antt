@@ -1,6 +1,6 @@
-use Rattle.std.proofs.Common.{◌≡◌, ap, ◌∙◌}
+use Rattle.std.proofs.Common.{◌≡◌, [], ◌∷◌, ap, sym, ◌∙◌}
 use Rattle.std.specs.Arc.{arc_value}
-use Rattle.publisher.specs.History.{generations}
+use Rattle.publisher.specs.History.{draft_of, generations}
 use Rattle.publisher.proofs.Histories.{generations_draft}
 use Rattle.publisher.proofs.publishers.draft.Goals as goal
 
@@ -15,6 +15,10 @@ pub returns-clause-kept : goal.returns-clause-kept
 returns-clause-kept g c =
     ap generations c.in-Some.ensures ∙
     generations_draft c.args.newest.now c.of-about.result.value.commands
+
+pub returns-clause-goes_on : goal.returns-clause-goes_on
+returns-clause-goes_on g c =
+    (draft_of c.of-about.result.value.commands ∷ [], sym c.in-Some.ensures)
 
 pub returns-clause-list : goal.returns-clause-list
 returns-clause-list g c =
