@@ -3,7 +3,7 @@ use Rattle.std.proofs.Common.{◌≡◌, ◌≤◌, ◌+◌, Bool, true, false, 
 use Rattle.admission.specs.declared.limits.Limits.{Limits}
 use Rattle.admission.specs.State.{State, MachineParts, bare, opening_of, under}
 use Rattle.admission.specs.Founded.{IsUnder, takes_memory}
-use Rattle.std.specs.Prelude.{IfSome, IsSome}
+use Rattle.std.specs.Prelude.{IfSome, IsSome, is_some}
 use Rattle.std.specs.List.{AllByRecursion}
 use Rattle.command_reader.specs.Accepted.{IsAccepted}
 use Rattle.command_reader.specs.declared.commands.Command.{Command}
@@ -18,6 +18,7 @@ use Rattle.admission.specs.declared.rulings.Ruling.{Ruling}
 use Rattle.admission.specs.declared.replies.Reply.{Reply}
 use Rattle.admission.specs.declared.record.Receipt.{Receipt}
 use Rattle.admission.specs.HistoryLaws.{AreAccepted, IsWithinLimits, IsSound}
+use Rattle.admission.proofs.CarryingLemmas.{counts_alike}
 use Rattle.admission.proofs.VersionLemmas.{all_more, all_accepted}
 use Rattle.admission.proofs.HistoryLaws.{records_are_sound, replay_commands}
 use Rattle.admission.proofs.StepLemmas.{after_limits, step_records}
@@ -90,6 +91,11 @@ replay_counts s (e ∷ es) legal =
     let rest = replay_counts (step s e.event).state es legal.2 in
     let first = step_records s e.event legal.1 in
     omega (arith, rest, first)
+
+-- a refusal that the test denies
+pub nothing_if_not : (o : Option Reply) → is_some o ≡ false → o ≡ None
+nothing_if_not None h = refl
+nothing_if_not (Some reply) h = cc
 
 -- ---- a core
 -- a core with this record and these limits
@@ -168,6 +174,15 @@ module _ (machine : MachineParts) (history : RecordParts) (reserved : Bool)
           (ruling_of (state_for machine history) event) ≡ found
       refusal_is refusal found refused is =
           ap (count_refusal (state_for machine history) event) (sym ruled) ∙ sym refused ∙ is
+
+      -- no count refuses, since the test says so
+      pub unrefused : (test : Bool)
+          → test ≡ is_some (count_refusal (bare machine) event ruling) → test ≡ false
+          → count_refusal (state_for machine history) event
+          (ruling_of (state_for machine history) event) ≡ None
+      unrefused test is passed =
+          refusal_is _ _ (counts_alike _ _ _ _)
+          (nothing_if_not (count_refusal (bare machine) event ruling) (sym is ∙ passed))
 
       pub verdict_is : ruling.verdict ≡ verdict_of (state_for machine history) event
       verdict_is = ap (λ (r : Ruling). r.verdict) ruled

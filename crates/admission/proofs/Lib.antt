@@ -13,7 +13,9 @@ pub mod RecordLemmas
 pub mod ReloadLemmas
 pub mod RegisteringLemmas
 pub mod RouteLaws
+pub mod SlotListLemmas
 pub mod StepLemmas
 pub mod StoredLemmas
 pub mod TargetLaws
+pub mod ToldLemmas
 pub mod VersionLemmas

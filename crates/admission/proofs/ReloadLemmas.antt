@@ -15,7 +15,7 @@ use Rattle.admission.specs.declared.record.WholeEntry.{WholeEntry}
 use Rattle.admission.specs.declared.slots.ShortReply.{ShortReply}
 use Rattle.admission.specs.declared.slots.Slot.{Slot}
 use Rattle.admission.specs.declared.slots.Slot.TheVariants as slot
-use Rattle.admission.proofs.StoredLemmas.{still_told, next_is}
+use Rattle.admission.proofs.ToldLemmas.{still_told, next_is}
 
 -- ---- one entry more
 pub in_force_more : (commands : List Command) (entries : List PlainEntry) (e : PlainEntry)

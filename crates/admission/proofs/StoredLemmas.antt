@@ -1,13 +1,12 @@
 -- Entries in few bytes, registrations, and those that stand whole.
-use Rattle.std.proofs.Common.{◌≡◌, ℕ, ◌-◌, ◌≤◌, List, [], ◌∷◌, ◌++◌, length, map, length-append, slice_get, refl, sym, ap, ap₂, subst, ◌∙◌, inl, inr, arith}
+use Rattle.std.proofs.Common.{◌≡◌, ℕ, ◌-◌, ◌≤◌, List, [], ◌∷◌, ◌++◌, length, map, length-append, slice_get, refl, sym, ap, ap₂, subst, ◌∙◌, arith}
 use Rattle.std.specs.Prelude.{Option, Some, None, IsSome}
-use Rattle.std.specs.Option.{option_and_then, option_map}
-use Rattle.std.specs.List.{cons_option, filter_map}
-use Rattle.std.proofs.lemmas.Bool.{cases_lt}
-use Rattle.std.proofs.lemmas.Option.{none-some, same_Some, slice_get-map, slice_get_past, slice_get_within}
+use Rattle.std.specs.Option.{option_and_then}
+use Rattle.std.specs.List.{cons_option}
+use Rattle.std.proofs.lemmas.Option.{slice_get_within}
 use Rattle.std.proofs.lemmas.List.{append-nil, length-map, map-append}
 use Rattle.pieces.specs.Pieces.{PiecesParts}
-use Rattle.pieces.proofs.Filled.{item_in_front, item_after}
+use Rattle.pieces.proofs.Filled.{item_in_front}
 use Rattle.admission.specs.Events.{PlainEvent, plain}
 use Rattle.admission.specs.History.{PlainEntry}
 use Rattle.admission.specs.Slots.{entry_meant, registration_meant}
@@ -17,23 +16,7 @@ use Rattle.admission.specs.declared.record.WholeEntry.{WholeEntry}
 use Rattle.admission.specs.declared.slots.ShortReply.{ShortReply}
 use Rattle.admission.specs.declared.slots.Slot.{Slot}
 use Rattle.admission.specs.declared.slots.Slot.TheVariants as slot
-
--- ---- places
--- what is told of an element is told of it if there are more
-pub still_told : {X Y : Type 0} (f : X → Option Y) (xs ys : List X) (i : ℕ) (y : Y)
-    → option_and_then f (slice_get xs i) ≡ Some y
-    → option_and_then f (slice_get (xs ++ ys) i) ≡ Some y
-still_told f xs ys i y h =
-    elim (cases_lt i (length xs)) [
-      | inl within ↦ ap (option_and_then f) (item_in_front xs ys i within) ∙ h
-      | inr past ↦
-          absurd (none-some y (sym (ap (option_and_then f) (slice_get_past xs i past)) ∙ h))
-    ]
-
--- the next element comes after the others
-pub next_is : {X : Type 0} (xs : List X) (x : X) (i : ℕ) → i ≡ length xs
-    → slice_get (xs ++ x ∷ []) i ≡ Some x
-next_is xs x i at = item_after xs (x ∷ []) 0 i (omega arith)
+use Rattle.admission.proofs.ToldLemmas.{TellsAlso, still_told, next_is, one_more, all_told, as_many, told_at, with_item}
 
 -- ---- what a slot means stays if there are more entries and events
 still_meant : (aside more : List PlainEntry) (events others : List PlainEvent) (s : Slot)
@@ -51,10 +34,6 @@ still_meant aside more events others (slot.Registration place replied) e h =
 still_meant aside more events others (slot.Aside place) e h =
     item_in_front aside more place (slice_get_within aside place e h) ∙ h
 
--- the second tells each entry that the first tells
-abbrev TellsAlso : (f g : Slot → Option PlainEntry) → Type 0
-TellsAlso f g = (s : Slot) (e : PlainEntry) → f s ≡ Some e → g s ≡ Some e
-
 with_entry_aside : (aside more : List PlainEntry) (events : List PlainEvent)
     → TellsAlso (entry_meant aside events) (entry_meant (aside ++ more) events)
 with_entry_aside aside more events s e h =
@@ -67,31 +46,7 @@ with_event aside events others s e h =
     subst (λ es. entry_meant es (events ++ others) s ≡ Some e) (append-nil aside)
     (still_meant aside [] events others s e h)
 
-all_still_meant : (f g : Slot → Option PlainEntry) → TellsAlso f g → (slots : List Slot)
-    (entries : List PlainEntry)
-    → map f slots ≡ map Some entries → map g slots ≡ map Some entries
-all_still_meant f g also [] [] h = refl
-all_still_meant f g also [] (e ∷ es) h = cc
-all_still_meant f g also (s ∷ ss) [] h = cc
-all_still_meant f g also (s ∷ ss) (e ∷ es) h =
-    let first : f s ≡ Some e = cc in
-    let rest : map f ss ≡ map Some es = cc in
-    ap₂ (λ o os. o ∷ os) (also s e first) (all_still_meant f g also ss es rest)
-
 -- ---- one entry more
-one_more : (f g : Slot → Option PlainEntry) → TellsAlso f g → (slots : List Slot)
-    (entries : List PlainEntry) (s : Slot) (e : PlainEntry)
-    → map f slots ≡ map Some entries → g s ≡ Some e
-    → map g (slots ++ s ∷ []) ≡ map Some (entries ++ e ∷ [])
-one_more f g also slots entries s e h is =
-    map-append g slots (s ∷ [])
-    ∙ ap₂ (λ os o. os ++ o ∷ []) (all_still_meant f g also slots entries h) is
-    ∙ sym (map-append Some entries (e ∷ []))
-
--- a list with one more element, in room that it had
-abbrev with_item : {X : Type 0} → PiecesParts X → X → PiecesParts X
-with_item xs x = record { items = xs.items ++ x ∷ []; room = xs.room - 1 }
-
 module _ (slots : PiecesParts Slot) (aside : PiecesParts WholeEntry) (events : PiecesParts Event)
     (entries : List PlainEntry) (kept : ℕ) (stored : IsStored slots aside events entries kept)
     (one : 1 ≤ kept) where
@@ -222,16 +177,6 @@ module _ (slots : PiecesParts Slot) (aside : PiecesParts WholeEntry) (events : P
       }
 
 -- ---- the entries that are told
-all_told : (f : Slot → Option PlainEntry) (slots : List Slot) (entries : List PlainEntry)
-    → map f slots ≡ map Some entries → filter_map f slots ≡ entries
-all_told f [] [] h = refl
-all_told f [] (e ∷ es) h = cc
-all_told f (s ∷ ss) [] h = cc
-all_told f (s ∷ ss) (e ∷ es) h =
-    let first : f s ≡ Some e = cc in
-    let rest : map f ss ≡ map Some es = cc in
-    ap₂ cons_option first (all_told f ss es rest)
-
 module _ (slots : PiecesParts Slot) (aside : PiecesParts WholeEntry) (events : PiecesParts Event)
     (entries : List PlainEntry) (kept : ℕ) (stored : IsStored slots aside events entries kept) where
   pub told_are : entries_told slots aside events ≡ entries
@@ -240,27 +185,16 @@ module _ (slots : PiecesParts Slot) (aside : PiecesParts WholeEntry) (events : P
   pub stored_told : IsStored slots aside events (entries_told slots aside events) kept
   stored_told = subst (λ es. IsStored slots aside events es kept) (sym told_are) stored
 
+  -- one slot for each entry
+  pub slots_counted : length slots.items ≡ length entries
+  slots_counted =
+      as_many (slot_meant aside.items events.items) slots.items entries stored.meant
+
 -- ---- the entry at a place
-some_once : {X : Type 0} (o : Option X) (x : Option X) → option_map Some o ≡ Some x → o ≡ x
-some_once None x h = absurd (none-some x h)
-some_once (Some y) x h = same_Some _ _ h
-
-none_once : {X : Type 0} (o : Option X) → option_map {U = Option X} Some o ≡ None → o ≡ None
-none_once None h = refl
-none_once (Some y) h = cc
-
-found_as : (f : Slot → Option PlainEntry) (o : Option Slot) (e : Option PlainEntry)
-    → option_map f o ≡ option_map Some e → option_and_then f o ≡ e
-found_as f None e h = sym (none_once e (sym h))
-found_as f (Some s) e h = sym (some_once e (f s) (sym h))
-
 pub read_at : (slots : PiecesParts Slot) (aside : PiecesParts WholeEntry)
     (events : PiecesParts Event) (entries : List PlainEntry) (kept : ℕ)
     → IsStored slots aside events entries kept → (place : ℕ)
     → option_and_then (slot_meant aside.items events.items) (slice_get slots.items place)
     ≡ slice_get entries place
 read_at slots aside events entries kept stored place =
-    let meaning = slot_meant aside.items events.items in
-    found_as meaning _ _
-    (sym (slice_get-map meaning slots.items place)
-    ∙ ap (λ os. slice_get os place) stored.meant ∙ slice_get-map Some entries place)
+    told_at (slot_meant aside.items events.items) slots.items entries stored.meant place

@@ -10,6 +10,7 @@ pub mod RouteLaws
 pub mod Routes
 pub mod Routing
 pub mod Ruling
+pub mod SlotList
 pub mod Slots
 pub mod State
 pub mod Step

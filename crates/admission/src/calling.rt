@@ -4,11 +4,11 @@ ghost use Rattle.std.specs.Prelude.{◌≡◌, nat_le, true, false, length, OnOk
 ghost use Rattle.bandwidth.specs.Calls.{call_of, is_open, with_call, with_changed, without_call};
 ghost use Rattle.admission.specs.Founded.{is_owned};
 
-use bandwidth::{CallsFault, OpenCall, OpenCalls};
+use bandwidth::{OpenCall, OpenCalls};
 use gk_terms::{Name, Units};
 use std::alloc::AllocError;
 
-#[tactic(auto, using(crate::proofs::CallingLemmas::opens))]
+#[tactic(auto, using(crate::proofs::CallingLemmas::has_room))]
 /// Opens a call whose number is not that of an open call, and for which there is room. If memory
 /// runs out, nothing changes.
 pub(crate) fn open_in(calls: &mut OpenCalls, call: &OpenCall) -> Result<(), AllocError>
@@ -18,11 +18,7 @@ pub(crate) fn open_in(calls: &mut OpenCalls, call: &OpenCall) -> Result<(), Allo
         ≡ record calls.old { calls = with_call calls.old.calls call.now }) }
     ensures err { OnErr result (calls.new ≡ calls.old) }
 {
-    match calls.open(*call) {
-        Ok(()) => Ok(()),
-        Err(CallsFault::NoMemory) => Err(AllocError),
-        Err(_) => unreachable!(),
-    }
+    calls.open_fresh(call)
 }
 
 #[tactic(auto, using(crate::proofs::CallingLemmas::owner_is_not_refused))]
@@ -35,11 +31,9 @@ pub(crate) fn resize_in(calls: &mut OpenCalls, call: u32, id: &Name, units: Unit
     let _ = calls.change(call, id, units);
 }
 
-#[tactic(auto, using(crate::proofs::CallingLemmas::owner_is_not_refused))]
-/// Closes a call of this owner.
-pub(crate) fn close_in(calls: &mut OpenCalls, call: u32, id: &Name)
-    requires { is_owned id.now (call_of calls.old.calls call) ≡ true }
+/// Closes a call.
+pub(crate) fn close_in(calls: &mut OpenCalls, call: u32)
     ensures { calls.new ≡ record calls.old { calls = without_call calls.old.calls call } }
 {
-    let _ = calls.close(call, id);
+    calls.take_out(call);
 }

@@ -232,15 +232,16 @@ impl Core {
         self.settle(event, &ruling)
     }
 
+    #[tactic(auto, using(crate::proofs::CoreLemmas::ruled_by))]
     /// Answers an event as `answer` does, for a caller that keeps no receipt.
     #[inline(never)]
     pub fn reply(&mut self, event: Event) -> Reply
         ensures { MayReply self.old (Events.plain event) result self.new }
     {
-        let ruling = &self.ruling(&event);
-        match self.enter(event, ruling) {
+        let ruling = &self.machine().ruling(self.tables(), &event);
+        match &self.enter(event, ruling) {
             Ok(_) => ruling.verdict,
-            Err(reply) => reply,
+            Err(reply) => *reply,
         }
     }
 
@@ -318,8 +319,9 @@ impl Core {
         ensures reserved { self.old.reserved ≡ true → IsSome (put_in_force (Events.plain event))
             → OnErr result ((step (state_of self.old) (Events.plain event)).recorded ≡ false) }
     {
-        if let Some(refusal) = self.machine.count_refusal(&event, ruling) {
-            return Err(refusal);
+        if self.machine.is_refused_by_count(&event, ruling) {
+            let refusal = self.machine.count_refusal(&event, ruling);
+            return Err(refusal.unwrap());
         }
         if !ruling.verdict.is_recorded() {
             return Err(ruling.verdict);

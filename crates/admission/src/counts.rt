@@ -1,6 +1,6 @@
 //! Refusals by a count: of endpoints, of calls, of reloads, or of the entries of the record.
 
-ghost use Rattle.std.specs.Prelude.{◌≡◌, nat_lt};
+ghost use Rattle.std.specs.Prelude.{◌≡◌, is_some, nat_lt};
 ghost use Rattle.admission.specs.State as States;
 ghost use Rattle.admission.specs.Events.{plain};
 ghost use Rattle.admission.specs.Step as Spec;
@@ -36,6 +36,7 @@ impl Machine {
     /// the limit allows; reloads-spent if the configuration would be replaced once more than the
     /// limit allows; and else record-full if the record lacks the free places: two for a granted
     /// admission, none for a release, and one for another verdict.
+    #[inline(never)]
     pub fn count_refusal(&self, event: &Event, ruling: &Ruling) -> Option<Reply>
         ensures { result
             ≡ Spec.count_refusal (States.bare self.now) (plain event.now) ruling.now }
@@ -63,7 +64,27 @@ impl Machine {
         self.record_refusal(event, &ruling.effect)
     }
 
-    /// The same for a reload with this effect.
+    #[tactic(auto, unfolding(crate::specs::Step::count_refusal))]
+    /// Whether there is such a refusal. It is asked for each event, so it makes no reply.
+    pub fn is_refused_by_count(&self, event: &Event, ruling: &Ruling) -> bool
+        ensures { result ≡ is_some
+            (Spec.count_refusal (States.bare self.now) (plain event.now) ruling.now) }
+    {
+        match event {
+            Event::Register(endpoint) => {
+                self.are_endpoints_full(endpoint, &ruling.verdict)
+                    || self.lacks_places(&ruling.effect)
+            }
+            Event::Admit { .. } => {
+                self.are_calls_full(&ruling.verdict) || self.lacks_places(&ruling.effect)
+            }
+            Event::Reload(_) => self.are_reloads_spent() || self.lacks_places(&ruling.effect),
+            Event::Unregister { .. } | Event::Change { .. } => self.lacks_places(&ruling.effect),
+            Event::Release { .. } => false,
+        }
+    }
+
+    /// The refusal of a reload with this effect, likewise.
     pub fn reload_refusal(&self, effect: &Effect) -> Option<Reply>
         ensures { result ≡ Spec.reload_refusal (States.bare self.now) effect.now }
     {

@@ -16,6 +16,9 @@ pub mod routes;
 pub mod routing;
 mod rulings;
 mod settling;
+mod slot_kinds;
+mod slot_list;
+mod slot_places;
 mod slots;
 mod verdicts;
 

@@ -289,6 +289,6 @@ impl Machine {
         requires { is_owned id.now (call_of self.old.calls call) ≡ true }
         ensures { self.new ≡ record self.old { calls = without_call self.old.calls call } }
     {
-        close_in(&mut self.calls, call, id);
+        close_in(&mut self.calls, call);
     }
 }

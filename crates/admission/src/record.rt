@@ -14,14 +14,14 @@ use crate::events::{Event, EventKind};
 use crate::replies::Reply;
 use crate::routes::Route;
 use crate::rulings::Ruling;
-use crate::slots::{HeldSlot, ShortReply, Slot};
+use crate::slot_list::SlotList;
+use crate::slots::{ShortReply, Slot};
 use compiler::Tables;
 use gk_terms::Name;
 use pieces::Pieces;
 use std::alloc::{AllocError, Global};
 use std::borrow::Cow;
 use std::marker::Model;
-use std::mem::size_of;
 use std::sync::Arc;
 
 /// One recorded event with its reply.
@@ -159,11 +159,11 @@ impl Receipt {
 /// by their values alone, after the commands that were in force before them, and how many further
 /// ones find room without memory: the places that are kept.
 ///
-/// `slots` has one slot for each entry, in few bytes. The event of a registration stands in
-/// `registrations` if the reply names the ID and the zone as the event does, and its slot has its
-/// place there; any other entry that does not fit into a slot stands whole in `aside`, and its slot
-/// has its place there. All three grow piece by piece, so that no entry is ever moved, and each has
-/// room for every kept place.
+/// `slots` has one slot for each entry, in the bytes that its kind needs. The event of a
+/// registration stands in `registrations` if the reply names the ID and the zone as the event does,
+/// and its slot has its place there; any other entry that does not fit into a slot stands whole in
+/// `aside`, and its slot has its place there. All three grow piece by piece, so that no entry is
+/// ever moved, and each has room for every kept place.
 ///
 /// `opening` are the tables that were in force before the first entry. The entry of a reload stands
 /// whole, and owns its tables; `last_reload` is the place in `aside` of the last one, so that the
@@ -172,7 +172,7 @@ impl Receipt {
 pub struct Record {
     opening: Arc<Tables>,
     last_reload: Option<u32>,
-    slots: Pieces<HeldSlot>,
+    slots: SlotList,
     aside: Pieces<WholeEntry>,
     registrations: Pieces<Event>,
     kept: usize,
@@ -206,17 +206,17 @@ impl Record {
         Record {
             opening,
             last_reload: None,
-            slots: Pieces::new(alloc),
+            slots: SlotList::new(alloc),
             aside: Pieces::new(alloc),
             registrations: Pieces::new(alloc),
             kept: 0,
         }
     }
 
-    /// How many bytes of the record an entry takes that stands in few bytes, as that of a granted
-    /// admission does if no name in it has more than 19 characters.
+    /// How many bytes of the record an entry takes at most that stands in few bytes, as that of a
+    /// granted admission does if no name in it has more than 19 characters.
     pub fn slot_bytes() -> usize {
-        size_of::<HeldSlot>()
+        SlotList::routed_bytes()
     }
 
     /// The tables in force after the entries.
@@ -336,7 +336,7 @@ impl Record {
           kept = self.old.kept - 1;
         } }
     {
-        match Slot::of(&event, ruling) {
+        match &Slot::of(&event, ruling) {
             Some(slot) => self.push_slot(slot),
             None => self.push_event(event, ruling),
         }
@@ -362,15 +362,16 @@ impl Record {
     }
 
     /// Puts an entry at the end in few bytes.
-    fn push_slot(&mut self, slot: Slot)
+    fn push_slot(&mut self, slot: &Slot)
         requires kept { 1 ≤ self.old.kept }
-        requires meant { IsSome (entry_meant [] [] slot) }
+        requires few { length self.old.entries < 2 ^ 32 }
+        requires meant { IsSome (entry_meant [] [] slot.now) }
         ensures { self.new ≡ record self.old {
-          entries = self.old.entries ++ cons_option (entry_meant [] [] slot) [];
+          entries = self.old.entries ++ cons_option (entry_meant [] [] slot.now) [];
           kept = self.old.kept - 1;
         } }
     {
-        self.slots.push(HeldSlot::new(slot));
+        self.slots.push(slot);
         self.kept -= 1;
     }
 
@@ -387,8 +388,7 @@ impl Record {
         } }
     {
         let place = self.registrations.len() as u32;
-        self.slots
-            .push(HeldSlot::new(Slot::Registration { place, replied }));
+        self.slots.push(&Slot::Registration { place, replied });
         self.registrations.push(event);
         self.kept -= 1;
     }
@@ -404,7 +404,7 @@ impl Record {
     {
         let place = self.aside.len() as u32;
         let last_reload = entry.last_reload(place, self.last_reload);
-        self.slots.push(HeldSlot::new(Slot::Aside { place }));
+        self.slots.push(&Slot::Aside { place });
         self.aside.push(entry);
         self.last_reload = last_reload;
         self.kept -= 1;
@@ -414,7 +414,7 @@ impl Record {
 /// Makes room in each of the three lists for this many further items. If memory runs out, they hold
 /// what they did.
 fn reserve_each(
-    slots: &mut Pieces<HeldSlot>,
+    slots: &mut SlotList,
     aside: &mut Pieces<WholeEntry>,
     registrations: &mut Pieces<Event>,
     places: usize,
@@ -434,7 +434,7 @@ fn reserve_each(
 
 /// The entry of the slot at this place.
 fn entry_at<'a>(
-    slots: &Pieces<HeldSlot>,
+    slots: &SlotList,
     aside: &'a Pieces<WholeEntry>,
     registrations: &'a Pieces<Event>,
     place: usize,
@@ -445,7 +445,7 @@ fn entry_at<'a>(
 {
     match slots.get(place) {
         None => None,
-        Some(held) => held.slot().entry(aside, registrations),
+        Some(slot) => slot.entry(aside, registrations),
     }
 }
 

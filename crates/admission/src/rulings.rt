@@ -1,7 +1,7 @@
 //! Rulings: what is decided of an event, and what the decision changes.
 
-ghost use Rattle.std.specs.Prelude.{◌≡◌, Some, None, IfSome, IsSome, MatchResult};
-ghost use Rattle.bandwidth.specs.Calls.{call_of};
+ghost use Rattle.std.specs.Prelude.{◌≡◌, false, Some, None, IfSome, IsSome, MatchResult};
+ghost use Rattle.bandwidth.specs.Calls.{call_of, is_open};
 ghost use Rattle.bandwidth.specs.Fits.{over_of};
 ghost use Rattle.compiler.specs.Plan as Plans;
 ghost use Rattle.compiler.specs.Zones.{zone_meant};
@@ -217,10 +217,11 @@ impl Machine {
         destination: &Destination,
         call: &OpenCall,
     ) -> Ruling
+        requires { is_open self.now.calls call.now.number ≡ false }
         ensures { result ≡ Spec.admission_unless zone.now destination.now call.now
             (over_of tables.now.commands self.now.calls call.now) }
     {
-        match &self.calls().fits(tables, call) {
+        match &self.calls().fits_new(tables, call) {
             Err(over) => {
                 let route = Some(Route::To(*destination));
                 Ruling::refused(zone, route, call.number, AdmitRefusal::OverLimit(*over))

@@ -18,7 +18,6 @@ use pieces::Pieces;
 use registry::Endpoint;
 use short_texts::{PackedDigits, ShortName};
 use std::borrow::Cow;
-use std::marker::Model;
 
 /// Where dialled digits lead, but for the address.
 #[derive(Clone, Copy)]
@@ -139,39 +138,6 @@ impl Asked {
             id,
             digits,
         }
-    }
-}
-
-/// A slot as the record holds it, with a view of its own, so that a list of slots need not know
-/// what is inside one. A contract sees the slot.
-#[derive(Clone, Copy)]
-pub(crate) struct HeldSlot {
-    slot: Slot,
-}
-
-impl Model for HeldSlot {
-    ghost use Rattle.admission.specs.declared.slots.Slot.{Slot};
-
-    ghost Value = { Slot };
-
-    ghost view = { λ h. h.slot };
-
-    ghost inverse = { λ s. record { slot = s } };
-}
-
-impl HeldSlot {
-    /// This slot.
-    pub(crate) fn new(slot: Slot) -> HeldSlot
-        ensures { result ≡ slot }
-    {
-        HeldSlot { slot }
-    }
-
-    /// The slot.
-    pub(crate) fn slot(&self) -> &Slot
-        ensures { result.now ≡ self.now }
-    {
-        &self.slot
     }
 }
 

@@ -6,3 +6,4 @@ pub mod FitLemmas
 pub mod FitLaws
 pub mod RefusalLaws
 mod ListLemmas
+mod OrderLemmas

@@ -30,13 +30,13 @@ abbrev AreSorted : Entries → Type 0
 AreSorted entries = IsStrictlySortedBy nat_cmp (keys_of entries)
 
 -- ---- numbers
-below : (a b : ℕ) → nat_cmp a b ≡ Less → a < b
+pub below : (a b : ℕ) → nat_cmp a b ≡ Less → a < b
 below a b h = subst (λ o. MatchOrdering o (a < b) (a ≡ b) (b < a)) h (ranked a b (nat_cmp a b) refl)
 
-same : (a b : ℕ) → nat_cmp a b ≡ Equal → a ≡ b
+pub same : (a b : ℕ) → nat_cmp a b ≡ Equal → a ≡ b
 same a b h = subst (λ o. MatchOrdering o (a < b) (a ≡ b) (b < a)) h (ranked a b (nat_cmp a b) refl)
 
-above : (a b : ℕ) → nat_cmp a b ≡ Greater → b < a
+pub above : (a b : ℕ) → nat_cmp a b ≡ Greater → b < a
 above a b h = subst (λ o. MatchOrdering o (a < b) (a ≡ b) (b < a)) h (ranked a b (nat_cmp a b) refl)
 
 -- the test of the map is that of the list

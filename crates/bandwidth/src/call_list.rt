@@ -1,4 +1,4 @@
-//! The open calls in order of number.
+//! The open calls by number.
 
 ghost use Rattle.std.specs.Prelude.{◌≡◌, ◌≤◌, ◌*◌, [], false, length, IfErr, OnOk, OnErr};
 ghost use Rattle.std.specs.Option.{option_copied};
@@ -12,14 +12,14 @@ use crate::held_call::HeldCall;
 use crate::open_call::OpenCall;
 use gk_terms::{Name, Units};
 use std::alloc::{AllocError, Global};
-use std::collections::BTreeMap;
+use std::collections::HashMap;
 use std::marker::Model;
 
-/// Calls in order of number: a map has each one under its number, in a place of its own. A contract
-/// sees the list.
+/// Calls, each under its number in a hash map and in a place of its own. A contract sees the list of
+/// them in order of number.
 #[derive(Drop)]
 pub struct CallList {
-    calls: BTreeMap<u32, HeldCall>,
+    calls: HashMap<u32, HeldCall>,
     alloc: Global,
 }
 
@@ -27,13 +27,13 @@ impl Model for CallList {
     ghost use Rattle.std.specs.Prelude.{List};
     ghost use Rattle.std.specs.Map.{values_of};
     ghost use Rattle.bandwidth.specs.declared.open_call.OpenCall.{OpenCall};
-    ghost use Rattle.bandwidth.specs.CallList.{IsCallList};
+    ghost use Rattle.bandwidth.specs.CallList.{IsCallList, by_number};
 
     ghost Value = { List OpenCall };
 
-    ghost view = { λ l. values_of l.calls.entries };
+    ghost view = { λ l. values_of (by_number l.calls.entries) };
 
-    ghost invariant = { λ l. IsCallList l.calls.entries };
+    ghost invariant = { λ l. IsCallList (by_number l.calls.entries) };
 }
 
 impl CallList {
@@ -42,7 +42,7 @@ impl CallList {
         ensures { result ≡ [] }
     {
         CallList {
-            calls: BTreeMap::new(alloc),
+            calls: HashMap::new(alloc),
             alloc,
         }
     }
@@ -134,10 +134,11 @@ impl CallList {
         }
     }
 
-    /// Takes out the call with this number, if there is one. Takes no memory.
-    pub fn remove(&mut self, number: u32)
-        ensures { self.new ≡ without_call self.old number }
+    /// Takes out the call with this number and gives it, if there is one. Takes no memory.
+    pub fn take(&mut self, number: u32) -> Option<HeldCall>
+        ensures taken { result ≡ call_of self.old number }
+        ensures left { self.new ≡ without_call self.old number }
     {
-        let _ = self.calls.remove(&number);
+        self.calls.remove(&number)
     }
 }

@@ -1,12 +1,12 @@
 //! Whether a call fits the limits in force. From Cisco's `bandwidth` command; the order in which
 //! the sums are tried is this project's profile.
 
-ghost use Rattle.std.specs.Prelude.{◌≡◌, ◌≤◌, ◌<◌, ◌+◌, ◌^◌, None, option_map, if◌then◌else◌};
+ghost use Rattle.std.specs.Prelude.{◌≡◌, ◌≤◌, ◌<◌, ◌+◌, ◌^◌, None, false, option_map, if◌then◌else◌};
 ghost use Rattle.std.specs.Option.{option_copied};
 ghost use Rattle.std.specs.Result.{result_err};
 ghost use Rattle.command_reader.specs.declared.commands.LimitKind.TheVariants.{Interzone};
 ghost use Rattle.bandwidth.specs.declared.over.Over.TheVariants as overs;
-ghost use Rattle.bandwidth.specs.Calls.{call_of, without_call};
+ghost use Rattle.bandwidth.specs.Calls.{call_of, is_open, without_call};
 ghost use Rattle.bandwidth.specs.Fits.{is_no_raise, over_of, tries_of};
 ghost use Rattle.bandwidth.specs.Trying.{first_over, over_remotely, over_tried, part_found};
 ghost use Rattle.bandwidth.specs.Use.{is_interzone, remote_of};
@@ -34,7 +34,6 @@ impl OpenCalls {
     }
 
     /// The same, with the number of open calls that were read for it.
-    #[tactic(auto, unfolding(crate::specs::Fits::over_of))]
     pub fn fits_counted(&self, tables: &Tables, call: &OpenCall) -> (Result<(), Over>, u32)
         ensures fits { result_err result.0
             ≡ over_of tables.now.commands self.now.calls call.now }
@@ -42,13 +41,37 @@ impl OpenCalls {
     {
         let mut reads = 0;
         let held = self.read(call.number, &mut reads);
+        (self.fits_beside(tables, call, held), reads)
+    }
+
+    /// The same for a caller that has looked up the open call of its number, if there is one. Reads
+    /// no other.
+    #[tactic(auto, unfolding(crate::specs::Fits::over_of))]
+    pub fn fits_beside(
+        &self,
+        tables: &Tables,
+        call: &OpenCall,
+        held: Option<&OpenCall>,
+    ) -> Result<(), Over>
+        requires held { option_copied held ≡ call_of self.now.calls call.now.number }
+        ensures { result_err result ≡ over_of tables.now.commands self.now.calls call.now }
+    {
         if is_no_raise(held, call) {
-            return (Ok(()), reads);
+            return Ok(());
         }
         match self.over(tables, call, held) {
-            Some(over) => (Err(over), reads),
-            None => (Ok(()), reads),
+            Some(over) => Err(over),
+            None => Ok(()),
         }
+    }
+
+    /// The same for a call whose number is no open call's; `is_open` tests that. Reads no call.
+    #[tactic(auto, using(crate::proofs::CallLemmas::none_if_closed))]
+    pub fn fits_new(&self, tables: &Tables, call: &OpenCall) -> Result<(), Over>
+        requires fresh { is_open self.now.calls call.now.number ≡ false }
+        ensures { result_err result ≡ over_of tables.now.commands self.now.calls call.now }
+    {
+        self.fits_beside(tables, call, None)
     }
 
     /// The open call of this number, counted as read. No other function reads one for a request to

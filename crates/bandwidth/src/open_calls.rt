@@ -4,7 +4,7 @@ ghost use Rattle.std.specs.Prelude.{◌≡◌, ◌<◌, ◌≤◌, ◌+◌, ◌^
 ghost use Rattle.std.specs.Option.{option_copied};
 ghost use Rattle.gk_terms.specs.Outcome.{Changes, ChangesUnlessMemory};
 ghost use Rattle.bandwidth.specs.declared.faults.CallsFault.TheVariants as faults;
-ghost use Rattle.bandwidth.specs.Calls.{AreOpenCalls, call_of, changed_in, closed_in, is_open, opened_in, owns, with_call};
+ghost use Rattle.bandwidth.specs.Calls.{AreOpenCalls, call_of, changed_in, closed_in, is_open, opened_in, owns, with_call, without_call};
 ghost use Rattle.bandwidth.specs.Sums.{use_of};
 ghost use Rattle.bandwidth.specs.Use.{interzone_of, remote_of, total_of};
 
@@ -139,7 +139,7 @@ impl OpenCalls {
         if self.most as usize <= self.calls.len() {
             return Err(CallsFault::Full);
         }
-        match self.enter(&call) {
+        match self.open_fresh(&call) {
             Ok(()) => Ok(()),
             Err(_) => Err(CallsFault::NoMemory),
         }
@@ -180,23 +180,35 @@ impl OpenCalls {
         match owned {
             Ok(held) => {
                 let closed = *held;
-                let step = Step {
-                    before: Some(closed.units),
-                    after: None,
-                };
-                // So it is known that no sum wraps.
-                let _most = self.most;
-                let _count = self.calls.len();
-                self.sums.pass(&closed, &step);
-                self.calls.remove(number);
+                self.take_out(number);
                 Ok(closed)
             }
             Err(fault) => Err(fault),
         }
     }
 
-    /// Enters a call that may be opened. If memory runs out nothing has changed.
-    fn enter(&mut self, call: &OpenCall) -> Result<(), AllocError>
+    /// Closes the call of this number, if one is open, whoever owns it. Takes no memory. For whom
+    /// knows the owner: the call is looked up once, and not copied.
+    pub fn take_out(&mut self, number: u32)
+        ensures { self.new ≡ record self.old { calls = without_call self.old.calls number } }
+    {
+        // So it is known that no sum wraps.
+        let _most = self.most;
+        let _count = self.calls.len();
+        let Some(held) = self.calls.take(number) else {
+            return;
+        };
+        let closed = held.call();
+        let step = Step {
+            before: Some(closed.units),
+            after: None,
+        };
+        self.sums.pass(closed, &step);
+    }
+
+    /// Opens a call whose number is no open call's, and for which there is room; `is_open` and
+    /// `len` test that. If memory runs out nothing has changed. The number is looked up once.
+    pub fn open_fresh(&mut self, call: &OpenCall) -> Result<(), AllocError>
         requires fresh { is_open self.old.calls call.now.number ≡ false }
         requires room { length self.old.calls < self.old.most }
         ensures ok { OnOk result

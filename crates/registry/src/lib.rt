@@ -3,6 +3,7 @@
 #![tactic(auto)]
 
 mod choosing;
+mod endpoint_number;
 pub mod endpoints;
 pub mod faults;
 mod keeping;

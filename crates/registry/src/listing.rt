@@ -10,6 +10,7 @@ ghost use Rattle.registry.specs.RegistryIndex.{kept_endpoint_of};
 ghost use Rattle.registry.specs.Listing.{IsNextServing, NoneServes};
 ghost use Rattle.registry.specs.Roll.{IsNextFrom, IsNumberFor, IsPut, IsSetAt, IsTakenOut, NoneFrom, at_number, by_id};
 
+use crate::endpoint_number::EndpointNumber;
 use crate::endpoints::Endpoint;
 use crate::roll::Roll;
 use crate::served::Served;
@@ -116,7 +117,7 @@ impl Listing {
     }
 
     /// The endpoints, in order.
-    pub fn endpoints(&self) -> Values<'_, u32, Endpoint>
+    pub fn endpoints(&self) -> Values<'_, EndpointNumber, Endpoint>
         ensures value { result ≡ values_of self.now.entries }
         ensures fits { length self.now.entries < 2 ^ 63 }
     {

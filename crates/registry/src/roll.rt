@@ -9,6 +9,7 @@ ghost use Rattle.std.specs.Map.{keys_of, values_of};
 ghost use Rattle.registry.specs.RegistryIndex.{kept_endpoint_of};
 ghost use Rattle.registry.specs.Roll.{IsNextFrom, IsNumberFor, IsPut, IsTakenOut, IsSetAt, NoneFrom, at_number, by_id};
 
+use crate::endpoint_number::EndpointNumber;
 use crate::endpoints::Endpoint;
 use gk_terms::Name;
 use std::alloc::Global;
@@ -20,7 +21,7 @@ use std::marker::Model;
 /// long as its ID is there. A contract sees the endpoints by number, and the next number.
 #[derive(Drop)]
 pub struct Roll {
-    endpoints: BTreeMap<u32, Endpoint>,
+    endpoints: BTreeMap<EndpointNumber, Endpoint>,
     numbers: HashMap<Name, u32>,
     next: u32,
 }
@@ -99,14 +100,15 @@ impl Roll {
     pub fn get(&self, id: &Name) -> Option<&Endpoint>
         ensures { option_copied result ≡ kept_endpoint_of (by_id self.now.entries) id.now }
     {
-        self.endpoints.get(self.numbers.get(id)?)
+        let number = *self.numbers.get(id)?;
+        self.endpoints.get(&EndpointNumber { number })
     }
 
     /// The endpoint of this number.
     pub fn at_number(&self, number: u32) -> Option<&Endpoint>
         ensures { option_copied result ≡ at_number self.now.entries number }
     {
-        self.endpoints.get(&number)
+        self.endpoints.get(&EndpointNumber { number })
     }
 
     /// The endpoint of the least number from this one on, with that number.
@@ -117,12 +119,13 @@ impl Roll {
     {
         // So it is known that no number in use is the greatest u32.
         let _next = self.next;
+        let from = EndpointNumber { number: from };
         let (number, endpoint) = self.endpoints.range(from..).next()?;
-        Some((*number, endpoint))
+        Some((number.number, endpoint))
     }
 
     /// The endpoints, in order.
-    pub fn endpoints(&self) -> Values<'_, u32, Endpoint>
+    pub fn endpoints(&self) -> Values<'_, EndpointNumber, Endpoint>
         ensures value { result ≡ values_of self.now.entries }
         ensures fits { length self.now.entries < 2 ^ 63 }
     {
@@ -147,7 +150,7 @@ impl Roll {
         if self.numbers.reserve(1).is_err() {
             return Err(endpoint);
         }
-        match self.endpoints.insert(number, endpoint) {
+        match self.endpoints.insert(EndpointNumber { number }, endpoint) {
             Ok(replaced) => {
                 let numbered: Result<_, _> = self.numbers.insert(id, number);
                 let _ = numbered.unwrap();
@@ -169,6 +172,6 @@ impl Roll {
         ensures next { self.new.next ≡ self.old.next }
     {
         let number = self.numbers.remove(id)?;
-        self.endpoints.remove(&number)
+        self.endpoints.remove(&EndpointNumber { number })
     }
 }

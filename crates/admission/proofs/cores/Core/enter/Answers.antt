@@ -4,7 +4,7 @@ use Rattle.admission.specs.History.{CoreParts, RecordParts, entry_by, receipt_of
 use Rattle.admission.specs.CoreInvariant.{places_reserved}
 use Rattle.admission.specs.Step.{is_recorded}
 use Rattle.admission.proofs.CarryingLemmas.{counts_alike}
-use Rattle.admission.proofs.CoreLemmas.{stands_as, ruled, refusal_is, verdict_is, counts, is_within, refuses, refused_step, leaves_out, left_out_step, lacks_memory, kept_on, records, core_still, ruled_light}
+use Rattle.admission.proofs.CoreLemmas.{stands_as, ruled, refusal_is, nothing_if_not, unrefused, verdict_is, counts, is_within, refuses, refused_step, leaves_out, left_out_step, lacks_memory, kept_on, records, core_still, ruled_light}
 use Rattle.admission.proofs.cores.Core.enter.Goals as goal
 use Rattle.admission.proofs.cores.Core.enter.Goals.{in-Register-3, in-Reload-3, in-Unregister-3}
 
@@ -20,40 +20,42 @@ prepare-requires-clause-within c = is_within _ _ _ c.self.invariant
 
 pub prepare-requires-clause-recordable : goal.prepare-requires-clause-recordable
 prepare-requires-clause-recordable c =
-    sym (c.count_refusal.ensures ∙ counts_alike _ _ _ _) ∙ c.in_default.is
+    sym (counts_alike _ _ _ _)
+    ∙ nothing_if_not _ (sym c.is_refused_by_count.ensures ∙ c.if-is_refused_by_count.false)
 
-pub returns-in-Some-clause-step : goal.returns-in-Some-clause-step
-returns-in-Some-clause-step c =
+pub returns-then-is_refused_by_count-clause-step : goal.returns-then-is_refused_by_count-clause-step
+returns-then-is_refused_by_count-clause-step c =
     refuses _ _ _ (stands_as _ _ _ c.self.invariant _ c.self.view_is) _
     (refusal_is _ _ _ c.self.invariant _ c.self.view_is _ _ c.requires _ _
-    (c.count_refusal.ensures ∙ counts_alike _ _ _ _) c.in-Some.is)
+    (c.count_refusal-refusal.ensures ∙ counts_alike _ _ _ _) c.unwrap.ensures)
 
-pub returns-in-Some-clause-reserved : goal.returns-in-Some-clause-reserved
-returns-in-Some-clause-reserved c =
+pub returns-then-is_refused_by_count-clause-reserved
+    : goal.returns-then-is_refused_by_count-clause-reserved
+returns-then-is_refused_by_count-clause-reserved c =
     λ _ _. refused_step _ _ _ (stands_as _ _ _ c.self.invariant _ c.self.view_is) _
     (refusal_is _ _ _ c.self.invariant _ c.self.view_is _ _ c.requires _ _
-    (c.count_refusal.ensures ∙ counts_alike _ _ _ _) c.in-Some.is)
+    (c.count_refusal-refusal.ensures ∙ counts_alike _ _ _ _) c.unwrap.ensures)
 
 pub returns-then-not-is_recorded-clause-step : goal.returns-then-not-is_recorded-clause-step
 returns-then-not-is_recorded-clause-step c =
     leaves_out _ _ _ (stands_as _ _ _ c.self.invariant _ c.self.view_is)
-    (refusal_is _ _ _ c.self.invariant _ c.self.view_is _ _ c.requires _ _
-    (c.count_refusal.ensures ∙ counts_alike _ _ _ _) c.in_default.is)
+    (unrefused _ _ _ c.self.invariant _ c.self.view_is _ _ c.requires _
+    c.is_refused_by_count.ensures c.if-is_refused_by_count.false)
     _ (verdict_is _ _ _ c.self.invariant _ c.self.view_is _ _ c.requires)
     (sym c.is_recorded.ensures ∙ c.if-not-is_recorded.true)
 
 pub returns-then-not-is_recorded-clause-reserved : goal.returns-then-not-is_recorded-clause-reserved
 returns-then-not-is_recorded-clause-reserved c =
     λ _ _. left_out_step _ _ _ (stands_as _ _ _ c.self.invariant _ c.self.view_is)
-    (refusal_is _ _ _ c.self.invariant _ c.self.view_is _ _ c.requires _ _
-    (c.count_refusal.ensures ∙ counts_alike _ _ _ _) c.in_default.is)
+    (unrefused _ _ _ c.self.invariant _ c.self.view_is _ _ c.requires _
+    c.is_refused_by_count.ensures c.if-is_refused_by_count.false)
     _ (verdict_is _ _ _ c.self.invariant _ c.self.view_is _ _ c.requires)
     (sym c.is_recorded.ensures ∙ c.if-not-is_recorded.true)
 
 pub invariant_of-self : goal.invariant_of-self
 invariant_of-self c =
-    let free = refusal_is _ _ _ c.self.invariant _ c.self.view_is _ _ c.requires _ _
-    (c.count_refusal.ensures ∙ counts_alike _ _ _ _) c.in_default.is in
+    let free = unrefused _ _ _ c.self.invariant _ c.self.view_is _ _ c.requires _
+    c.is_refused_by_count.ensures c.if-is_refused_by_count.false in
     let verdict = verdict_is _ _ _ c.self.invariant _ c.self.view_is _ _ c.requires in
     let recorded = ap is_recorded (sym verdict) ∙ sym c.is_recorded.ensures
     ∙ c.if-not-is_recorded.false in
@@ -68,8 +70,8 @@ invariant_of-self c =
 
 pub returns-in-Ok-clause-step : goal.returns-in-Ok-clause-step
 returns-in-Ok-clause-step c =
-    let free = refusal_is _ _ _ c.self.invariant _ c.self.view_is _ _ c.requires _ _
-    (c.count_refusal.ensures ∙ counts_alike _ _ _ _) c.in_default.is in
+    let free = unrefused _ _ _ c.self.invariant _ c.self.view_is _ _ c.requires _
+    c.is_refused_by_count.ensures c.if-is_refused_by_count.false in
     let verdict = verdict_is _ _ _ c.self.invariant _ c.self.view_is _ _ c.requires in
     let recorded = ap is_recorded (sym verdict) ∙ sym c.is_recorded.ensures
     ∙ c.if-not-is_recorded.false in
@@ -84,13 +86,13 @@ returns-in-Ok-clause-step c =
 
 pub returns-in-Err-clause-step : goal.returns-in-Err-clause-step
 returns-in-Err-clause-step c =
-    let free = refusal_is _ _ _ c.self.invariant _ c.self.view_is _ _ c.requires _ _
-    (c.count_refusal.ensures ∙ counts_alike _ _ _ _) c.in_default.is in
+    let free = unrefused _ _ _ c.self.invariant _ c.self.view_is _ _ c.requires _
+    c.is_refused_by_count.ensures c.if-is_refused_by_count.false in
     let verdict = verdict_is _ _ _ c.self.invariant _ c.self.view_is _ _ c.requires in
     let recorded = ap is_recorded (sym verdict) ∙ sym c.is_recorded.ensures
     ∙ c.if-not-is_recorded.false in
     let left = lacks_memory _ _ _ (stands_as _ _ _ c.self.invariant _ c.self.view_is) free _ _
-    recorded (sym c.no_memory_reply.ensures ∙ c.unwrap.ensures)
+    recorded (sym c.no_memory_reply.ensures ∙ c.unwrap-in-Err.ensures)
     (core_still c.self.inside.machine c.prepare.new.machine c.self.inside.history
     c.prepare.new.history c.self.inside.reserved c.in-Err.ensures.err.0 c.in-Err.ensures.err.1
     ∙ c.self.view_is) in

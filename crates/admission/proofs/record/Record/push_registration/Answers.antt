@@ -1,4 +1,4 @@
-use Rattle.std.proofs.Common.{◌≡◌, ◌≤◌, ◌-◌, ◌++◌, [], ◌∷◌, refl, sym, ap, subst, ◌∙◌, arith}
+use Rattle.std.proofs.Common.{◌≡◌, ◌≤◌, ◌-◌, ◌++◌, [], length, refl, sym, ap, subst, ◌∙◌, arith}
 use Rattle.std.specs.Prelude.{Option, Some, None, IsSome}
 use Rattle.std.specs.Arc.{arc_value}
 use Rattle.std.specs.List.{cons_option}
@@ -6,10 +6,18 @@ use Rattle.admission.specs.Events.{plain}
 use Rattle.admission.specs.History.{RecordParts, PlainEntry}
 use Rattle.admission.specs.Slots.{registration_meant}
 use Rattle.admission.specs.RecordIndex.{entries_told, IsStored, LastReloadIsAt}
-use Rattle.admission.specs.declared.slots.Slot.{Slot}
-use Rattle.admission.proofs.StoredLemmas.{registration_stored, told_are, stored_told}
+use Rattle.admission.proofs.StoredLemmas.{registration_stored, told_are, stored_told, slots_counted}
 use Rattle.admission.proofs.ReloadLemmas.{none_more, registration_puts_none}
 use Rattle.admission.proofs.record.Record.push_registration.Goals as goal
+
+pub push-requires-clause-few : goal.push-requires-clause-few
+push-requires-clause-few c =
+    omega (
+      arith,
+      c.requires.few,
+      slots_counted _ _ _ _ _ c.self.invariant.0,
+      ap (λ (h : RecordParts). length h.entries) c.self.view_is,
+    )
 
 -- what is stored with the registration
 stored : (c : goal.After-self-1)
@@ -22,10 +30,7 @@ stored c =
     omega (arith, c.requires.kept, ap (λ (h : RecordParts). h.kept) c.self.view_is) in
     registration_stored _ _ _ _ _ c.self.invariant.0 one c.len-place.result c.args.replied
     c.args.event c.push.new.self c.push-2.new.self c.len-place.ensures.value c.requires.meant
-    (c.push.ensures ∙ ap (λ (s : Slot). record {
-      items = c.self.inside.slots.items ++ s ∷ [];
-      room = c.self.inside.slots.room - 1;
-    }) c.new.ensures)
+    c.push.ensures
     c.push-2.ensures
 
 -- the tables in force stay

@@ -1,38 +1,43 @@
-use Rattle.std.proofs.Common.{◌≡◌, ◌≤◌, ◌-◌, ◌++◌, [], ◌∷◌, refl, sym, ap, subst, ◌∙◌, arith}
+use Rattle.std.proofs.Common.{◌≡◌, ◌≤◌, ◌-◌, ◌++◌, [], length, refl, sym, ap, subst, ◌∙◌, arith}
 use Rattle.std.specs.Prelude.{Option, Some, None, IsSome}
 use Rattle.std.specs.Arc.{arc_value}
 use Rattle.std.specs.List.{cons_option}
 use Rattle.admission.specs.History.{RecordParts, PlainEntry}
 use Rattle.admission.specs.Slots.{entry_meant}
 use Rattle.admission.specs.RecordIndex.{entries_told, IsStored, LastReloadIsAt}
-use Rattle.admission.specs.declared.slots.Slot.{Slot}
-use Rattle.admission.proofs.StoredLemmas.{slot_stored, told_are, stored_told}
+use Rattle.admission.proofs.StoredLemmas.{slot_stored, told_are, stored_told, slots_counted}
 use Rattle.admission.proofs.ReloadLemmas.{none_more, slot_puts_none}
 use Rattle.admission.proofs.record.Record.push_slot.Goals as goal
+
+pub push-requires-clause-few : goal.push-requires-clause-few
+push-requires-clause-few c =
+    omega (
+      arith,
+      c.requires.few,
+      slots_counted _ _ _ _ _ c.self.invariant.0,
+      ap (λ (h : RecordParts). length h.entries) c.self.view_is,
+    )
 
 -- what is stored with the slot
 stored : (c : goal.After-self-1)
     → IsStored c.push.new.self c.self.inside.aside c.self.inside.registrations
     (entries_told c.self.inside.slots c.self.inside.aside c.self.inside.registrations
-    ++ cons_option (entry_meant [] [] c.args.slot) [])
+    ++ cons_option (entry_meant [] [] c.args.slot.now) [])
     (c.self.inside.kept - 1)
 stored c =
     let one : 1 ≤ c.self.inside.kept =
     omega (arith, c.requires.kept, ap (λ (h : RecordParts). h.kept) c.self.view_is) in
-    slot_stored _ _ _ _ _ c.self.invariant.0 one c.args.slot c.push.new.self c.requires.meant
-    (c.push.ensures ∙ ap (λ (s : Slot). record {
-      items = c.self.inside.slots.items ++ s ∷ [];
-      room = c.self.inside.slots.room - 1;
-    }) c.new.ensures)
+    slot_stored _ _ _ _ _ c.self.invariant.0 one c.args.slot.now c.push.new.self c.requires.meant
+    c.push.ensures
 
 -- the tables in force stay
 last : (c : goal.After-self-1)
     → LastReloadIsAt (arc_value c.self.inside.opening).commands c.self.inside.aside.items
     (entries_told c.self.inside.slots c.self.inside.aside c.self.inside.registrations
-    ++ cons_option (entry_meant [] [] c.args.slot) []) c.self.inside.last_reload
-last c = by (entry_meant [] [] c.args.slot) refl c.requires.meant
+    ++ cons_option (entry_meant [] [] c.args.slot.now) []) c.self.inside.last_reload
+last c = by (entry_meant [] [] c.args.slot.now) refl c.requires.meant
   where
-    by : (meant : Option PlainEntry) → entry_meant [] [] c.args.slot ≡ meant → IsSome meant
+    by : (meant : Option PlainEntry) → entry_meant [] [] c.args.slot.now ≡ meant → IsSome meant
         → LastReloadIsAt (arc_value c.self.inside.opening).commands c.self.inside.aside.items
         (entries_told c.self.inside.slots c.self.inside.aside c.self.inside.registrations
         ++ cons_option meant []) c.self.inside.last_reload
@@ -41,7 +46,7 @@ last c = by (entry_meant [] [] c.args.slot) refl c.requires.meant
         none_more (arc_value c.self.inside.opening).commands c.self.inside.aside.items
         (entries_told c.self.inside.slots c.self.inside.aside c.self.inside.registrations)
         c.self.inside.last_reload c.self.invariant.1 e
-        (slot_puts_none c.args.slot e h)
+        (slot_puts_none c.args.slot.now e h)
 
 pub invariant_of-self : goal.invariant_of-self
 invariant_of-self c = (
@@ -58,6 +63,6 @@ returns c =
       kept = c.self.inside.kept - 1;
     }) (told_are _ _ _ _ _ (stored c))
     ∙ ap (λ (h : RecordParts). record h {
-      entries = h.entries ++ cons_option (entry_meant [] [] c.args.slot) [];
+      entries = h.entries ++ cons_option (entry_meant [] [] c.args.slot.now) [];
       kept = h.kept - 1;
     }) c.self.view_is

@@ -1,11 +1,19 @@
-use Rattle.std.proofs.Common.{◌≤◌, ◌-◌, ◌++◌, [], ◌∷◌, sym, ap, subst, ◌∙◌, arith}
+use Rattle.std.proofs.Common.{◌≤◌, ◌-◌, ◌++◌, [], ◌∷◌, length, sym, ap, subst, ◌∙◌, arith}
 use Rattle.std.specs.Arc.{arc_value}
 use Rattle.admission.specs.History.{RecordParts}
 use Rattle.admission.specs.RecordIndex.{plain_whole, entries_told, IsStored, LastReloadIsAt}
-use Rattle.admission.specs.declared.slots.Slot.{Slot}
-use Rattle.admission.proofs.StoredLemmas.{whole_stored, told_are, stored_told}
+use Rattle.admission.proofs.StoredLemmas.{whole_stored, told_are, stored_told, slots_counted}
 use Rattle.admission.proofs.ReloadLemmas.{whole_more}
 use Rattle.admission.proofs.record.Record.push_whole.Goals as goal
+
+pub push-requires-clause-few : goal.push-requires-clause-few
+push-requires-clause-few c =
+    omega (
+      arith,
+      c.requires.few,
+      slots_counted _ _ _ _ _ c.self.invariant.0,
+      ap (λ (h : RecordParts). length h.entries) c.self.view_is,
+    )
 
 -- what is stored with the entry
 stored : (c : goal.After-self-1)
@@ -18,10 +26,7 @@ stored c =
     omega (arith, c.requires.kept, ap (λ (h : RecordParts). h.kept) c.self.view_is) in
     whole_stored _ _ _ _ _ c.self.invariant.0 one c.len-place.result c.args.entry c.push.new.self
     c.push-2.new.self c.len-place.ensures.value
-    (c.push.ensures ∙ ap (λ (s : Slot). record {
-      items = c.self.inside.slots.items ++ s ∷ [];
-      room = c.self.inside.slots.room - 1;
-    }) c.new.ensures)
+    c.push.ensures
     c.push-2.ensures
 
 -- the tables in force are its own, if it is of a reload

@@ -5,17 +5,17 @@ use Rattle.registry.specs.Roll.{by_id}
 use Rattle.registry.proofs.RollLemmas.{kept_under, kept_nowhere}
 use Rattle.registry.proofs.roll.Roll.get.Goals as goal
 
-pub returns-in_err-get : goal.returns-in_err-get
-returns-in_err-get c =
+pub returns-in_err-number : goal.returns-in_err-number
+returns-in_err-number c =
     ap option_copied c.from_residual.ensures
     ∙ sym (kept_nowhere c.self.inside.endpoints.entries c.self.inside.numbers.entries
-    c.self.inside.next c.self.invariant c.args.id.now (sym c.in_err-get.ensures.value))
+    c.self.inside.next c.self.invariant c.args.id.now (sym c.in_err-number.ensures.value))
     ∙ ap (λ r. kept_endpoint_of (by_id r.entries) c.args.id.now) c.self.view_is
 
 pub returns : goal.returns
 returns c =
     c.get-2.ensures.value
     ∙ sym (kept_under c.self.inside.endpoints.entries c.self.inside.numbers.entries
-    c.self.inside.next c.self.invariant c.args.id.now c.in_ok-get.field-0.now
-    (sym c.in_ok-get.ensures.value))
+    c.self.inside.next c.self.invariant c.args.id.now c.in_ok-number.field-0.now
+    (sym c.in_ok-number.ensures.value))
     ∙ ap (λ r. kept_endpoint_of (by_id r.entries) c.args.id.now) c.self.view_is

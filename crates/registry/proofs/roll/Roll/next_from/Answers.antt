@@ -1,4 +1,4 @@
-use Rattle.std.proofs.Common.{◌<◌, ◌^◌, slice_get, ap, subst, arith}
+use Rattle.std.proofs.Common.{◌<◌, ◌^◌, slice_get, ap, sym, subst, arith}
 use Rattle.registry.specs.Roll.{IsNextFrom}
 use Rattle.registry.proofs.KeepingLemmas.{is_next}
 use Rattle.registry.proofs.roll.Roll.next_from.Goals as goal
@@ -9,7 +9,8 @@ returns-clause-next c =
     let endpoint = c.in_ok-number.endpoint.now in
     let found = c.range.ensures.in_range tt in
     let fits : c.self.inside.next < 2 ^ 32 = omega arith in
-    subst (λ r. IsNextFrom r c.args.from number endpoint) c.self.view_is
+    subst (λ n. IsNextFrom c.args.self.now c.args.from n endpoint) (sym c.number.view_is)
+    (subst (λ r. IsNextFrom r c.args.from number endpoint) c.self.view_is
     (is_next c.self.inside.endpoints.entries c.self.inside.numbers.entries c.self.inside.next
     c.self.invariant c.range.result c.args.from number endpoint
-    (ap (λ xs. slice_get xs 0) c.in_ok-number.ensures.steps) found.1 found.2 fits)
+    (ap (λ xs. slice_get xs 0) c.in_ok-number.ensures.steps) found.1 found.2 fits))

@@ -3,8 +3,8 @@ use Rattle.bandwidth.specs.Calls.{is_open}
 use Rattle.bandwidth.specs.Sums.{AreSumsOf}
 use Rattle.bandwidth.proofs.PassLemmas.{opening, may_pass, sums_pass, sums_same}
 use Rattle.bandwidth.proofs.OpenLemmas.{length_with}
-use Rattle.bandwidth.proofs.open_calls.OpenCalls.enter.Goals as goal
-use Rattle.bandwidth.proofs.open_calls.OpenCalls.enter.Goals.{After-insert}
+use Rattle.bandwidth.proofs.open_calls.OpenCalls.open_fresh.Goals as goal
+use Rattle.bandwidth.proofs.open_calls.OpenCalls.open_fresh.Goals.{After-insert}
 
 -- the call's number is no open call's
 fresh : (c : After-insert) → is_open c.self.inside.calls c.args.call.now.number ≡ false
