@@ -7,7 +7,10 @@ use mathlib.Core.List.{IsPrefix}
 use native.Mathlib.Decide.{dec_le}
 use Rattle.command_reader.specs.declared.commands.Command.{Command}
 use Rattle.publisher.specs.declared.entries.Entry.{Entry}
-use Rattle.publisher.specs.History.{draft_of, in_force_of, generation_of, generations, shown_by, last_of, MayFollow, IsLegal}
+use Rattle.std.specs.Arc.{arc_value}
+use Rattle.publisher.specs.declared.publications.Publication.{Publication}
+use Rattle.publisher.specs.Publications.{confirmed_by}
+use Rattle.publisher.specs.History.{draft_of, in_force_of, generation_of, generations, shown_by, last_of, is_in_force, MayFollow, IsLegal}
 use Rattle.publisher.proofs.Prefixes.{prefix_self, prefix_trans, prefix_snoc, prefix_after}
 
 pub generations_append : (xs ys : List Entry)
@@ -32,6 +35,13 @@ generations_in_force log commands = generations_append log (in_force_of commands
 
 pub last_of_snoc : (log : List Entry) (entry : Entry) → last_of (log ++ entry ∷ []) ≡ Some entry
 last_of_snoc log entry = fold-append (λ _ e. Some e) None log (entry ∷ [])
+
+-- the history that says of a publication that it is in force
+pub confirmed_in_force : (told : List Entry) (shown : Publication) → told ≡ confirmed_by shown
+    → is_in_force told ≡ true
+confirmed_in_force told shown is =
+    let last : List Entry = in_force_of (arc_value shown.tables).commands ∷ [] in
+    ap is_in_force is ∙ fold-append (λ _ e. e.in_force) false shown.stem.seen.log last
 
 -- a draft may follow anything
 pub draft_follows : (log : List Entry) (commands : List Command)

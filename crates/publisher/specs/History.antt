@@ -30,6 +30,10 @@ shown_by log commands = generations log ++ commands ∷ []
 abbrev pub last_of : List Entry → Option Entry
 last_of log = fold (λ _ entry. Some entry) None log
 
+-- whether the last entry says that its draft is in force
+abbrev pub is_in_force : List Entry → Bool
+is_in_force log = fold (λ _ entry. entry.in_force) false log
+
 -- an entry in force comes just after the draft of the same commands
 abbrev pub MayFollow : List Entry → Entry → Type 0
 MayFollow log entry = entry.in_force ≡ true → last_of log ≡ Some (draft_of entry.commands)

@@ -1,12 +1,12 @@
 //! Readers of the tables in force.
 
-ghost use Rattle.std.specs.Prelude.{◌≡◌, ◌-◌, length, Some, IfOk, slice_get};
+ghost use Rattle.std.specs.Prelude.{◌≡◌, ◌-◌, true, length, Some, IfOk, slice_get};
 ghost use Rattle.std.specs.Arc.{arc_value};
 ghost use mathlib.Core.List.{IsPrefix};
 ghost use Rattle.compiler.specs.Plan.{plan_of, target_of};
 ghost use Rattle.left_right.specs.Sides.{view};
 ghost use Rattle.publisher.specs.Generations.{commands_of};
-ghost use Rattle.publisher.specs.History.{generations};
+ghost use Rattle.publisher.specs.History.{generations, is_in_force};
 
 use crate::blanks::Imprint;
 use crate::faults::{Lost, ReadFault};
@@ -31,19 +31,24 @@ pub struct Reader<J: Imprint> {
 }
 
 impl<J: Imprint> Model for Reader<J> {
+    ghost use Rattle.std.specs.Prelude.{◌≡◌, true};
     ghost use Rattle.left_right.specs.Sides.{view as seen_at};
     ghost use Rattle.publisher.specs.Generations.{Known};
-    ghost use Rattle.publisher.specs.History.{generations};
+    ghost use Rattle.publisher.specs.History.{generations, is_in_force};
 
     ghost Value = { Known };
 
     ghost view = { λ r. record { list = seen_at r.place.place; told = generations r.told } };
+
+    ghost invariant = { λ r. is_in_force r.told ≡ true };
 }
 
 impl<J: Imprint> Reader<J> {
     /// A reader at this place, which has read nothing and was told of the entries of this
-    /// beginning.
+    /// beginning, whose last draft is in force. Were the last one a refused draft, it would be lost
+    /// until the next publication.
     pub(crate) fn new(place: Place<J>, told: Front<J>) -> Reader<J>
+        requires { is_in_force told ≡ true }
         ensures list { result.list ≡ view place.place }
         ensures told { result.told ≡ generations told }
     {

@@ -13,21 +13,25 @@ pub struct Told<J: Imprint> {
 }
 
 impl<J: Imprint> Model for Told<J> {
-    ghost use Rattle.std.specs.Prelude.{List};
+    ghost use Rattle.std.specs.Prelude.{◌≡◌, List, true};
     ghost use Rattle.command_reader.specs.declared.commands.Command.{Command};
-    ghost use Rattle.publisher.specs.History.{generations};
+    ghost use Rattle.publisher.specs.History.{generations, is_in_force};
 
     ghost Value = { List (List Command) };
 
     ghost view = { λ t. generations t.front };
+
+    ghost invariant = { λ t. is_in_force t.front ≡ true };
 }
 
 impl<J: Imprint> Told<J> {
-    ghost use Rattle.std.specs.Prelude.{◌≡◌};
-    ghost use Rattle.publisher.specs.History.{generations};
+    ghost use Rattle.std.specs.Prelude.{◌≡◌, true};
+    ghost use Rattle.publisher.specs.History.{generations, is_in_force};
 
-    /// Tells of the entries of this beginning.
+    /// Tells of the entries of this beginning, whose last draft is in force. Of a draft that was
+    /// refused nothing is told: its reader would be lost.
     pub(crate) fn new(front: Front<J>) -> Told<J>
+        requires { is_in_force front ≡ true }
         ensures { result ≡ generations front }
     {
         Told { front }
@@ -35,7 +39,8 @@ impl<J: Imprint> Told<J> {
 
     /// The beginning that it tells of.
     pub(crate) fn into_front(self) -> Front<J>
-        ensures { generations result ≡ self }
+        ensures list { generations result ≡ self }
+        ensures in_force { is_in_force result ≡ true }
     {
         let Told { front } = self;
         front

@@ -5,7 +5,7 @@ ghost use Rattle.std.specs.Prelude.{◌≡◌, ◌+◌, ◌<◌, ◌≤◌, leng
 use command_reader::read;
 use compiler::{Plan, Tables, ZoneNo};
 use gk_terms::{Dialled, Version};
-use publisher::{Blank, Imprint, NewFault, Publisher, Reader, ReaderFault};
+use publisher::{Blank, Imprint, Lost, NewFault, Publisher, ReadFault, Reader, ReaderFault};
 use std::alloc::Global;
 use std::marker::Brand;
 use std::process::Abort;
@@ -13,7 +13,8 @@ use std::sync::{Arc, Wait};
 use std::test::Fail;
 
 /// Numbers that begin with 1 go to zone 1.
-const TO_ONE: &str = "zone local a d\nzone remote x d 10.9.0.1\nzone remote y d 10.9.0.2\n\
+pub(crate) const TO_ONE: &str =
+    "zone local a d\nzone remote x d 10.9.0.1\nzone remote y d 10.9.0.2\n\
     zone prefix x 1*\n";
 
 /// Numbers that begin with 1 go to zone 2.
@@ -21,7 +22,7 @@ const TO_TWO: &str = "zone local a d\nzone remote x d 10.9.0.1\nzone remote y d 
     zone prefix y 1*\n";
 
 /// The tables of a configuration.
-fn tables_of(
+pub(crate) fn tables_of(
     rt: &impl Abort,
     alloc: Global,
     configuration: &str,
@@ -132,16 +133,33 @@ fn told_is_read<J: Imprint, R: Wait + Abort>(
     let zones = (zone_of(rt, &mut reader), zone_of(rt, &mut reader));
     let read = read_of(rt, &mut reader);
     publisher.close(rt);
-    let after = reader.version().is_err();
+    let after = refusals_of(rt, &mut reader);
     assert_eq!(rt; published.ok(), Some(Version::new(2)));
     assert_eq!(rt; read, Some((Version::new(2), to(2))));
     assert_eq!(rt; zones, (Some((2, 2)), Some((2, 2))));
-    assert!(rt; after);
+    assert_eq!(rt; after, (Some(Lost), Some(ReadFault::Lost), Some(Lost)));
     Ok(())
 }
 
+/// Why a reader doesn't tell the version, the tables and a route, if it doesn't.
+fn refusals_of<J: Imprint, R: Abort>(
+    rt: &R,
+    reader: &mut Reader<J>,
+) -> (Option<Lost>, Option<ReadFault>, Option<Lost>) {
+    let Ok(digits) = Dialled::read(b"12") else {
+        panic!(rt; "no digits");
+    };
+    let version = reader.version().err();
+    let read = match reader.read() {
+        Ok(_) => None,
+        Err(fault) => Some(fault),
+    };
+    let route = reader.route(&digits).err();
+    (version, read, route)
+}
+
 /// The version in force, and the number of the zone to which it leads 12.
-fn zone_of<J: Imprint, R: Abort>(rt: &R, reader: &mut Reader<J>) -> Option<(u32, u32)> {
+pub(crate) fn zone_of<J: Imprint, R: Abort>(rt: &R, reader: &mut Reader<J>) -> Option<(u32, u32)> {
     let Ok(digits) = Dialled::read(b"12") else {
         panic!(rt; "no digits");
     };
@@ -254,24 +272,42 @@ pub(crate) fn to(zone: u32) -> Plan {
 fn a_refused_publication_leaves_the_list(rt: HostRuntime) -> Result<(), Fail> {
     let tables = both(&rt, rt.alloc())?;
     let first = Arc::try_clone(&tables.0)?;
-    refusals_leave_the_list::<Brand, _>(&rt, rt.alloc(), Blank::new(), first, &tables)
+    let last = four_published::<Brand, _>(&rt, rt.alloc(), Blank::new(), first, &tables);
+    if let Some(last) = last {
+        assert!(rt; last >= 4, "refused more than once: {last}");
+    }
+    Ok(())
 }
 
-/// If memory is refused at some growth, the next publication has the number that the refused one
-/// would have had. The test takes memory 49 times, and `rt try --test --fail-alloc N --
-/// a_refused_publication` refuses the N-th: 41 to 48 are the growths of `new`, and 49 is that of
+/// That no publication is refused, which `--fail-alloc 49` denies: so the N at which the test above
+/// has one refused is known to be right.
+#[test]
+fn no_publication_is_refused(rt: HostRuntime) -> Result<(), Fail> {
+    let tables = both(&rt, rt.alloc())?;
+    let first = Arc::try_clone(&tables.0)?;
+    let last = four_published::<Brand, _>(&rt, rt.alloc(), Blank::new(), first, &tables);
+    if let Some(last) = last {
+        assert!(rt; last == 5, "one was refused: {last}");
+    }
+    Ok(())
+}
+
+/// The last version, none if the publisher was refused. If memory is refused at some growth, the
+/// next publication has the number that the refused one would have had, and a reader that is made
+/// after it reads what is in force. This takes memory 49 times, and `rt try --test --fail-alloc N
+/// -- a_refused_publication` refuses the N-th: 41 to 48 are the growths of `new`, and 49 is that of
 /// the first publication, the only one that grows, since the others find the room that it made.
-fn refusals_leave_the_list<J: Imprint, R: Wait + Abort>(
+fn four_published<J: Imprint, R: Wait + Abort>(
     rt: &R,
     alloc: Global,
     blank: Blank,
     first: Arc<Tables, Global>,
     tables: &(Arc<Tables, Global>, Arc<Tables, Global>),
-) -> Result<(), Fail>
+) -> Option<u32>
     requires { blank ≡ J.book }
 {
-    let Ok(mut publisher) = Publisher::<J>::new(alloc, blank, first, 1) else {
-        return Ok(());
+    let Ok(mut publisher) = Publisher::<J>::new(alloc, blank, first, 2) else {
+        return None;
     };
     let reader = publisher.reader();
     let Ok(mut reader) = reader else {
@@ -279,12 +315,18 @@ fn refusals_leave_the_list<J: Imprint, R: Wait + Abort>(
         panic!(rt; "no reader");
     };
     let a = published_next(rt, &mut publisher, &mut reader, &tables.1, (1, 1), 2);
+    let second = publisher.reader();
+    let Ok(mut second) = second else {
+        publisher.close(rt);
+        panic!(rt; "no second reader");
+    };
+    let seen = zone_of(rt, &mut second);
     let b = published_next(rt, &mut publisher, &mut reader, &tables.0, a, 1);
     let c = published_next(rt, &mut publisher, &mut reader, &tables.1, b, 2);
     let d = published_next(rt, &mut publisher, &mut reader, &tables.0, c, 1);
     publisher.close(rt);
-    assert!(rt; d.0 >= 4, "refused more than once: {}", d.0);
-    Ok(())
+    assert_eq!(rt; seen, Some(a));
+    Some(d.0)
 }
 
 /// Publishes tables that lead to this zone. What is then in force, version and zone: the next

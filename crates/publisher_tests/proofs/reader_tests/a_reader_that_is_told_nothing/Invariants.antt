@@ -1,0 +1,5 @@
+use Rattle.publisher_tests.proofs.reader_tests.a_reader_that_is_told_nothing.Given as goal
+
+-- the history that was just opened
+abbrev pub ghosts-read_untold : goal.ghosts-read_untold
+ghosts-read_untold g a = record { book = a.blank }
