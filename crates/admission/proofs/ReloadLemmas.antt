@@ -1,6 +1,6 @@
 -- The tables in force, as a record finds them.
 use Rattle.std.proofs.Common.{◌≡◌, ◌≤◌, ℕ, List, [], ◌∷◌, ◌++◌, length, slice_get, refl, sym, ap, ◌∙◌, arith}
-use Rattle.std.specs.Prelude.{Option, Some, None, is_some, if◌then◌else◌}
+use Rattle.std.specs.Prelude.{Option, Some, None}
 use Rattle.std.specs.Option.{option_and_then, option_map}
 use Rattle.std.proofs.lemmas.Option.{none-some, same_Some, slice_get_past}
 use Rattle.command_reader.specs.declared.commands.Command.{Command}
@@ -9,13 +9,13 @@ use Rattle.admission.specs.Events.{PlainEvent, put_in_force, endpoint_asking}
 use Rattle.admission.specs.History.{PlainEntry, in_force_after, in_force_of}
 use Rattle.admission.specs.Slots.{entry_meant, registration_meant, register_entry}
 use Rattle.pieces.specs.Pieces.{PiecesParts}
-use Rattle.admission.specs.RecordIndex.{plain_whole, put_by_whole, entries_told, in_force_at, IsStored, LastReloadIsAt}
+use Rattle.admission.specs.Reloads.{ReloadsParts}
+use Rattle.admission.specs.RecordIndex.{entries_told, IsStored, IsLastReload}
 use Rattle.admission.specs.declared.events.Event.{Event}
 use Rattle.admission.specs.declared.record.WholeEntry.{WholeEntry}
 use Rattle.admission.specs.declared.slots.ShortReply.{ShortReply}
 use Rattle.admission.specs.declared.slots.Slot.{Slot}
 use Rattle.admission.specs.declared.slots.Slot.TheVariants as slot
-use Rattle.admission.proofs.ToldLemmas.{still_told, next_is}
 
 -- ---- one entry more
 pub in_force_more : (commands : List Command) (entries : List PlainEntry) (e : PlainEntry)
@@ -25,44 +25,23 @@ in_force_more commands [] e = refl
 in_force_more commands (f ∷ entries) e =
     in_force_more (in_force_after commands (put_in_force f.event)) entries e
 
-module _ (opening : List Command) (aside : List WholeEntry) (entries : List PlainEntry)
-    (last : Option ℕ) (at : LastReloadIsAt opening aside entries last) where
+module _ (opening : List Command) (last : Option (List Command)) (entries : List PlainEntry)
+    (at : IsLastReload opening last entries) where
   -- that puts no commands in force
   pub none_more : (e : PlainEntry) → put_in_force e.event ≡ None
-      → LastReloadIsAt opening aside (entries ++ e ∷ []) last
+      → IsLastReload opening last (entries ++ e ∷ [])
   none_more e none =
       at
-      ∙ ap Some (sym (in_force_more opening entries e
-      ∙ ap (in_force_after (in_force_of opening entries)) none))
+      ∙ sym (in_force_more opening entries e
+      ∙ ap (in_force_after (in_force_of opening entries)) none)
 
-  -- the place of the last reload stays if there are more whole entries
-  stays : (more : List WholeEntry)
-      → in_force_at opening (aside ++ more) last ≡ Some (in_force_of opening entries)
-  stays more = by last at
-    where
-      by : (place : Option ℕ) → in_force_at opening aside place ≡ Some (in_force_of opening entries)
-          → in_force_at opening (aside ++ more) place ≡ Some (in_force_of opening entries)
-      by None h = h
-      by (Some place) h = still_told put_by_whole aside more place _ h
-
-  -- an entry that stands whole
-  pub whole_more : (whole : WholeEntry) (place : ℕ) → place ≡ length aside
-      → LastReloadIsAt opening (aside ++ whole ∷ []) (entries ++ plain_whole whole ∷ [])
-      (if is_some (put_by_whole whole) then Some place else last)
-  whole_more whole place counted = by (put_by_whole whole) refl
-    where
-      by : (put : Option (List Command)) → put_by_whole whole ≡ put
-          → in_force_at opening (aside ++ whole ∷ [])
-          (if is_some put then Some place else last)
-          ≡ Some (in_force_of opening (entries ++ plain_whole whole ∷ []))
-      by None none =
-          stays (whole ∷ [])
-          ∙ ap Some (sym (in_force_more opening entries (plain_whole whole)
-          ∙ ap (in_force_after (in_force_of opening entries)) none))
-      by (Some commands) puts =
-          ap (option_and_then put_by_whole) (next_is aside whole place counted) ∙ puts
-          ∙ ap Some (sym (in_force_more opening entries (plain_whole whole)
-          ∙ ap (in_force_after (in_force_of opening entries)) puts))
+-- that puts these commands in force
+pub reload_more : (opening : List Command) (entries : List PlainEntry) (e : PlainEntry)
+    (commands : List Command) → put_in_force e.event ≡ Some commands
+    → IsLastReload opening (Some commands) (entries ++ e ∷ [])
+reload_more opening entries e commands puts =
+    sym (in_force_more opening entries e
+    ∙ ap (in_force_after (in_force_of opening entries)) puts)
 
 -- ---- entries that put no commands in force
 nothing_there : {X : Type 0} (xs : List X) (place : ℕ) → xs ≡ [] → slice_get xs place ≡ None
@@ -84,7 +63,7 @@ registration_puts_none replied event e h = by (endpoint_asking event) h
     by (Some endpoint) h = puts_as (register_entry replied endpoint) e h refl
 
 -- of a slot
-pub slot_puts_none : (s : Slot) (e : PlainEntry) → entry_meant [] [] s ≡ Some e
+pub slot_puts_none : (s : Slot) (e : PlainEntry) → entry_meant [] [] [] s ≡ Some e
     → put_in_force e.event ≡ None
 slot_puts_none (slot.Admitted call units id digits zone to at) e h = puts_as _ e h refl
 slot_puts_none (slot.OverLimit call units id digits zone to at over) e h = puts_as _ e h refl
@@ -96,32 +75,41 @@ slot_puts_none (slot.Registration place replied) e h =
     absurd (none-some e
     (sym (ap (option_and_then (registration_meant replied)) (nothing_there [] place refl)) ∙ h))
 slot_puts_none (slot.Aside place) e h = absurd (none-some e (sym (nothing_there [] place refl) ∙ h))
+slot_puts_none (slot.Reload place) e h =
+    absurd (none-some e (sym (nothing_there [] place refl) ∙ h))
 
 -- ---- more room
 -- lists that hold the same, with room for so many, are stored and found alike
 module _ (slots more_slots : PiecesParts Slot) (aside more_aside : PiecesParts WholeEntry)
-    (events more_events : PiecesParts Event)
+    (events more_events : PiecesParts Event) (reloads more_reloads : ReloadsParts)
     (same_slots : more_slots.items ≡ slots.items) (same_aside : more_aside.items ≡ aside.items)
-    (same_events : more_events.items ≡ events.items) where
-  pub told_alike : entries_told more_slots more_aside more_events ≡ entries_told slots aside events
-  told_alike = rw (same_slots, same_aside, same_events) refl
+    (same_events : more_events.items ≡ events.items)
+    (same_reloads : more_reloads.entries ≡ reloads.entries) where
+  pub told_alike : entries_told more_slots more_aside more_events more_reloads
+      ≡ entries_told slots aside events reloads
+  told_alike = rw (same_slots, same_aside, same_events, same_reloads) refl
 
   pub stored_alike : (kept places : ℕ)
-      → IsStored slots aside events (entries_told slots aside events) kept
+      → IsStored slots aside events reloads (entries_told slots aside events reloads) kept
       → places ≤ more_slots.room → places ≤ more_aside.room → places ≤ more_events.room
-      → IsStored more_slots more_aside more_events
-      (entries_told more_slots more_aside more_events) places
-  stored_alike kept places stored room room_aside room_events = record {
-    meant = rw (same_slots, same_aside, same_events) stored.meant;
-    few_aside = rw (same_slots, same_aside, same_events) stored.few_aside;
-    few_registrations = rw (same_slots, same_aside, same_events) stored.few_registrations;
+      → places ≤ more_reloads.room
+      → IsStored more_slots more_aside more_events more_reloads
+      (entries_told more_slots more_aside more_events more_reloads) places
+  stored_alike kept places stored room room_aside room_events room_reloads = record {
+    meant = rw (same_slots, same_aside, same_events, same_reloads) stored.meant;
+    few_aside = rw (same_slots, same_aside, same_events, same_reloads) stored.few_aside;
+    few_registrations =
+        rw (same_slots, same_aside, same_events, same_reloads) stored.few_registrations;
+    few_reloads = rw (same_slots, same_aside, same_events, same_reloads) stored.few_reloads;
     room = room;
     room_aside = room_aside;
     room_registrations = room_events;
+    room_reloads = room_reloads;
   }
 
-  pub last_alike : (opening : List Command) (last : Option ℕ)
-      → LastReloadIsAt opening aside.items (entries_told slots aside events) last
-      → LastReloadIsAt opening more_aside.items
-      (entries_told more_slots more_aside more_events) last
-  last_alike opening last at = rw (same_slots, same_aside, same_events) at
+  pub last_alike : (opening : List Command) → more_reloads.last ≡ reloads.last
+      → IsLastReload opening reloads.last (entries_told slots aside events reloads)
+      → IsLastReload opening more_reloads.last
+      (entries_told more_slots more_aside more_events more_reloads)
+  last_alike opening same_last at =
+      rw (same_last, same_slots, same_aside, same_events, same_reloads) at

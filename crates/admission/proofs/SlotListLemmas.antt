@@ -35,6 +35,7 @@ module _ (routed : List RoutedAdmission) (refused : List RefusedAdmission)
   with_routed more (place_of.Brief place) s h = h
   with_routed more (place_of.Registered place) s h = h
   with_routed more (place_of.Aside place) s h = h
+  with_routed more (place_of.Reload place) s h = h
 
   with_refused : (more : List RefusedAdmission)
       → TellsAlso (place_meant routed refused brief) (place_meant routed (refused ++ more) brief)
@@ -48,6 +49,7 @@ module _ (routed : List RoutedAdmission) (refused : List RefusedAdmission)
   with_refused more (place_of.Brief place) s h = h
   with_refused more (place_of.Registered place) s h = h
   with_refused more (place_of.Aside place) s h = h
+  with_refused more (place_of.Reload place) s h = h
 
   with_brief : (more : List BriefSlot)
       → TellsAlso (place_meant routed refused brief) (place_meant routed refused (brief ++ more))
@@ -61,6 +63,7 @@ module _ (routed : List RoutedAdmission) (refused : List RefusedAdmission)
       still_made brief_slot brief more place s h
   with_brief more (place_of.Registered place) s h = h
   with_brief more (place_of.Aside place) s h = h
+  with_brief more (place_of.Reload place) s h = h
 
   -- and what it means with none of any kind
   alone_meant : (p : SlotPlace) (s : Slot) → place_meant [] [] [] p ≡ Some s
@@ -81,6 +84,7 @@ module _ (routed : List RoutedAdmission) (refused : List RefusedAdmission)
       still_made brief_slot [] brief place s h
   alone_meant (place_of.Registered place) s h = h
   alone_meant (place_of.Aside place) s h = h
+  alone_meant (place_of.Reload place) s h = h
 
   -- that of an admission which was refused for a limit
   over_meant : (over : ShortOver) (place : ℕ)

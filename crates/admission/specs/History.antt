@@ -3,13 +3,15 @@ use Rattle.std.specs.Prelude.{◌≡◌, ◌⊎◌, ℕ, ◌+◌, ◌-◌, ◌==
 use Rattle.std.specs.Cow.{cow_value}
 use Rattle.command_reader.specs.declared.commands.Command.{Command}
 use Rattle.admission.specs.State.{State}
-use Rattle.admission.specs.Events.{PlainEvent, plain, kind_of, id_of, call_number_of, put_in_force}
+use Rattle.admission.specs.Events.{PlainEvent, Reloading, plain, kind_of, id_of, call_number_of, put_in_force}
 use Rattle.admission.specs.Ruling.{ruling_of}
 use Rattle.admission.specs.Step.{step, no_memory_reply_of}
 use Rattle.admission.specs.declared.rulings.Ruling.{Ruling}
 use Rattle.admission.specs.declared.replies.Reply.{Reply}
 use Rattle.admission.specs.declared.routes.Route.{Route}
 use Rattle.admission.specs.declared.record.Entry.{Entry}
+use Rattle.admission.specs.declared.record.EntryEvent.{EntryEvent}
+use Rattle.admission.specs.declared.record.EntryEvent.TheVariants as in_entry
 use Rattle.admission.specs.declared.record.Receipt.{Receipt}
 
 -- ---- entries
@@ -20,10 +22,15 @@ pub record PlainEntry : Type 0 where
   pub zone : Option (List ℕ)
   pub route : Option Route
 
+-- the values of its event
+abbrev pub event_in : EntryEvent → PlainEvent
+event_in (in_entry.Asked event) = plain (cow_value event)
+event_in (in_entry.Reload commands) = Reloading commands.now.commands
+
 -- the values of an entry
 abbrev pub plain_entry : Entry → PlainEntry
 plain_entry e =
-    record { event = plain (cow_value e.event); reply = e.reply; zone = e.zone; route = e.route }
+    record { event = event_in e.event; reply = e.reply; zone = e.zone; route = e.route }
 
 -- what is recorded of an event on which this was ruled
 abbrev pub entry_by : PlainEvent → Ruling → PlainEntry

@@ -6,6 +6,7 @@ pub mod HistoryLaws
 pub mod Limits
 pub mod RecordIndex
 pub mod Refusals
+pub mod Reloads
 pub mod RouteLaws
 pub mod Routes
 pub mod Routing

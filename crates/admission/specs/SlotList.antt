@@ -55,6 +55,7 @@ place_meant routed refused brief (place_of.Brief place) =
 place_meant routed refused brief (place_of.Registered place) =
     Some (slot.Registration place short_reply.Granted)
 place_meant routed refused brief (place_of.Aside place) = Some (slot.Aside place)
+place_meant routed refused brief (place_of.Reload place) = Some (slot.Reload place)
 
 -- the place of an admission that is refused for a limit
 abbrev pub over_place : ShortOver → ℕ → SlotPlace

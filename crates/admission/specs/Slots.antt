@@ -91,26 +91,29 @@ register_entry replied endpoint =
 abbrev pub registration_meant : ShortReply → PlainEvent → Option PlainEntry
 registration_meant replied event = option_map (register_entry replied) (endpoint_asking event)
 
--- of a slot; these are the entries that stand whole, and the events of registrations
-abbrev pub entry_meant : List PlainEntry → List PlainEvent → Slot → Option PlainEntry
-entry_meant aside registrations (slot.Admitted call units id digits zone destination address) =
+-- of a slot; these are the entries that stand whole, the events of registrations, and the entries of
+-- reloads
+abbrev pub entry_meant
+    : List PlainEntry → List PlainEvent → List PlainEntry → Slot → Option PlainEntry
+entry_meant aside registrations reloads (slot.Admitted call units id digits zone destination address) =
     Some (routed_entry (record { call = call; units = units; id = id; digits = digits }) zone
     (destination_meant destination address)
     (reply.Admitted call (destination_meant destination address) units))
-entry_meant aside registrations
+entry_meant aside registrations reloads
     (slot.OverLimit call units id digits zone destination address over) =
     Some (routed_entry (record { call = call; units = units; id = id; digits = digits }) zone
     (destination_meant destination address)
     (reply.AdmitRefused call (admit.OverLimit (over_meant over zone))))
-entry_meant aside registrations (slot.Refused call units id digits cause) =
+entry_meant aside registrations reloads (slot.Refused call units id digits cause) =
     Some (admission_entry (record { call = call; units = units; id = id; digits = digits })
     (reply.AdmitRefused call (reason_meant cause)) (zone_meant cause) (route_meant cause))
-entry_meant aside registrations (slot.Change id call units) =
+entry_meant aside registrations reloads (slot.Change id call units) =
     Some (other_entry (Changing id call units) (reply.Changed call units))
-entry_meant aside registrations (slot.Release id call) =
+entry_meant aside registrations reloads (slot.Release id call) =
     Some (other_entry (Releasing id call) (reply.Released call))
-entry_meant aside registrations (slot.Unregistration id) =
+entry_meant aside registrations reloads (slot.Unregistration id) =
     Some (other_entry (Unregistering id) (reply.Unregistered id))
-entry_meant aside registrations (slot.Registration place replied) =
+entry_meant aside registrations reloads (slot.Registration place replied) =
     option_and_then (registration_meant replied) (slice_get registrations place)
-entry_meant aside registrations (slot.Aside place) = slice_get aside place
+entry_meant aside registrations reloads (slot.Aside place) = slice_get aside place
+entry_meant aside registrations reloads (slot.Reload place) = slice_get reloads place

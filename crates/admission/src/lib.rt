@@ -11,6 +11,7 @@ mod machine;
 mod packing;
 pub mod record;
 mod registering;
+mod reloads;
 pub mod replies;
 pub mod routes;
 pub mod routing;
@@ -25,7 +26,7 @@ mod verdicts;
 pub use cores::{Core, OpeningFault};
 pub use events::{Event, EventKind};
 pub use limits::{Limits, STATED_LIMITS};
-pub use record::{Entry, Receipt, Record};
+pub use record::{Entry, EntryEvent, Receipt, Record};
 pub use registry::Duplicate;
 pub use replies::{
     AdmitRefusal, ChangeRefusal, RegisterRefusal, ReleaseRefusal, ReloadRefusal, Reply,

@@ -20,7 +20,7 @@ impl Slot {
     /// What was ruled on the event, in few bytes if it can be.
     #[inline(never)]
     pub(crate) fn of(event: &Event, ruling: &Ruling) -> Option<Slot>
-        ensures { IfSome result (λ slot. Spec.entry_meant [] [] slot
+        ensures { IfSome result (λ slot. Spec.entry_meant [] [] [] slot
             ≡ Some (entry_by (plain event.now) ruling.now)) }
     {
         match event {
@@ -81,7 +81,7 @@ fn registration(endpoint: &Endpoint, ruling: &Ruling) -> Option<ShortReply>
 
 /// The slot of a granted unregistration.
 fn unregistration(id: &Name, ruling: &Ruling) -> Option<Slot>
-    ensures { IfSome result (λ slot. Spec.entry_meant [] [] slot
+    ensures { IfSome result (λ slot. Spec.entry_meant [] [] [] slot
         ≡ Some (entry_by (Unregistering id.now) ruling.now)) }
 {
     if ruling.tells_of_an_admission() {
@@ -98,7 +98,7 @@ fn unregistration(id: &Name, ruling: &Ruling) -> Option<Slot>
 
 /// The slot of a granted bandwidth change.
 fn change(id: &Name, call: u32, units: Units, ruling: &Ruling) -> Option<Slot>
-    ensures { IfSome result (λ slot. Spec.entry_meant [] [] slot
+    ensures { IfSome result (λ slot. Spec.entry_meant [] [] [] slot
         ≡ Some (entry_by (Changing id.now call units) ruling.now)) }
 {
     if ruling.tells_of_an_admission() {
@@ -118,7 +118,7 @@ fn change(id: &Name, call: u32, units: Units, ruling: &Ruling) -> Option<Slot>
 
 /// The slot of a granted release.
 fn release(id: &Name, call: u32, ruling: &Ruling) -> Option<Slot>
-    ensures { IfSome result (λ slot. Spec.entry_meant [] [] slot
+    ensures { IfSome result (λ slot. Spec.entry_meant [] [] [] slot
         ≡ Some (entry_by (Releasing id.now call) ruling.now)) }
 {
     if ruling.tells_of_an_admission() {
@@ -135,7 +135,7 @@ fn release(id: &Name, call: u32, ruling: &Ruling) -> Option<Slot>
 
 /// The slot of an admission.
 fn admission(id: &Name, call: u32, digits: &Dialled, units: Units, ruling: &Ruling) -> Option<Slot>
-    ensures { IfSome result (λ slot. Spec.entry_meant [] [] slot
+    ensures { IfSome result (λ slot. Spec.entry_meant [] [] [] slot
         ≡ Some (entry_by (Admitting id.now call digits.now units) ruling.now)) }
 {
     let asked = Asked::new(call, units, ShortName::of(id)?, PackedDigits::of(digits));
@@ -156,7 +156,7 @@ fn admission(id: &Name, call: u32, digits: &Dialled, units: Units, ruling: &Ruli
 impl Asked {
     /// The slot if the caller is not registered.
     fn by_a_stranger(&self, verdict: &Reply) -> Option<Slot>
-        ensures { IfSome result (λ slot. Spec.entry_meant [] [] slot
+        ensures { IfSome result (λ slot. Spec.entry_meant [] [] [] slot
             ≡ Some (Spec.admission_entry self.now verdict.now None None)) }
     {
         match verdict {
@@ -170,7 +170,7 @@ impl Asked {
 
     /// The slot if a call of the number is open.
     fn of_an_open_call(&self, zone: ShortName, verdict: &Reply) -> Option<Slot>
-        ensures { IfSome result (λ slot. Spec.entry_meant [] [] slot
+        ensures { IfSome result (λ slot. Spec.entry_meant [] [] [] slot
             ≡ Some (Spec.admission_entry self.now verdict.now (Some zone) None)) }
     {
         match verdict {
@@ -189,7 +189,7 @@ impl Asked {
         refusal: RouteRefusal,
         verdict: &Reply,
     ) -> Option<Slot>
-        ensures { IfSome result (λ slot. Spec.entry_meant [] [] slot
+        ensures { IfSome result (λ slot. Spec.entry_meant [] [] [] slot
             ≡ Some (Spec.admission_entry self.now verdict.now (Some zone)
             (Some (route.Refused refusal)))) }
     {
@@ -206,7 +206,7 @@ impl Asked {
 
     /// The slot of an admission that leads to no destination.
     fn refused(&self, cause: Unrouted) -> Slot
-        ensures { Spec.entry_meant [] [] result ≡ Some (Spec.admission_entry self.now
+        ensures { Spec.entry_meant [] [] [] result ≡ Some (Spec.admission_entry self.now
             (Reply.AdmitRefused self.now.call (Spec.reason_meant cause))
             (Spec.zone_meant cause) (Spec.route_meant cause)) }
     {
@@ -226,7 +226,7 @@ impl Asked {
         destination: &Destination,
         verdict: &Reply,
     ) -> Option<Slot>
-        ensures { IfSome result (λ slot. Spec.entry_meant [] [] slot
+        ensures { IfSome result (λ slot. Spec.entry_meant [] [] [] slot
             ≡ Some (Spec.routed_entry self.now zone destination.now verdict.now)) }
     {
         let (short, address) = short_destination(destination)?;
@@ -253,7 +253,7 @@ impl Asked {
 
     /// The slot of a granted admission.
     fn admitted(&self, zone: ShortName, destination: ShortDestination, address: Address) -> Slot
-        ensures { Spec.entry_meant [] [] result ≡ Some (Spec.routed_entry self.now zone
+        ensures { Spec.entry_meant [] [] [] result ≡ Some (Spec.routed_entry self.now zone
             (Spec.destination_meant destination address)
             (Reply.Admitted self.now.call (Spec.destination_meant destination address)
             self.now.units)) }
@@ -277,7 +277,7 @@ impl Asked {
         address: Address,
         over: ShortOver,
     ) -> Slot
-        ensures { Spec.entry_meant [] [] result ≡ Some (Spec.routed_entry self.now zone
+        ensures { Spec.entry_meant [] [] [] result ≡ Some (Spec.routed_entry self.now zone
             (Spec.destination_meant destination address)
             (Reply.AdmitRefused self.now.call
             (AdmitRefusal.OverLimit (Spec.over_meant over zone)))) }

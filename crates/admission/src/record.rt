@@ -1,21 +1,24 @@
 //! The record: what was asked, and what was replied.
 
-ghost use Rattle.std.specs.Prelude.{◌≡◌, ◌↔◌, ◌<◌, ◌≤◌, ◌+◌, ◌-◌, ◌^◌, ◌++◌, ◌∷◌, [], true, length, take, slice_get, OnOk, OnErr, IfErr, IfNone, IfSome, IsSome, is_some, Some, map, option_map, if◌then◌else◌};
+ghost use Rattle.std.specs.Prelude.{◌≡◌, ◌↔◌, ◌<◌, ◌≤◌, ◌+◌, ◌-◌, ◌^◌, ◌++◌, ◌∷◌, [], true, length, take, slice_get, OnOk, OnErr, IfErr, IfNone, IfSome, IsSome, Some, None, option_map, MatchResult};
 ghost use Rattle.std.specs.List.{All, cons_option};
 ghost use Rattle.std.specs.Option.{option_and_then};
-ghost use Rattle.admission.specs.Events.{plain};
+ghost use Rattle.admission.specs.Events.{plain, put_in_force, Reloading};
+ghost use Rattle.admission.specs.Reloads.{plain_last};
 ghost use Rattle.admission.specs.Slots.{entry_meant, other_entry, registration_meant};
-ghost use Rattle.admission.specs.RecordIndex.{slot_meant, plain_whole, put_by_whole, IsRoomier};
+ghost use Rattle.admission.specs.RecordIndex.{slot_meant, plain_whole, IsRoomier};
 ghost use Rattle.pieces.specs.declared.list.TheConstants.{PIECE_ITEMS};
 ghost use Rattle.std.specs.Arc.{arc_value};
 ghost use Rattle.admission.specs.History.{plain_entry, entry_by, entry_of_number, receipt_of, Stands, in_force};
 
 use crate::events::{Event, EventKind};
+use crate::reloads::{LastReload, Reloads};
 use crate::replies::Reply;
 use crate::routes::Route;
 use crate::rulings::Ruling;
 use crate::slot_list::SlotList;
 use crate::slots::{ShortReply, Slot};
+use command_reader::Commands;
 use compiler::Tables;
 use gk_terms::Name;
 use pieces::Pieces;
@@ -24,11 +27,21 @@ use std::borrow::Cow;
 use std::marker::Model;
 use std::sync::Arc;
 
+/// What was asked, as the record keeps it.
+#[derive(Drop)]
+pub enum EntryEvent<'a> {
+    /// Another event than a reload.
+    Asked(Cow<'a, Event>),
+    /// A reload of these commands. Their tables are let go as others are put in force, and a replay
+    /// compiles them again.
+    Reload(&'a Commands),
+}
+
 /// One recorded event with its reply.
 #[derive(Drop)]
 pub struct Entry<'a> {
     /// What was asked.
-    pub event: Cow<'a, Event>,
+    pub event: EntryEvent<'a>,
     /// What was replied.
     pub reply: Reply,
     /// Of an admission: the zone of the caller, if it was registered.
@@ -42,7 +55,16 @@ impl Entry<'_> {
     pub fn receipt(&self, number: u32) -> Receipt
         ensures { result ≡ receipt_of number (plain_entry self.now) }
     {
-        Receipt::of(number, &self.event, self.reply)
+        match &self.event {
+            EntryEvent::Asked(event) => Receipt::of(number, event, self.reply),
+            EntryEvent::Reload(_) => Receipt {
+                number,
+                kind: EventKind::Reload,
+                id: None,
+                call: None,
+                reply: self.reply,
+            },
+        }
     }
 }
 
@@ -56,35 +78,6 @@ pub(crate) struct WholeEntry {
 }
 
 impl WholeEntry {
-    /// The place of the last reload if this entry is put at a place after one at another.
-    fn last_reload(&self, place: u32, before: Option<u32>) -> Option<u32>
-        ensures { result ≡ (if is_some (put_by_whole self.now) then Some place else before) }
-    {
-        match &self.event {
-            Event::Reload(_) => Some(place),
-            Event::Register(_)
-            | Event::Unregister { .. }
-            | Event::Admit { .. }
-            | Event::Change { .. }
-            | Event::Release { .. } => before,
-        }
-    }
-
-    /// The tables that it put in force.
-    fn tables(&self) -> &Tables
-        requires { IsSome (put_by_whole self.now) }
-        ensures { put_by_whole self.now ≡ Some result.now.commands }
-    {
-        match &self.event {
-            Event::Reload(tables) => tables,
-            Event::Register(_)
-            | Event::Unregister { .. }
-            | Event::Admit { .. }
-            | Event::Change { .. }
-            | Event::Release { .. } => unreachable!(),
-        }
-    }
-
     /// The entry, with the event lent.
     pub(crate) fn lent(&self) -> Entry<'_>
         ensures { plain_entry result ≡ plain_whole self.now }
@@ -96,7 +89,7 @@ impl WholeEntry {
             route,
         } = self;
         Entry {
-            event: Cow::Borrowed(event),
+            event: EntryEvent::Asked(Cow::Borrowed(event)),
             reply: *reply,
             zone: *zone,
             route: *route,
@@ -161,40 +154,41 @@ impl Receipt {
 ///
 /// `slots` has one slot for each entry, in the bytes that its kind needs. The event of a
 /// registration stands in `registrations` if the reply names the ID and the zone as the event does,
-/// and its slot has its place there; any other entry that does not fit into a slot stands whole in
-/// `aside`, and its slot has its place there. All three grow piece by piece, so that no entry is
-/// ever moved, and each has room for every kept place.
+/// and its slot has its place there; the entry of a reload stands in `reloads`, and its slot has its
+/// place there; any other entry that does not fit into a slot stands whole in `aside`, and its slot
+/// has its place there. All four grow piece by piece, so that no entry but that of the last reload
+/// is ever moved, and each has room for every kept place.
 ///
-/// `opening` are the tables that were in force before the first entry. The entry of a reload stands
-/// whole, and owns its tables; `last_reload` is the place in `aside` of the last one, so that the
-/// tables in force are found at once, and the core needs no second owner of them.
+/// `opening` are the tables that were in force before the first entry. `reloads` owns the tables of
+/// the last reload, so that the tables in force are found at once, and the core needs no second
+/// owner of them.
 #[derive(Drop)]
 pub struct Record {
     opening: Arc<Tables>,
-    last_reload: Option<u32>,
     slots: SlotList,
     aside: Pieces<WholeEntry>,
     registrations: Pieces<Event>,
+    reloads: Reloads,
     kept: usize,
 }
 
 impl Model for Record {
     ghost use Rattle.std.specs.Arc.{arc_value};
     ghost use Rattle.admission.specs.History.{RecordParts};
-    ghost use Rattle.admission.specs.RecordIndex.{entries_told, IsStored, LastReloadIsAt};
+    ghost use Rattle.admission.specs.RecordIndex.{entries_told, IsStored, IsLastReload};
 
     ghost Value = { RecordParts };
 
     ghost view = { λ r. record {
       opening = (arc_value r.opening).commands;
-      entries = entries_told r.slots r.aside r.registrations;
+      entries = entries_told r.slots r.aside r.registrations r.reloads;
       kept = r.kept;
     } };
 
-    ghost invariant = { λ r. IsStored r.slots r.aside r.registrations
-        (entries_told r.slots r.aside r.registrations) r.kept
-        × LastReloadIsAt (arc_value r.opening).commands r.aside.items
-        (entries_told r.slots r.aside r.registrations) r.last_reload };
+    ghost invariant = { λ r. IsStored r.slots r.aside r.registrations r.reloads
+        (entries_told r.slots r.aside r.registrations r.reloads) r.kept
+        × IsLastReload (arc_value r.opening).commands r.reloads.last
+        (entries_told r.slots r.aside r.registrations r.reloads) };
 }
 
 impl Record {
@@ -205,10 +199,10 @@ impl Record {
     {
         Record {
             opening,
-            last_reload: None,
             slots: SlotList::new(alloc),
             aside: Pieces::new(alloc),
             registrations: Pieces::new(alloc),
+            reloads: Reloads::new(alloc),
             kept: 0,
         }
     }
@@ -223,12 +217,9 @@ impl Record {
     pub(crate) fn tables(&self) -> &Tables
         ensures { result.now.commands ≡ in_force self.now }
     {
-        match self.last_reload {
+        match self.reloads.tables() {
             None => &self.opening,
-            Some(place) => match self.aside.get(place as usize) {
-                Some(entry) => entry.tables(),
-                None => unreachable!(),
-            },
+            Some(tables) => tables,
         }
     }
 
@@ -251,7 +242,13 @@ impl Record {
     fn at(&self, place: usize) -> Option<Entry<'_>>
         ensures { option_map plain_entry result ≡ slice_get self.now.entries place }
     {
-        entry_at(&self.slots, &self.aside, &self.registrations, place)
+        entry_at(
+            &self.slots,
+            &self.aside,
+            &self.registrations,
+            &self.reloads,
+            place,
+        )
     }
 
     /// `Ok` if each receipt is that of the entry at its number; else the place, from 0, of the
@@ -313,6 +310,7 @@ impl Record {
             &mut self.slots,
             &mut self.aside,
             &mut self.registrations,
+            &mut self.reloads,
             kept,
         )?;
         self.kept = kept;
@@ -342,11 +340,27 @@ impl Record {
         }
     }
 
-    /// Puts an entry that does not fit into a slot at the end: a registration, or whole.
+    /// Puts an entry that does not fit into a slot at the end: a reload, a registration, or whole.
     #[inline(never)]
     fn push_event(&mut self, event: Event, ruling: &Ruling)
         requires kept { 1 ≤ self.old.kept }
         requires few { length self.old.entries < 2 ^ 32 }
+        ensures { self.new ≡ record self.old {
+          entries = self.old.entries ++ entry_by (plain event) ruling.now ∷ [];
+          kept = self.old.kept - 1;
+        } }
+    {
+        match tables_asked_for(event) {
+            Ok(tables) => self.push_reload(LastReload::new(tables, ruling)),
+            Err(event) => self.push_other(event, ruling),
+        }
+    }
+
+    /// Puts an entry at the end that is not of a reload: a registration, or whole.
+    fn push_other(&mut self, event: Event, ruling: &Ruling)
+        requires kept { 1 ≤ self.old.kept }
+        requires few { length self.old.entries < 2 ^ 32 }
+        requires other { put_in_force (plain event) ≡ None }
         ensures { self.new ≡ record self.old {
           entries = self.old.entries ++ entry_by (plain event) ruling.now ∷ [];
           kept = self.old.kept - 1;
@@ -365,9 +379,9 @@ impl Record {
     fn push_slot(&mut self, slot: &Slot)
         requires kept { 1 ≤ self.old.kept }
         requires few { length self.old.entries < 2 ^ 32 }
-        requires meant { IsSome (entry_meant [] [] slot.now) }
+        requires meant { IsSome (entry_meant [] [] [] slot.now) }
         ensures { self.new ≡ record self.old {
-          entries = self.old.entries ++ cons_option (entry_meant [] [] slot.now) [];
+          entries = self.old.entries ++ cons_option (entry_meant [] [] [] slot.now) [];
           kept = self.old.kept - 1;
         } }
     {
@@ -393,43 +407,88 @@ impl Record {
         self.kept -= 1;
     }
 
+    /// Puts a reload at the end of the list of reloads, and its place there into a slot.
+    fn push_reload(&mut self, reload: LastReload)
+        requires kept { 1 ≤ self.old.kept }
+        requires few { length self.old.entries < 2 ^ 32 }
+        ensures { self.new ≡ record self.old {
+          entries = self.old.entries ++ plain_last reload ∷ [];
+          kept = self.old.kept - 1;
+        } }
+    {
+        let place = self.reloads.len() as u32;
+        self.slots.push(&Slot::Reload { place });
+        self.reloads.push(reload);
+        self.kept -= 1;
+    }
+
     /// Puts an entry at the end of the list of whole entries, and its place there into a slot.
     fn push_whole(&mut self, entry: WholeEntry)
         requires kept { 1 ≤ self.old.kept }
         requires few { length self.old.entries < 2 ^ 32 }
+        requires other { put_in_force (plain_whole entry).event ≡ None }
         ensures { self.new ≡ record self.old {
           entries = self.old.entries ++ plain_whole entry ∷ [];
           kept = self.old.kept - 1;
         } }
     {
         let place = self.aside.len() as u32;
-        let last_reload = entry.last_reload(place, self.last_reload);
         self.slots.push(&Slot::Aside { place });
         self.aside.push(entry);
-        self.last_reload = last_reload;
         self.kept -= 1;
     }
 }
 
-/// Makes room in each of the three lists for this many further items. If memory runs out, they hold
+/// The tables, if the event is a reload; else the event.
+fn tables_asked_for(event: Event) -> Result<Arc<Tables>, Event>
+    ensures { MatchResult result
+        (λ tables. plain event ≡ Reloading (arc_value tables).commands)
+        (λ other. (other ≡ event) × (put_in_force (plain event) ≡ None)) }
+{
+    match event {
+        Event::Register(endpoint) => Err(Event::Register(endpoint)),
+        Event::Unregister { id } => Err(Event::Unregister { id }),
+        Event::Admit {
+            id,
+            call,
+            digits,
+            units,
+        } => Err(Event::Admit {
+            id,
+            call,
+            digits,
+            units,
+        }),
+        Event::Change { id, call, units } => Err(Event::Change { id, call, units }),
+        Event::Release { id, call } => Err(Event::Release { id, call }),
+        Event::Reload(tables) => Ok(tables),
+    }
+}
+
+/// Makes room in each of the four lists for this many further items. If memory runs out, they hold
 /// what they did.
 fn reserve_each(
     slots: &mut SlotList,
     aside: &mut Pieces<WholeEntry>,
     registrations: &mut Pieces<Event>,
+    reloads: &mut Reloads,
     places: usize,
 ) -> Result<(), AllocError>
     requires { (places ≤ slots.old.room + PIECE_ITEMS) × (places ≤ aside.old.room + PIECE_ITEMS)
-        × (places ≤ registrations.old.room + PIECE_ITEMS) }
+        × (places ≤ registrations.old.room + PIECE_ITEMS)
+        × (places ≤ reloads.old.room + PIECE_ITEMS) }
     ensures slots { IsRoomier slots.old slots.new }
     ensures aside { IsRoomier aside.old aside.new }
     ensures registrations { IsRoomier registrations.old registrations.new }
+    ensures reloads { (reloads.new.entries ≡ reloads.old.entries)
+        × (reloads.new.last ≡ reloads.old.last) × (reloads.old.room ≤ reloads.new.room) }
     ensures ok { OnOk result ((places ≤ slots.new.room) × (places ≤ aside.new.room)
-        × (places ≤ registrations.new.room)) }
+        × (places ≤ registrations.new.room) × (places ≤ reloads.new.room)) }
 {
     slots.reserve(places)?;
     aside.reserve(places)?;
-    registrations.reserve(places)
+    registrations.reserve(places)?;
+    reloads.reserve(places)
 }
 
 /// The entry of the slot at this place.
@@ -437,15 +496,16 @@ fn entry_at<'a>(
     slots: &SlotList,
     aside: &'a Pieces<WholeEntry>,
     registrations: &'a Pieces<Event>,
+    reloads: &'a Reloads,
     place: usize,
 ) -> Option<Entry<'a>>
-    ensures { option_map plain_entry result
-        ≡ option_and_then (slot_meant aside.now.items registrations.now.items)
+    ensures { option_map plain_entry result ≡ option_and_then
+        (slot_meant aside.now.items registrations.now.items reloads.now.entries)
         (slice_get slots.now.items place) }
 {
     match slots.get(place) {
         None => None,
-        Some(slot) => slot.entry(aside, registrations),
+        Some(slot) => slot.entry(aside, registrations, reloads),
     }
 }
 

@@ -19,8 +19,8 @@ use std::mem::size_of;
 /// The slots of a record in order. A contract sees them, and for how many further ones there is
 /// room without memory: the same as of one list of slots.
 ///
-/// `places` has a place of 8 bytes for each slot. That of a granted registration or of an entry
-/// that stands whole is the slot itself; any other says where the slot stands: in `routed` if it is
+/// `places` has a place of 8 bytes for each slot. That of a granted registration, of a reload or of
+/// an entry that stands whole is the slot itself; any other says where it stands: in `routed` if it is
 /// that of an admission that leads to a destination, and the place tells the verdict; in `refused`
 /// if the admission leads to none; and in `brief` if it is that of a granted change, release or
 /// unregistration, or of a refused registration. Each of the four lists has room for `room` further
@@ -191,6 +191,7 @@ impl SlotList {
                 }),
             },
             Slot::Aside { place } => self.push_place(SlotPlace::Aside { place: *place }),
+            Slot::Reload { place } => self.push_place(SlotPlace::Reload { place: *place }),
         }
     }
 

@@ -29,6 +29,8 @@ pub(crate) enum SlotPlace {
     Registered { place: u32 },
     /// It is that of an entry that stands whole at this place.
     Aside { place: u32 },
+    /// It is that of the reload at this place.
+    Reload { place: u32 },
 }
 
 impl SlotPlace {
@@ -80,6 +82,7 @@ impl SlotPlace {
                 replied: ShortReply::Granted,
             }),
             SlotPlace::Aside { place } => Some(Slot::Aside { place: *place }),
+            SlotPlace::Reload { place } => Some(Slot::Reload { place: *place }),
         }
     }
 }

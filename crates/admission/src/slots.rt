@@ -8,7 +8,8 @@ ghost use Rattle.admission.specs.RecordIndex.{slot_meant, plain_whole};
 ghost use Rattle.admission.specs.Slots as Spec;
 
 use crate::events::Event;
-use crate::record::{Entry, WholeEntry};
+use crate::record::{Entry, EntryEvent, WholeEntry};
+use crate::reloads::Reloads;
 use crate::replies::{AdmitRefusal, RegisterRefusal, Reply};
 use crate::routes::{Destination, Route, RouteRefusal};
 use bandwidth::Over;
@@ -59,7 +60,8 @@ pub(crate) enum ShortReply {
 
 /// An entry in few bytes: of most admissions whose names are short, and of a granted
 /// change, release or unregistration whose ID is; or the place of a registration in the list of
-/// registrations, or that of an entry that stands whole in the list of whole entries.
+/// registrations, that of a reload among the reloads, or that of an entry that stands whole in the
+/// list of whole entries.
 #[derive(Clone, Copy)]
 pub(crate) enum Slot {
     /// A granted admission.
@@ -114,6 +116,10 @@ pub(crate) enum Slot {
     },
     /// The place, from 0, of the entry in the list of whole entries.
     Aside {
+        place: u32,
+    },
+    /// The place, from 0, of a reload among the reloads.
+    Reload {
         place: u32,
     },
 }
@@ -212,14 +218,16 @@ impl Unrouted {
 }
 
 impl Slot {
-    /// The entry that the slot means, by the entries that stand whole and the registrations.
+    /// The entry that the slot means, by the entries that stand whole, the registrations and the
+    /// reloads.
     pub(crate) fn entry<'a>(
         &self,
         aside: &'a Pieces<WholeEntry>,
         registrations: &'a Pieces<Event>,
+        reloads: &'a Reloads,
     ) -> Option<Entry<'a>>
         ensures { option_map plain_entry result
-            ≡ slot_meant aside.now.items registrations.now.items self.now }
+            ≡ slot_meant aside.now.items registrations.now.items reloads.now.entries self.now }
     {
         match self {
             Slot::Admitted {
@@ -265,6 +273,7 @@ impl Slot {
                 registration_at(registrations, *place as usize, replied)
             }
             Slot::Aside { place } => whole_at(aside, *place as usize),
+            Slot::Reload { place } => reloads.get(*place as usize),
         }
     }
 }
@@ -294,7 +303,7 @@ impl ShortReply {
     {
         match event {
             Event::Register(endpoint) => Some(Entry {
-                event: Cow::Borrowed(event),
+                event: EntryEvent::Asked(Cow::Borrowed(event)),
                 reply: self.reply(endpoint),
                 zone: None,
                 route: None,
@@ -404,7 +413,7 @@ fn admission(
         units: asked.units,
     };
     Entry {
-        event: Cow::Owned(event),
+        event: EntryEvent::Asked(Cow::Owned(event)),
         reply,
         zone,
         route,
@@ -450,7 +459,7 @@ fn other(event: Event, reply: Reply) -> Entry<'static>
     ensures { plain_entry result ≡ Spec.other_entry (plain event) reply }
 {
     Entry {
-        event: Cow::Owned(event),
+        event: EntryEvent::Asked(Cow::Owned(event)),
         reply,
         zone: None,
         route: None,

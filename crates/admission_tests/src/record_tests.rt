@@ -4,7 +4,7 @@ use crate::test_cores::{admission, away, core_within, entry, five_events, receip
 use admission::cores::Core;
 use admission::events::{Event, EventKind};
 use admission::limits::STATED_LIMITS;
-use admission::record::{Entry, Receipt, Record};
+use admission::record::{Entry, EntryEvent, Receipt, Record};
 use admission::replies::{AdmitRefusal, ChangeRefusal, RegisterRefusal, Reply, UnregisterRefusal};
 use admission::routes::Route;
 use gk_terms::{Dialled, Name, Units};
@@ -416,9 +416,12 @@ fn assert_registration(
 
 /// The endpoint that asks to be registered.
 fn registering<'a>(entry: &'a Entry<'_>) -> Result<&'a Endpoint, Fail> {
-    match &*entry.event {
-        Event::Register(endpoint) => Ok(endpoint),
-        _ => Err(Fail::new("not a registration")),
+    match &entry.event {
+        EntryEvent::Asked(event) => match &**event {
+            Event::Register(endpoint) => Ok(endpoint),
+            _ => Err(Fail::new("not a registration")),
+        },
+        EntryEvent::Reload(_) => Err(Fail::new("not a registration")),
     }
 }
 

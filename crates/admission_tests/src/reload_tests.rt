@@ -1,14 +1,18 @@
 //! Reloads: what stays, what goes, and what a reservation keeps.
 
-use crate::test_cores::{admission, away, core_within, other_tables, receipt_of, tables, terminal};
+use crate::test_cores::{
+    admission, away, core_within, entry, other_tables, receipt_of, tables, terminal,
+};
 use admission::cores::Core;
 use admission::events::{Event, EventKind};
 use admission::limits::{Limits, STATED_LIMITS};
-use admission::record::Receipt;
+use admission::record::{EntryEvent, Receipt, Record};
 use admission::replies::{ReloadRefusal, Reply, UnregisterRefusal};
+use compiler::Tables;
 use gk_terms::{Dialled, Name, Units, Version};
 use std::alloc::Global;
 use std::process::Abort;
+use std::sync::Arc;
 use std::test::Fail;
 
 /// Registers `ta` in `gk-a`, and opens a call of it, of 640 units, to the zone `gk-x`.
@@ -69,6 +73,47 @@ fn assert_after_reload(rt: &impl Abort, core: &mut Core) -> Result<(), Fail> {
     assert_eq!(rt; core.release(&ta, 1001)?.0, Reply::Released { call: 1001 });
     assert_eq!(rt; core.calls().len(), 0);
     Ok(())
+}
+
+#[test]
+fn past_reloads_show_their_commands(rt: HostRuntime) -> Result<(), Fail> {
+    let mut core = core_within(rt.alloc(), STATED_LIMITS)?;
+    assert_past_reloads(&rt, rt.alloc(), &mut core)
+}
+
+/// Asserts what the entries of three reloads show, of which the second one's tables are held here.
+fn assert_past_reloads(rt: &impl Abort, alloc: Global, core: &mut Core) -> Result<(), Fail> {
+    let held = tables(alloc)?;
+    assert_held_reload(rt, alloc, core, &held)
+}
+
+/// The same with these tables for the second one.
+fn assert_held_reload(
+    rt: &impl Abort,
+    alloc: Global,
+    core: &mut Core,
+    held: &Arc<Tables>,
+) -> Result<(), Fail> {
+    reloaded(core, alloc)?;
+    core.reload(Arc::try_clone(held)?)?;
+    reloaded(core, alloc)?;
+    for (number, lines) in [(1, 3), (2, 4), (3, 3)] {
+        assert_eq!(rt;
+            lines_asked_for(core.record(), number)?,
+            lines,
+            "entry {number}"
+        );
+    }
+    assert_eq!(rt; core.tables().commands().len(), 3);
+    Ok(())
+}
+
+/// How many commands the entry of this number put in force.
+fn lines_asked_for(record: &Record, number: u32) -> Result<usize, Fail> {
+    match &entry(record, number)?.event {
+        EntryEvent::Reload(commands) => Ok(commands.len()),
+        EntryEvent::Asked(_) => Err(Fail::new("not a reload")),
+    }
 }
 
 #[test]

@@ -108,6 +108,13 @@ impl Tables {
         &self.commands
     }
 
+    /// The same in place of the tables, whose memory is let go. Takes none.
+    pub fn into_commands(self) -> Commands
+        ensures { result ≡ self }
+    {
+        self.commands
+    }
+
     /// Where a call to these digits is to go. If they begin with a declared technology prefix, the
     /// longest such: to its hop-off zone, and without one by the digits after it; else by all
     /// digits. By digits a call goes to the zone of the longest zone prefix that matches them; if

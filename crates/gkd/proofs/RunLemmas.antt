@@ -118,6 +118,14 @@ module _ {S : Type 0} (MayAnswer : S → Request → Answer → S → Type 0) wh
   under_fails (Some bytes) (Some rest) before after first begun last fault same s =
       (s.1, (last, s.0, subst (λ (b : S). Ends MayAnswer bytes s.0 rest b last s.1 (Err fault)) same s.2), s.3)
 
+  pub under_serves : (known new before after : Option (List ℕ)) (first begun last : S) (count : ℕ) → first ≡ begun
+      → KnownStep known new (λ bytes rest. (ahead : List ℕ) × (text : List ℕ) × Ends MayAnswer bytes ahead rest first last text (Ok count) × Appends before after text)
+      → KnownStep known new (λ bytes rest. (text : List ℕ) × ServesUnder MayAnswer begun bytes rest text (Ok count) × Appends before after text)
+  under_serves None new before after first begun last count same s = tt
+  under_serves (Some bytes) None before after first begun last count same s = absurd s
+  under_serves (Some bytes) (Some rest) before after first begun last count same s =
+      (s.1, (last, s.0, subst (λ (b : S). Ends MayAnswer bytes s.0 rest b last s.1 (Ok count)) same s.2), s.3)
+
 -- a note of the session is one of the run
 pub noted_then : (old mid new its : Bool) → mid ≡ old → new ≡ cond its true mid → new ≡ cond its true old
 noted_then old mid new its before noted = noted ∙ ap (λ m. cond its true m) before

@@ -2,8 +2,12 @@ use Rattle.std.proofs.lemmas.Result.{err_from_is_err_and}
 use Rattle.gk_protocol.specs.CoreAnswers.{MayAnswer}
 use Rattle.std.proofs.Common.{refl}
 use Rattle.gk_protocol.specs.declared.session_faults.SessionFault.TheVariants.{TurnsSpent}
-use Rattle.gkd.proofs.RunLemmas.{under_fails, same_session}
+use Rattle.gkd.proofs.RunLemmas.{under_fails, under_serves, same_session}
 use Rattle.gkd.proofs.run.run_under.Goals as goal
+
+pub returns-clause-written : goal.returns-clause-written
+returns-clause-written g c =
+    under_serves MayAnswer _ _ _ _ _ _ _ c.in_ok-replies.replies c.in_ok-core.ensures.opened c.in_ok-replies.ensures.written
 
 pub returns-in_err-replies-clause-written : goal.returns-in_err-replies-clause-written
 returns-in_err-replies-clause-written g c =

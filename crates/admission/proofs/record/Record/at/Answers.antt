@@ -6,5 +6,5 @@ use Rattle.admission.proofs.record.Record.at.Goals as goal
 
 pub returns : goal.returns
 returns c =
-    c.entry_at.ensures ∙ read_at _ _ _ _ _ c.self.invariant.0 c.args.place
+    c.entry_at.ensures ∙ read_at _ _ _ _ _ _ c.self.invariant.0 c.args.place
     ∙ ap (λ (h : RecordParts). slice_get h.entries c.args.place) c.self.view_is
