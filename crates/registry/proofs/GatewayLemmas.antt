@@ -16,15 +16,19 @@ use Rattle.std.proofs.lemmas.Map.{lookup-none}
 use Rattle.std.proofs.lemmas.Map.Entries.{none_below_head}
 use Rattle.std.proofs.lemmas.Map.Keys.{sorted_tail}
 use Rattle.command_reader.specs.declared.commands.Command.{Command}
+use Rattle.compiler.specs.declared.plans.TheConstants.{USUAL_GATEWAY_PRIORITY}
 use Rattle.compiler.specs.Rows.{Row}
 use Rattle.compiler.specs.Priority.{named_priority, AreNamedFor}
 use Rattle.compiler.proofs.TableLemmas.{priority_by_named}
 use Rattle.registry.specs.Endpoint.{EndpointParts}
 use Rattle.registry.specs.Gateway.{is_candidate, has_greater, gateway_by, gateway_of}
 use Rattle.registry.specs.Roll.{Numbered, at_number}
+use Rattle.registry.specs.Served.{found_serving}
+use Rattle.registry.specs.Listing.{NoneServes, IsNextServing}
 use Rattle.registry.specs.Chosen.{Named, IsBest}
 use Rattle.registry.proofs.RegistryLemmas.{is_some-find}
 use Rattle.registry.proofs.RollLemmas.{distinct_numbers, later, first, each_entry}
+use Rattle.registry.proofs.ChosenLemmas.{AllNamedBefore, all_looked_at, found_unnamed, none_unnamed}
 
 -- ---- tests of a filtered list
 pub find-filter : {X : Type 0} (q p : X → Bool) (xs : List X)
@@ -207,3 +211,31 @@ by_row commands None endpoints zone prefix named chosen h named_for = tt
 by_row commands (Some used) endpoints zone prefix named chosen h named_for =
     h ∙ (λ i. gateway_by
     (λ gateway. priority_by_named commands used named named_for gateway i) endpoints zone prefix)
+
+-- ---- if none is named
+-- of those that serve the first is chosen
+module _ (entries : Numbered) (sorted : IsStrictlySortedBy nat_cmp (keys_of entries))
+    (zone prefix : List ℕ) where
+  none_before : AllNamedBefore entries [] zone prefix 0
+  none_before n e there less = let never : ⊥ = omega (arith, less) in absurd never
+
+  pub none_serving : NoneServes entries zone prefix 0
+      → gateway_by (named_priority []) (values_of entries) zone prefix ≡ None
+  none_serving none =
+      best_is_chosen entries sorted [] zone prefix None
+      (all_looked_at entries [] zone prefix None
+      (none_unnamed entries [] zone prefix 0 none none_before))
+
+  pub first_serving : (number : ℕ) → IsNextServing entries zone prefix 0 number
+      → gateway_by (named_priority []) (values_of entries) zone prefix ≡ at_number entries number
+  first_serving number next = by (at_number entries number) refl next.there
+    where
+      by : (found : Option EndpointParts) → at_number entries number ≡ found
+          → found_serving found zone prefix ≡ true
+          → gateway_by (named_priority []) (values_of entries) zone prefix
+          ≡ at_number entries number
+      by None there serves = absurd (both_ways false refl serves)
+      by (Some e) there serves =
+          best_is_chosen entries sorted [] zone prefix (Some (USUAL_GATEWAY_PRIORITY, number))
+          (all_looked_at entries [] zone prefix (Some (USUAL_GATEWAY_PRIORITY, number))
+          (found_unnamed entries [] zone prefix 0 number e next there refl none_before))

@@ -1,11 +1,11 @@
 -- The places that gateways serve, as endpoints come and go.
 use Rattle.std.proofs.Common.{◌≡◌, inl, inr, ℕ, ◌≤◌, ◌==◌, Bool, true, false, not, cond, ◌&&◌, List, refl, sym, ap, ◌∙◌}
-use Rattle.std.specs.Prelude.{Option, Some, None, Result, Ok, Err, OnOk, MatchOption, is_err, ◌⊎◌, if◌then◌else◌}
+use Rattle.std.specs.Prelude.{Option, Some, None, Result, Ok, Err, OnOk, OnErr, MatchOption, is_err, ◌⊎◌, if◌then◌else◌}
 use Rattle.std.specs.Cmp.{unsigned_tied}
 use Rattle.std.proofs.lemmas.Bool.{both_ways}
 use Rattle.registry.specs.Endpoint.{EndpointParts}
 use Rattle.registry.specs.Roll.{Numbered, at_number, IsSetAt}
-use Rattle.registry.specs.Served.{Place, is_among, is_of, found_serving, Enters, MayEnter, Leaves, IsNext}
+use Rattle.registry.specs.Served.{Place, Places, is_among, is_of, found_serving, Enters, MayEnter, Leaves, IsNext}
 use Rattle.registry.specs.Listing.{AreServed, NoneServes, IsNextServing}
 use Rattle.registry.proofs.RollLemmas.{same_number, number_itself}
 
@@ -18,7 +18,7 @@ at_place entries n place h =
     (sym (same_number n place.2 (unsigned_tied n place.2 ∙ h)))
 
 -- what was entered may be entered
-pub may_enter : (old new : List Place) (n : ℕ) (e : EndpointParts) → Enters old new n e
+pub may_enter : (old new : Places) (n : ℕ) (e : EndpointParts) → Enters old new n e
     → MayEnter old new n e
 may_enter old new n e enters place = by (is_of n (Some e) place) refl (enters place)
   where
@@ -30,7 +30,7 @@ may_enter old new n e enters place = by (is_of n (Some e) place) refl (enters pl
     by false known there = inl there
 
 -- an endpoint that was entered, or a part of it, is taken back
-pub taken_back : (old mid new : List Place) (entries : Numbered) (n : ℕ) (e : EndpointParts)
+pub taken_back : (old mid new : Places) (entries : Numbered) (n : ℕ) (e : EndpointParts)
     → AreServed old entries → MayEnter old mid n e
     → Leaves mid new n (Some e) (at_number entries n) → AreServed new entries
 taken_back old mid new entries n e served enters leaves place =
@@ -94,7 +94,7 @@ pub set_here : (old new : Numbered) (n : ℕ) (e : Option EndpointParts) → IsS
 set_here old new n e set = set n ∙ ap (λ t. cond t e (at_number old n)) (number_itself n)
 
 -- an endpoint was entered and put in, and the one that it replaces has left
-pub settled : (old mid new : List Place) (entries after : Numbered) (n : ℕ) (e : EndpointParts)
+pub settled : (old mid new : Places) (entries after : Numbered) (n : ℕ) (e : EndpointParts)
     → AreServed old entries → Enters old mid n e → IsSetAt entries after n (Some e)
     → Leaves mid new n (at_number entries n) (Some e) → AreServed new after
 settled old mid new entries after n e served enters set leaves place =
@@ -132,7 +132,7 @@ settled old mid new entries after n e served enters set leaves place =
         (sym (set_there entries after n (Some e) set place.2 true p))
 
 -- an endpoint was taken out, and has left
-pub left_out : (old new : List Place) (entries after : Numbered) (n : ℕ)
+pub left_out : (old new : Places) (entries after : Numbered) (n : ℕ)
     → AreServed old entries → IsSetAt entries after n None
     → Leaves old new n (at_number entries n) None → AreServed new after
 left_out old new entries after n served set leaves place =
@@ -165,8 +165,13 @@ pub unless_err : {T E P : Type 0} → (r : Result T E) → OnOk r P → is_err r
 unless_err (Ok x) h k = h
 unless_err (Err e) h k = absurd (both_ways true k refl)
 
+-- and at Err, if it is one
+pub when_err : {T E P : Type 0} → (r : Result T E) → OnErr r P → is_err r ≡ true → P
+when_err (Ok x) h k = absurd (both_ways false refl k)
+when_err (Err e) h k = h
+
 -- ---- the next gateway that serves
-pub next_serves : (places : List Place) (entries : Numbered) (zone prefix : List ℕ) (from : ℕ)
+pub next_serves : (places : Places) (entries : Numbered) (zone prefix : List ℕ) (from : ℕ)
     → AreServed places entries → (found : Option ℕ)
     → MatchOption found
     ((number : ℕ) → from ≤ number → is_among places (zone, prefix, number) ≡ false)

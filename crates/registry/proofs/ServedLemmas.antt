@@ -1,46 +1,24 @@
--- The set of places that gateways serve: the order of places, and what changes place by place.
-use Rattle.std.proofs.Common.{◌≡◌, inl, inr, ℕ, ◌+◌, ◌<◌, ◌≤◌, ◌==◌, Bool, true, false, not, ◌&&◌, ◌||◌, List, length, take, drop, get_or, slice_get, refl, sym, ap, subst, ◌∙◌, arith}
+-- The places that gateways serve, and what changes place by place.
+use Rattle.std.proofs.Common.{◌≡◌, inl, inr, ℕ, ◌+◌, ◌<◌, ◌≤◌, ◌==◌, Bool, true, false, not, cond, ◌&&◌, ◌||◌, List, [], ◌∷◌, length, take, drop, get_or, slice_get, refl, sym, ap, subst, ◌∙◌, arith}
 use Rattle.std.specs.Prelude.{Option, Some, None, Result, Ok, Err, OnOk, OnErr, IfSome, ⊤, ◌⊎◌, bytes_eq, if◌then◌else◌}
 use Rattle.std.specs.declared.cmp.Ordering.{Ordering}
 use Rattle.std.specs.declared.cmp.Ordering.TheVariants.{Less, Equal, Greater}
-use Rattle.std.specs.Ordering.{is_eq, is_gt, nat_cmp, ordering_then, ordering_reverse, MatchOrdering}
-use Rattle.std.specs.Cmp.{unsigned_tied}
-use Rattle.std.specs.Cmp.Lexicographic.{slice_cmp, same_text}
+use Rattle.std.specs.BTreeMap.{is_at}
+use Rattle.std.specs.Ordering.{is_eq, is_gt, nat_cmp, MatchOrdering}
+use Rattle.std.specs.Cmp.{nat_cmp_total, unsigned_tied}
+use Rattle.std.specs.Cmp.Lexicographic.{same_text}
 use Rattle.std.specs.List.{list_any}
 use Rattle.std.proofs.lemmas.Bool.{both_ways, false_from_ne_true, and_parts}
-use Rattle.std.proofs.lemmas.Cmp.{nat_list_eq_equiv, nat_list_cmp_total, ranked, tied_itself}
+use Rattle.std.proofs.lemmas.Cmp.{nat_list_eq_equiv, ranked, tied_itself}
 use Rattle.std.proofs.lemmas.Map.Keys.{le_from_not_gt}
-use Rattle.std.proofs.lemmas.Map.Text.{is_eq-slice_cmp}
 use Rattle.std.proofs.lemmas.List.Folds.{list_any_more, list_any-append}
 use Rattle.std.proofs.lemmas.List.{take-append-drop}
 use Rattle.registry.specs.Endpoint.{EndpointParts, has_technology}
 use Rattle.registry.specs.declared.endpoints.EndpointKind.TheVariants.{Gateway, Terminal}
 use Rattle.registry.specs.Gateway.{is_gateway}
-use Rattle.registry.specs.Served.{Place, place_cmp, same_place, is_among, Puts, found_serving, is_of, is_partly_of, Adds, MayAdd, TakesOut, Enters, MayEnter, Leaves, IsNext}
+use Rattle.registry.specs.Served.{HasNoEmpty, HasNoneFrom, IsLeastFrom, KeepsOthers, Place, Places, PutsNumber, Service, found_empty, found_number, has_number, is_empty, numbers_at, same_place, same_service, is_among, Puts, found_serving, is_of, is_partly_of, Adds, MayAdd, TakesOut, Enters, MayEnter, Leaves}
 
--- ---- the order of places
-tests_then : (a b : Ordering) → is_eq (ordering_then a b) ≡ (is_eq a && is_eq b)
-tests_then Less b = refl
-tests_then Equal b = refl
-tests_then Greater b = refl
-
-pub same_place_tests : (x y : Place)
-    → same_place x y ≡ ((bytes_eq x.0 y.0 && bytes_eq x.1 y.1) && (x.2 == y.2))
-same_place_tests x y =
-    tests_then (ordering_then (slice_cmp nat_cmp x.0 y.0) (slice_cmp nat_cmp x.1 y.1))
-    (nat_cmp x.2 y.2)
-    ∙ ap (λ b. b && is_eq (nat_cmp x.2 y.2))
-    (tests_then (slice_cmp nat_cmp x.0 y.0) (slice_cmp nat_cmp x.1 y.1))
-    ∙ (λ i. (is_eq-slice_cmp x.0 y.0 i && is_eq-slice_cmp x.1 y.1 i) && unsigned_tied x.2 y.2 i)
-
--- the order of two places of one zone and prefix is that of their numbers
-same_group : (zone prefix : List ℕ) (a b : ℕ)
-    → place_cmp (zone, prefix, a) (zone, prefix, b) ≡ nat_cmp a b
-same_group zone prefix a b =
-    ap (λ o. ordering_then (ordering_then o (slice_cmp nat_cmp prefix prefix)) (nat_cmp a b))
-    (tied_itself nat_list_cmp_total zone)
-    ∙ ap (λ o. ordering_then o (nat_cmp a b)) (tied_itself nat_list_cmp_total prefix)
-
+-- ---- the numbers of gateways
 pub not_above : (a b : ℕ) → a ≤ b → is_gt (nat_cmp a b) ≡ false
 not_above a b h = by (nat_cmp a b) (ranked a b (nat_cmp a b) refl)
   where
@@ -49,95 +27,137 @@ not_above a b h = by (nat_cmp a b) (ranked a b (nat_cmp a b) refl)
     by Equal m = refl
     by Greater m = let never : ⊥ = omega (arith, m, h) in absurd never
 
--- what lies between two places of one zone and prefix is of these too
-texts_equal : (x y : List ℕ) → slice_cmp nat_cmp x y ≡ Equal → bytes_eq y x ≡ true
-texts_equal x y h =
-    nat_list_eq_equiv.symm y x ∙ sym (is_eq-slice_cmp x y) ∙ ap is_eq h
+-- a change by the order of numbers is one by their equality
+pub puts_number : (old new : List ℕ) (number : ℕ) (there : Bool)
+    → ((other : ℕ) → has_number new other
+    ≡ cond (is_at (nat_cmp number) other) there (has_number old other))
+    → PutsNumber old new number there
+puts_number old new number there updates other =
+    updates other ∙ ap (λ b. cond b there (has_number old other)) (unsigned_tied number other)
 
-module _ (zone prefix : List ℕ) (a b : ℕ) (k : Place)
-    (low : is_gt (place_cmp (zone, prefix, a) k) ≡ false)
-    (high : is_gt (place_cmp k (zone, prefix, b)) ≡ false) where
-  by_prefix : slice_cmp nat_cmp zone k.0 ≡ Equal → (o : Ordering) → slice_cmp nat_cmp prefix k.1 ≡ o
-      → bytes_eq k.1 prefix ≡ true
-  by_prefix z Equal h = texts_equal prefix k.1 h
-  by_prefix z Less h =
-      absurd (both_ways false refl
-      (sym high
-      ∙ ap (λ o. is_gt
-      (ordering_then (ordering_then o (slice_cmp nat_cmp k.1 prefix)) (nat_cmp k.2 b)))
-      (nat_list_cmp_total.antisymm k.0 zone ∙ ap ordering_reverse z)
-      ∙ ap (λ o. is_gt (ordering_then o (nat_cmp k.2 b)))
-      (nat_list_cmp_total.antisymm k.1 prefix ∙ ap ordering_reverse h)))
-  by_prefix z Greater h =
-      absurd (both_ways false refl
-      (sym low
-      ∙ ap (λ o. is_gt
-      (ordering_then (ordering_then o (slice_cmp nat_cmp prefix k.1)) (nat_cmp a k.2))) z
-      ∙ ap (λ o. is_gt (ordering_then o (nat_cmp a k.2))) h))
+-- the first of what lies from a number on is the least
+pub first_number : (numbers r : List ℕ) (from k : ℕ) → slice_get r 0 ≡ Some k
+    → IfSome (slice_get r 0)
+    (λ q. ((is_gt (nat_cmp from q) ≡ false) × ⊤) × (has_number numbers q ≡ true))
+    → ((q : ℕ) → ((is_gt (nat_cmp from q) ≡ false) × ⊤) → has_number numbers q ≡ true
+    → IfSome (slice_get r 0) (λ f. is_gt (nat_cmp f q) ≡ false))
+    → IsLeastFrom (has_number numbers) from k
+first_number numbers r from k at there least =
+    let first = subst (λ o. IfSome o
+    (λ q. ((is_gt (nat_cmp from q) ≡ false) × ⊤) × (has_number numbers q ≡ true))) at there in
+    record {
+      there = first.1;
+      from_here = le_from_not_gt from k first.0.0;
+      least = λ other low less.
+          false_from_ne_true (has_number numbers other)
+          (λ has.
+          let up = le_from_not_gt k other
+          (subst (λ o. IfSome o (λ f. is_gt (nat_cmp f other) ≡ false)) at
+          (least other (not_above from other low, tt) has)) in
+          let never : ⊥ = omega (arith, up, less) in never);
+    }
 
-  by_zone : (o : Ordering) → slice_cmp nat_cmp zone k.0 ≡ o
-      → (bytes_eq k.0 zone ≡ true) × (bytes_eq k.1 prefix ≡ true)
-  by_zone Equal h = (texts_equal zone k.0 h, by_prefix h (slice_cmp nat_cmp prefix k.1) refl)
-  by_zone Less h =
-      absurd (both_ways false refl
-      (sym high
-      ∙ ap (λ o. is_gt
-      (ordering_then (ordering_then o (slice_cmp nat_cmp k.1 prefix)) (nat_cmp k.2 b)))
-      (nat_list_cmp_total.antisymm k.0 zone ∙ ap ordering_reverse h)))
-  by_zone Greater h =
-      absurd (both_ways false refl
-      (sym low
-      ∙ ap (λ o. is_gt
-      (ordering_then (ordering_then o (slice_cmp nat_cmp prefix k.1)) (nat_cmp a k.2))) h))
+-- nothing lies from a number on
+pub no_number : (numbers : List ℕ) (from : ℕ)
+    → ((q : ℕ) → ((is_gt (nat_cmp from q) ≡ false) × ⊤) → has_number numbers q ≡ false)
+    → HasNoneFrom (has_number numbers) from
+no_number numbers from empty number low = empty number (not_above from number low, tt)
 
-  pub between : (bytes_eq k.0 zone ≡ true) × (bytes_eq k.1 prefix ≡ true)
-  between = by_zone (slice_cmp nat_cmp zone k.0) refl
+-- ---- the numbers at a zone and a prefix
+pub same_numbers : (places : Places) (x y : Service) → same_service x y ≡ true
+    → numbers_at places x ≡ numbers_at places y
+same_numbers places x y h =
+    let parts = and_parts (bytes_eq x.0 y.0) (bytes_eq x.1 y.1) h in
+    λ i. numbers_at places
+    (same_text x.0 y.0 (sym parts.0) i, same_text x.1 y.1 (sym parts.1) i)
 
--- ---- the next number
--- the first place from (zone, prefix, from) on is k
-pub record IsFirstPlace (places : List Place) (from k : Place) : Type 0 where
-  pub there : is_among places k ≡ true
-  pub after : is_gt (place_cmp from k) ≡ false
-  pub least : (q : Place) → is_gt (place_cmp from q) ≡ false → is_among places q ≡ true
-      → is_gt (place_cmp k q) ≡ false
+-- new has other numbers at one zone and prefix
+module _ (old new : Places) (service : Service) (after : Option (List ℕ))
+    (changes : (other : Service) → numbers_at new other
+    ≡ cond (same_service service other) after (numbers_at old other)) where
+  -- they differ by one number
+  pub puts_at : (number : ℕ) (there : Bool)
+      → ((n : ℕ) → found_number after n
+      ≡ (if number == n then there else found_number (numbers_at old service) n))
+      → Puts old new (service.0, service.1, number) there
+  puts_at number there puts place =
+      ap (λ o. found_number o place.2) (changes (place.0, place.1))
+      ∙ by (same_service service (place.0, place.1)) refl
+    where
+      by : (b : Bool) → same_service service (place.0, place.1) ≡ b
+          → found_number (cond b after (numbers_at old (place.0, place.1))) place.2
+          ≡ (if (b && (number == place.2)) then there
+          else found_number (numbers_at old (place.0, place.1)) place.2)
+      by true same =
+          puts place.2
+          ∙ ap (λ o. if number == place.2 then there else found_number o place.2)
+          (same_numbers old service (place.0, place.1) same)
+      by false same = refl
 
-module _ (places : List Place) (zone prefix : List ℕ) (from : ℕ) (k : Place)
-    (first : IsFirstPlace places (zone, prefix, from) k) where
-  within : (n : ℕ) → from ≤ n → is_gt (place_cmp (zone, prefix, from) (zone, prefix, n)) ≡ false
-  within n h = ap is_gt (same_group zone prefix from n) ∙ not_above from n h
+  -- they are not empty
+  pub no_empty_at : HasNoEmpty old → found_empty after ≡ false → HasNoEmpty new
+  no_empty_at whole some other =
+      ap found_empty (changes other) ∙ by (same_service service other)
+    where
+      by : (b : Bool) → found_empty (cond b after (numbers_at old other)) ≡ false
+      by true = some
+      by false = whole other
 
-  -- it is of another zone or prefix, so none is of these
-  pub none_next : (bytes_eq k.0 zone && bytes_eq k.1 prefix) ≡ false → (n : ℕ) → from ≤ n
-      → is_among places (zone, prefix, n) ≡ false
-  none_next other n h =
-      false_from_ne_true (is_among places (zone, prefix, n))
-      (λ there.
-      let same = between zone prefix from n k first.after
-      (first.least (zone, prefix, n) (within n h) there) in
-      both_ways (bytes_eq k.0 zone && bytes_eq k.1 prefix) other
-      (λ i. same.0 i && same.1 i))
+  pub others_at : KeepsOthers old new service
+  others_at other apart =
+      changes other ∙ ap (λ b. cond b after (numbers_at old other)) apart
 
-  -- it is of this zone and prefix
-  pub found_next : bytes_eq k.0 zone ≡ true → bytes_eq k.1 prefix ≡ true
-      → IsNext places zone prefix from k.2
-  found_next z p =
-      let same_zone : k.0 ≡ zone = same_text k.0 zone (sym z) in
-      let same_prefix : k.1 ≡ prefix = same_text k.1 prefix (sym p) in
-      let at : k ≡ (zone, prefix, k.2) = λ i. (same_zone i, same_prefix i, k.2) in
-      record {
-        there = ap (is_among places) (sym at) ∙ first.there;
-        from_here = le_from_not_gt from k.2
-            (ap is_gt (sym (same_group zone prefix from k.2))
-            ∙ ap (λ q. is_gt (place_cmp (zone, prefix, from) q)) (sym at) ∙ first.after);
-        least = λ other low less.
-            false_from_ne_true (is_among places (zone, prefix, other))
-            (λ there.
-            let up = le_from_not_gt k.2 other
-            (ap is_gt (sym (same_group zone prefix k.2 other))
-            ∙ ap (λ q. is_gt (place_cmp q (zone, prefix, other))) (sym at)
-            ∙ first.least (zone, prefix, other) (within other low) there) in
-            let never : ⊥ = omega (arith, up, less) in never);
-      }
+-- what a number was added to is not empty
+pub added_some : (old new : List ℕ) (number : ℕ) → PutsNumber old new number true
+    → is_empty new ≡ false
+added_some old new number puts =
+    by new (puts number
+    ∙ ap (λ b. if b then true else has_number old number)
+    (sym (unsigned_tied number number) ∙ ap is_eq (tied_itself nat_cmp_total number)))
+  where
+    by : (numbers : List ℕ) → has_number numbers number ≡ true → is_empty numbers ≡ false
+    by [] has = absurd (both_ways false refl has)
+    by (first ∷ rest) has = refl
+
+-- what a number may have been added to is not empty
+pub some_stay : {T E : Type 0} → (old new : List ℕ) (number : ℕ) (r : Result T E)
+    → OnOk r (PutsNumber old new number true) → OnErr r (new ≡ old) → is_empty old ≡ false
+    → is_empty new ≡ false
+some_stay old new number (Ok x) puts same some = added_some old new number puts
+some_stay old new number (Err e) puts same some = ap is_empty same ∙ some
+
+-- the last number at a zone and a prefix was taken out, and then their entry
+module _ (old mid new : Places) (service : Service)
+    (changes : (other : Service) → numbers_at new other
+    ≡ cond (same_service service other) None (numbers_at mid other)) where
+  pub no_empty_left : HasNoEmpty old → KeepsOthers old mid service → HasNoEmpty new
+  no_empty_left whole others other =
+      ap found_empty (changes other) ∙ by (same_service service other) refl
+    where
+      by : (b : Bool) → same_service service other ≡ b
+          → found_empty (cond b None (numbers_at mid other)) ≡ false
+      by true same = refl
+      by false apart = ap found_empty (others other apart) ∙ whole other
+
+  pub none_left : found_empty (numbers_at mid service) ≡ true → (place : Place)
+      → is_among new place ≡ is_among mid place
+  none_left empty place =
+      ap (λ o. found_number o place.2) (changes (place.0, place.1))
+      ∙ by (same_service service (place.0, place.1)) refl
+    where
+      none : (o : Option (List ℕ)) → found_empty o ≡ true → (n : ℕ) → false ≡ found_number o n
+      none None h n = refl
+      none (Some []) h n = refl
+      none (Some (first ∷ rest)) h n = absurd (both_ways false refl h)
+
+      by : (b : Bool) → same_service service (place.0, place.1) ≡ b
+          → found_number (cond b None (numbers_at mid (place.0, place.1))) place.2
+          ≡ is_among mid place
+      by true same =
+          none (numbers_at mid service) empty place.2
+          ∙ ap (λ o. found_number o place.2)
+          (same_numbers mid service (place.0, place.1) same)
+      by false same = refl
 
 -- ---- one place more or less
 -- one more prefix of the list
@@ -151,7 +171,7 @@ more_prefixes prefixes i next place within there =
     (ap (bytes_eq place.1) (sym there) ∙ nat_list_eq_equiv.symm place.1 next)
 
 -- one more prefix is entered
-pub entered_more : (old mid new : List Place) (number : ℕ) (zone : List ℕ)
+pub entered_more : (old mid new : Places) (number : ℕ) (zone : List ℕ)
     (prefixes : List (List ℕ)) (i : ℕ) (next : List ℕ)
     → i < length prefixes → next ≡ get_or prefixes i next
     → ((place : Place) → is_among mid place
@@ -163,9 +183,6 @@ pub entered_more : (old mid new : List Place) (number : ℕ) (zone : List ℕ)
 entered_more old mid new number zone prefixes i next within there before puts place =
     puts place
     ∙ ap (λ b. if same_place (zone, next, number) place then true else b) (before place)
-    ∙ ap (λ s. if s then true
-    else (if is_partly_of number zone (take i prefixes) place then true else is_among old place))
-    (same_place_tests (zone, next, number) place)
     ∙ by (bytes_eq zone place.0) (bytes_eq next place.1) (number == place.2)
     (list_any (bytes_eq place.1) (take i prefixes)) (is_among old place)
     ∙ ap (λ l. if (number == place.2) && (bytes_eq zone place.0 && l) then true
@@ -185,7 +202,7 @@ entered_more old mid new number zone prefixes i next within there before puts pl
     by true true true true o = refl
 
 -- one more prefix is left, unless the other endpoint has it
-module _ (old mid new : List Place) (number : ℕ) (zone : List ℕ) (kept : Option EndpointParts)
+module _ (old mid new : Places) (number : ℕ) (zone : List ℕ) (kept : Option EndpointParts)
     (prefixes : List (List ℕ)) (i : ℕ) (next : List ℕ) where
   -- what is left so far
   abbrev left_of : ℕ → Place → Bool
@@ -219,8 +236,6 @@ module _ (old mid new : List Place) (number : ℕ) (zone : List ℕ) (kept : Opt
     left_more absent puts place =
         puts place
         ∙ ap (λ b. if same_place (zone, next, number) place then false else b) (before place)
-        ∙ ap (λ s. if s then false else left_of i place)
-        (same_place_tests (zone, next, number) place)
         ∙ by (bytes_eq zone place.0) (bytes_eq next place.1) (number == place.2)
         (list_any (bytes_eq place.1) (take i prefixes)) (found_serving kept place.0 place.1)
         (is_among old place) (λ z p. here place z p ∙ absent)
@@ -282,13 +297,13 @@ terminal_places e number kind place =
     by true = refl
     by false = refl
 
-pub gateway_enters : (e : EndpointParts) (number : ℕ) (old new : List Place) → e.kind ≡ Gateway
+pub gateway_enters : (e : EndpointParts) (number : ℕ) (old new : Places) → e.kind ≡ Gateway
     → Adds old new number e.zone e.technologies → Enters old new number e
 gateway_enters e number old new kind adds place =
     adds place
     ∙ ap (λ b. if b then true else is_among old place) (gateway_places e number kind place)
 
-pub gateway_may_enter : (e : EndpointParts) (number : ℕ) (old new : List Place) → e.kind ≡ Gateway
+pub gateway_may_enter : (e : EndpointParts) (number : ℕ) (old new : Places) → e.kind ≡ Gateway
     → MayAdd old new number e.zone e.technologies → MayEnter old new number e
 gateway_may_enter e number old new kind adds place = by (adds place)
   where
@@ -300,12 +315,12 @@ gateway_may_enter e number old new kind adds place = by (adds place)
     by (inl same) = inl same
     by (inr more) = inr (more.0, sym (gateway_places e number kind place) ∙ more.1)
 
-pub terminal_enters : (e : EndpointParts) (number : ℕ) (old : List Place) → e.kind ≡ Terminal
+pub terminal_enters : (e : EndpointParts) (number : ℕ) (old : Places) → e.kind ≡ Terminal
     → Enters old old number e
 terminal_enters e number old kind place =
     ap (λ b. if b then true else is_among old place) (sym (terminal_places e number kind place))
 
-pub gateway_leaves : (e : EndpointParts) (number : ℕ) (old new : List Place)
+pub gateway_leaves : (e : EndpointParts) (number : ℕ) (old new : Places)
     (kept : Option EndpointParts) → e.kind ≡ Gateway
     → TakesOut old new number e.zone e.technologies kept → Leaves old new number (Some e) kept
 gateway_leaves e number old new kept kind takes place =
@@ -313,14 +328,14 @@ gateway_leaves e number old new kept kind takes place =
     ∙ ap (λ b. if b && not (is_of number kept place) then false else is_among old place)
     (gateway_places e number kind place)
 
-pub terminal_leaves : (e : EndpointParts) (number : ℕ) (old : List Place)
+pub terminal_leaves : (e : EndpointParts) (number : ℕ) (old : Places)
     (kept : Option EndpointParts) → e.kind ≡ Terminal → Leaves old old number (Some e) kept
 terminal_leaves e number old kept kind place =
     ap (λ b. if b && not (is_of number kept place) then false else is_among old place)
     (sym (terminal_places e number kind place))
 
 -- without an endpoint nothing is left
-pub none_leaves : (number : ℕ) (old : List Place) (kept : Option EndpointParts)
+pub none_leaves : (number : ℕ) (old : Places) (kept : Option EndpointParts)
     → Leaves old old number None kept
 none_leaves number old kept place = by (number == place.2)
   where
@@ -330,7 +345,7 @@ none_leaves number old kept place = by (number == place.2)
     by false = refl
 
 -- some prefixes of a list
-pub part_added : (old new : List Place) (number : ℕ) (zone : List ℕ) (prefixes : List (List ℕ))
+pub part_added : (old new : Places) (number : ℕ) (zone : List ℕ) (prefixes : List (List ℕ))
     (i : ℕ) → Adds old new number zone (take i prefixes) → MayAdd old new number zone prefixes
 part_added old new number zone prefixes i adds place =
     by (is_partly_of number zone (take i prefixes) place) refl (adds place)
@@ -359,30 +374,6 @@ part_added old new number zone prefixes i adds place =
             let inner = and_parts z l outer.1 in
             (outer.0, inner.0, inner.1)
 
--- ---- from what the calls of the set say
--- any place of the zone and prefix from this number on is one from there on
-pub group_within : (zone prefix : List ℕ) (from number : ℕ) → from ≤ number
-    → is_gt (place_cmp (zone, prefix, from) (zone, prefix, number)) ≡ false
-group_within zone prefix from number h =
-    ap is_gt (same_group zone prefix from number) ∙ not_above from number h
-
--- the first of what lies from a place on
-pub first_place : (places r : List Place) (from k : Place) → slice_get r 0 ≡ Some k
-    → IfSome (slice_get r 0)
-    (λ q. ((is_gt (place_cmp from q) ≡ false) × ⊤) × (is_among places q ≡ true))
-    → ((q : Place) → ((is_gt (place_cmp from q) ≡ false) × ⊤) → is_among places q ≡ true
-    → IfSome (slice_get r 0) (λ f. is_gt (place_cmp f q) ≡ false))
-    → IsFirstPlace places from k
-first_place places r from k at there least =
-    let first = subst (λ o. IfSome o
-    (λ q. ((is_gt (place_cmp from q) ≡ false) × ⊤) × (is_among places q ≡ true))) at there in
-    record {
-      there = first.1;
-      after = first.0.0;
-      least = λ q low has.
-          subst (λ o. IfSome o (λ f. is_gt (place_cmp f q) ≡ false)) at (least q (low, tt) has);
-    }
-
 -- what follows at Ok, and at Err
 pub at_ok : {T E P Q : Type 0} → (P → Q) → (r : Result T E) → OnOk r P → OnOk r Q
 at_ok f (Ok x) h = f h
@@ -391,10 +382,3 @@ at_ok f (Err e) h = tt
 pub at_err : {T E P Q : Type 0} → (P → Q) → (r : Result T E) → OnErr r P → OnErr r Q
 at_err f (Ok x) h = tt
 at_err f (Err e) h = f h
-
-pub first_fails : (a b : Bool) → a ≡ false → (a && b) ≡ false
-first_fails a b h = ap (λ x. x && b) h
-
-pub second_fails : (a b : Bool) → b ≡ false → (a && b) ≡ false
-second_fails true b h = h
-second_fails false b h = refl

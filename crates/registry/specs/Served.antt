@@ -1,30 +1,85 @@
--- Which gateways serve a zone with a technology prefix: a set of zone, prefix and number, in order.
-use Rattle.std.specs.Prelude.{◌≡◌, ◌≤◌, ◌<◌, ◌⊎◌, ℕ, ◌==◌, Bool, true, false, not, ◌&&◌, List, Option, Some, None, bytes_eq, if◌then◌else◌}
-use Rattle.std.specs.declared.cmp.Ordering.{Ordering}
-use Rattle.std.specs.Ordering.{is_eq, nat_cmp, ordering_then}
-use Rattle.std.specs.Cmp.Lexicographic.{slice_cmp}
+-- Which gateways serve a zone with a technology prefix: by zone and prefix, their numbers in order.
+use Rattle.std.specs.Prelude.{◌≡◌, ◌≤◌, ◌<◌, ◌⊎◌, ℕ, ◌==◌, Bool, true, false, not, ◌&&◌, List, [], ◌∷◌, Option, Some, None, bytes_eq, if◌then◌else◌}
+use Rattle.std.specs.BTreeMap.{is_at}
+use Rattle.std.specs.Ordering.{nat_cmp}
 use Rattle.std.specs.List.{list_any}
+use Rattle.std.specs.Map.{lookup}
 use Rattle.registry.specs.Endpoint.{EndpointParts}
 use Rattle.registry.specs.Gateway.{serves}
 
+-- ---- the numbers of gateways
+-- whether a number is one of these
+abbrev pub has_number : List ℕ → ℕ → Bool
+has_number numbers number = list_any (is_at (nat_cmp number)) numbers
+
+abbrev pub is_empty : List ℕ → Bool
+is_empty [] = true
+is_empty (number ∷ rest) = false
+
+-- new has `there` for that number, and for each other number what old has
+abbrev pub PutsNumber : List ℕ → List ℕ → ℕ → Bool → Type 0
+PutsNumber old new number there =
+    (other : ℕ) → has_number new other ≡ (if number == other then there else has_number old other)
+
+-- no number from here on passes the test
+abbrev pub HasNoneFrom : (ℕ → Bool) → ℕ → Type 0
+HasNoneFrom test from = (number : ℕ) → from ≤ number → test number ≡ false
+
+-- the least number from here on that passes the test
+pub record IsLeastFrom (test : ℕ → Bool) (from number : ℕ) : Type 0 where
+  pub there : test number ≡ true
+  pub from_here : from ≤ number
+  pub least : (other : ℕ) → from ≤ other → other < number → test other ≡ false
+
+-- ---- the numbers of the gateways that serve a zone with a technology prefix
+-- a zone and a technology prefix
+abbrev pub Service : Type 0
+Service = List ℕ × List ℕ
+
+abbrev pub Places : Type 0
+Places = List (Service × List ℕ)
+
+abbrev pub same_service : Service → Service → Bool
+same_service x y = bytes_eq x.0 y.0 && bytes_eq x.1 y.1
+
+-- the numbers of those that serve a zone with a prefix, if there are any
+abbrev pub numbers_at : Places → Service → Option (List ℕ)
+numbers_at places service = lookup (same_service service) places
+
+-- whether numbers were found, and this is one of them
+abbrev pub found_number : Option (List ℕ) → ℕ → Bool
+found_number None number = false
+found_number (Some numbers) number = has_number numbers number
+
+-- whether numbers were found, and there are none
+abbrev pub found_empty : Option (List ℕ) → Bool
+found_empty None = false
+found_empty (Some numbers) = is_empty numbers
+
+-- a zone and a prefix that no gateway serves have no entry
+abbrev pub HasNoEmpty : Places → Type 0
+HasNoEmpty places = (service : Service) → found_empty (numbers_at places service) ≡ false
+
+-- new has what old has for each other zone or prefix
+abbrev pub KeepsOthers : Places → Places → Service → Type 0
+KeepsOthers old new service =
+    (other : Service) → same_service service other ≡ false
+    → numbers_at new other ≡ numbers_at old other
+
+-- ---- places
 -- a zone, a technology prefix and the number of a gateway
 abbrev pub Place : Type 0
 Place = List ℕ × List ℕ × ℕ
 
-abbrev pub place_cmp : Place → Place → Ordering
-place_cmp x y =
-    ordering_then (ordering_then (slice_cmp nat_cmp x.0 y.0) (slice_cmp nat_cmp x.1 y.1))
-    (nat_cmp x.2 y.2)
-
 abbrev pub same_place : Place → Place → Bool
-same_place x y = is_eq (place_cmp x y)
+same_place x y = same_service (x.0, x.1) (y.0, y.1) && (x.2 == y.2)
 
--- whether the set has a place
-abbrev pub is_among : List Place → Place → Bool
-is_among places place = list_any (same_place place) places
+-- whether the gateway of a place's number serves there
+abbrev pub is_among : Places → Place → Bool
+is_among places place = found_number (numbers_at places (place.0, place.1)) place.2
 
 -- new has `there` for that place, and for each other place what old has
-abbrev pub Puts : List Place → List Place → Place → Bool → Type 0
+abbrev pub Puts : Places → Places → Place → Bool → Type 0
 Puts old new place there =
     (other : Place)
     → is_among new other ≡ (if same_place place other then there else is_among old other)
@@ -44,19 +99,19 @@ is_partly_of number zone prefixes place =
     (number == place.2) && (bytes_eq zone place.0 && list_any (bytes_eq place.1) prefixes)
 
 -- new has these places too
-abbrev pub Adds : List Place → List Place → ℕ → List ℕ → List (List ℕ) → Type 0
+abbrev pub Adds : Places → Places → ℕ → List ℕ → List (List ℕ) → Type 0
 Adds old new number zone prefixes =
     (place : Place) → is_among new place
     ≡ (if is_partly_of number zone prefixes place then true else is_among old place)
 
 -- new may have some of these places too
-abbrev pub MayAdd : List Place → List Place → ℕ → List ℕ → List (List ℕ) → Type 0
+abbrev pub MayAdd : Places → Places → ℕ → List ℕ → List (List ℕ) → Type 0
 MayAdd old new number zone prefixes =
     (place : Place) → (is_among new place ≡ is_among old place)
     ⊎ ((is_among new place ≡ true) × (is_partly_of number zone prefixes place ≡ true))
 
 -- new lacks those of these places that the endpoint does not have
-abbrev pub TakesOut : List Place → List Place → ℕ → List ℕ → List (List ℕ)
+abbrev pub TakesOut : Places → Places → ℕ → List ℕ → List (List ℕ)
     → Option EndpointParts → Type 0
 TakesOut old new number zone prefixes kept =
     (place : Place) → is_among new place
@@ -64,19 +119,19 @@ TakesOut old new number zone prefixes kept =
     else is_among old place)
 
 -- new has the places of the endpoint too
-abbrev pub Enters : List Place → List Place → ℕ → EndpointParts → Type 0
+abbrev pub Enters : Places → Places → ℕ → EndpointParts → Type 0
 Enters old new number e =
     (place : Place)
     → is_among new place ≡ (if is_of number (Some e) place then true else is_among old place)
 
 -- new may have some places of the endpoint too
-abbrev pub MayEnter : List Place → List Place → ℕ → EndpointParts → Type 0
+abbrev pub MayEnter : Places → Places → ℕ → EndpointParts → Type 0
 MayEnter old new number e =
     (place : Place) → (is_among new place ≡ is_among old place)
     ⊎ ((is_among new place ≡ true) × (is_of number (Some e) place ≡ true))
 
 -- new lacks the places of one endpoint that the other does not have
-abbrev pub Leaves : List Place → List Place → ℕ → Option EndpointParts → Option EndpointParts
+abbrev pub Leaves : Places → Places → ℕ → Option EndpointParts → Option EndpointParts
     → Type 0
 Leaves old new number gone kept =
     (place : Place) → is_among new place
@@ -84,8 +139,5 @@ Leaves old new number gone kept =
     else is_among old place)
 
 -- the least number from here on under which a gateway serves the zone with the prefix
-pub record IsNext (places : List Place) (zone prefix : List ℕ) (from number : ℕ) : Type 0 where
-  pub there : is_among places (zone, prefix, number) ≡ true
-  pub from_here : from ≤ number
-  pub least : (other : ℕ) → from ≤ other → other < number
-      → is_among places (zone, prefix, other) ≡ false
+abbrev pub IsNext : Places → List ℕ → List ℕ → ℕ → ℕ → Type 0
+IsNext places zone prefix = IsLeastFrom (λ number. is_among places (zone, prefix, number))

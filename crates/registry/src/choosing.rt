@@ -31,8 +31,22 @@ pub fn chosen<'a>(
         ≡ gateway_by (named_priority named.now.entries) (endpoints_of listing.now)
         zone.now prefix.now }
 {
+    if named.is_empty() {
+        return first_serving(listing, zone, prefix);
+    }
     let usual = first_unnamed(listing, zone, prefix, named);
     let (_, number) = best_named(listing, zone, prefix, named, usual)?;
+    listing.at_number(number)
+}
+
+/// The same if none is named: the first gateway that serves the zone with the prefix.
+fn first_serving<'a>(listing: &'a Listing, zone: &Name, prefix: &TechPrefix) -> Option<&'a Endpoint>
+    ensures { option_copied result
+        ≡ gateway_by (named_priority []) (endpoints_of listing.now) zone.now prefix.now }
+{
+    // So it is known that the numbers ascend.
+    let _next = listing.next();
+    let number = listing.next_serving(zone, prefix, 0)?;
     listing.at_number(number)
 }
 

@@ -6,6 +6,7 @@ mod choosing;
 mod endpoint_number;
 pub mod endpoints;
 pub mod faults;
+mod gateway_numbers;
 mod keeping;
 pub mod laws;
 mod listing;

@@ -2,28 +2,33 @@
 
 ghost use Rattle.std.specs.Prelude.{◌≡◌, ◌≤◌, [], true, false, Some, OnOk, OnErr, MatchOption};
 ghost use Rattle.std.specs.Option.{option_copied};
-ghost use Rattle.registry.specs.Served.{Puts, Adds, MayAdd, TakesOut, Enters, MayEnter, Leaves, IsNext, is_among, found_serving};
+ghost use Rattle.registry.specs.Served.{Puts, Adds, MayAdd, TakesOut, Enters, MayEnter, KeepsOthers, Leaves, IsNext, is_among, found_empty, found_serving, numbers_at};
 
 use crate::endpoints::{Endpoint, EndpointKind};
+use crate::gateway_numbers::GatewayNumbers;
 use gk_terms::{Name, TechPrefix};
 use std::alloc::{AllocError, Global};
-use std::collections::BTreeSet;
+use std::collections::HashMap;
 use std::marker::Model;
 
-/// Which gateways serve a zone with a technology prefix, by their numbers. A contract sees the list
-/// of the zones, each with a prefix and a number.
+/// Which gateways serve a zone with a technology prefix: by zone and prefix, their numbers in
+/// order. So a look-up hashes the zone and the prefix once, and then compares numbers alone. A zone
+/// and a prefix that no gateway serves have no entry, so nothing stays of what was once served. A
+/// contract sees the entries.
 #[derive(Drop)]
 pub struct Served {
-    places: BTreeSet<(Name, TechPrefix, u32)>,
+    numbers: HashMap<(Name, TechPrefix), GatewayNumbers>,
+    alloc: Global,
 }
 
 impl Model for Served {
-    ghost use Rattle.std.specs.Prelude.{List};
-    ghost use Rattle.registry.specs.Served.{Place};
+    ghost use Rattle.registry.specs.Served.{Places, HasNoEmpty};
 
-    ghost Value = { List Place };
+    ghost Value = { Places };
 
-    ghost view = { λ s. s.places.keys };
+    ghost view = { λ s. s.numbers.entries };
+
+    ghost invariant = { λ s. HasNoEmpty s.numbers.entries };
 }
 
 impl Served {
@@ -32,7 +37,8 @@ impl Served {
         ensures { result ≡ [] }
     {
         Served {
-            places: BTreeSet::new(alloc),
+            numbers: HashMap::new(alloc),
+            alloc,
         }
     }
 
@@ -43,14 +49,9 @@ impl Served {
             → is_among self.now (zone.now, prefix.now, number) ≡ false)
             (IsNext self.now zone.now prefix.now from) }
     {
-        let (found_zone, found_prefix, number) = self
-            .places
-            .range((*zone, *prefix, from)..)
-            .next()?;
-        if found_zone == zone && found_prefix == prefix {
-            Some(*number)
-        } else {
-            None
+        match self.numbers.get(&(*zone, *prefix)) {
+            Some(numbers) => numbers.next_from(from),
+            None => None,
         }
     }
 
@@ -59,7 +60,12 @@ impl Served {
         ensures ok { OnOk result (Puts self.old self.new (zone, prefix, number) true) }
         ensures err { OnErr result (self.new ≡ self.old) }
     {
-        match self.places.insert((zone, prefix, number)) {
+        let service = (zone, prefix);
+        if let Some(numbers) = self.numbers.get_mut(&service) {
+            return numbers.add(number);
+        }
+        let first = GatewayNumbers::of(number, self.alloc)?;
+        match self.numbers.insert(service, first) {
             Ok(_) => Ok(()),
             Err(_) => Err(AllocError),
         }
@@ -69,7 +75,10 @@ impl Served {
     fn take_out(&mut self, zone: Name, prefix: TechPrefix, number: u32)
         ensures { Puts self.old self.new (zone, prefix, number) false }
     {
-        let _ = self.places.remove(&(zone, prefix, number));
+        let service = (zone, prefix);
+        if is_last_taken(&mut self.numbers, &service, number) {
+            drop(self.numbers.remove(&service));
+        }
     }
 
     /// Adds the places of the zone with these prefixes. If memory runs out, some of them may have
@@ -141,6 +150,26 @@ impl Served {
             }
             EndpointKind::Terminal => {}
         }
+    }
+}
+
+/// Takes out one place, if it is there. Gives whether no number is left where one was.
+fn is_last_taken(
+    numbers: &mut HashMap<(Name, TechPrefix), GatewayNumbers>,
+    service: &(Name, TechPrefix),
+    number: u32,
+) -> bool
+    ensures puts { Puts numbers.old.entries numbers.new.entries
+        (service.now.0, service.now.1, number) false }
+    ensures others { KeepsOthers numbers.old.entries numbers.new.entries service.now }
+    ensures empty { result ≡ found_empty (numbers_at numbers.new.entries service.now) }
+{
+    match numbers.get_mut(service) {
+        Some(numbers) => {
+            numbers.take_out(number);
+            numbers.is_empty()
+        }
+        None => false,
     }
 }
 

@@ -2,8 +2,19 @@ use Rattle.std.proofs.Common.{Some, sym, ap, subst, ◌∙◌}
 use Rattle.registry.specs.Listing.{AreServed}
 use Rattle.registry.specs.Served.{Leaves}
 use Rattle.registry.specs.Roll.{at_number}
-use Rattle.registry.proofs.ListingLemmas.{settled, set_here, taken_back, may_enter, unless_err}
+use Rattle.registry.proofs.ListingLemmas.{settled, set_here, taken_back, may_enter, unless_err, when_err}
 use Rattle.registry.proofs.listing.Listing.insert.Goals as goal
+
+pub invariant_of-self : goal.invariant_of-self
+invariant_of-self c =
+    let number = c.number_for-number.result in
+    let e = c.args.endpoint in
+    let old = c.self.inside.roll.entries in
+    taken_back c.self.inside.served c.enter.new.self c.leave.new.self old number e
+    c.self.invariant
+    (when_err c.enter.result c.enter.ensures.err (sym c.is_err.ensures.value ∙ c.if-is_err.true))
+    (subst (Leaves c.enter.new.self c.leave.new.self number (Some e)) c.at_number.ensures
+    c.leave.ensures)
 
 pub invariant_of-self-in-Ok : goal.invariant_of-self-in-Ok
 invariant_of-self-in-Ok c =
