@@ -24,8 +24,8 @@ use Rattle.gk_protocol.specs.declared.requests.Asking.{Asking}
 use Rattle.gk_protocol.specs.declared.requests.Asking.TheVariants.{Reload}
 use Rattle.gk_protocol.specs.declared.owned_lines.TakenLines.{TakenLines}
 use Rattle.gk_protocol.specs.declared.owned_lines.TakenLines.TheVariants as taken
-use Rattle.gk_protocol.specs.declared.sessions.Outcome.{Outcome}
-use Rattle.gk_protocol.specs.declared.sessions.Outcome.TheVariants.{Blank, Answered, CutShort as Cut}
+use Rattle.gk_protocol.specs.declared.sessions.Progress.{Progress}
+use Rattle.gk_protocol.specs.declared.sessions.Progress.TheVariants.{Blank, Answered, CutShort as Cut}
 use Rattle.gk_protocol.specs.Requests.{asking_of, asking_at, whole_of, registering_of, registering_by_word, no_memory_to, no_memory_answer_of, reload_without_memory}
 use Rattle.gk_protocol.specs.Session.{Asked, asked_by, asked_in, lines_owned, handed_on, requests_of, MayGet, Runs, IsWhole, IsStopped, IsCutShort, Ends, session_fault_of}
 use Rattle.gk_protocol.specs.OwnedLines.{TakesLines, GivesLines}
@@ -101,10 +101,10 @@ module _ {S : Type 0} (MayAnswer : S → Request → Answer → S → Type 0) wh
   )
 
   -- a reload is never blank
-  never_blank : (lines : TakenLines) (now new : S) (sequence : ℕ) → AnswersReload MayAnswer now sequence lines Blank new → ⊥
-  never_blank (taken.Whole lines) now new sequence h = h
-  never_blank taken.NoMemory now new sequence h = h
-  never_blank taken.CutShort now new sequence h = h
+  never_blank : (lines : TakenLines) (reply : List ℕ) (now new : S) (sequence : ℕ) → AnswersReload MayAnswer now sequence lines Blank reply new → ⊥
+  never_blank (taken.Whole lines) reply now new sequence h = h
+  never_blank taken.NoMemory reply now new sequence h = h
+  never_blank taken.CutShort reply now new sequence h = h
 
   -- ---- raw lines that were taken, and what they ask
   module _ (ended now_ended : Bool) (bytes rest next : List ℕ) (old now : S) (text : List ℕ) (count : ℕ)
@@ -182,13 +182,15 @@ module _ {S : Type 0} (MayAnswer : S → Request → Answer → S → Type 0) wh
     }
 
   -- ---- a line, and the lines that belong to it
-  -- what was taken after others asks this one thing, and that is answered
-  record IsAnswered (now_ended : Bool) (bytes next : List ℕ) (before : List (List ℕ)) (now : S) (answer : Answer) (new : S) : Type 0 where
+  -- what was taken after others asks this one thing, and that is answered by this reply
+  record IsAnswered (now_ended : Bool) (bytes next : List ℕ) (before : List (List ℕ)) (now : S) (reply : List ℕ) (new : S) : Type 0 where
     pub raws : List (List ℕ)
     pub taken : LinesTaken now_ended bytes next (before ++ raws)
     pub whole : (filter (list_any (λ b. b == 10)) (before ++ raws) ≡ before ++ raws) ⊎ (next ≡ [])
     pub one : Asked
     pub asks : (at_end : Bool) (more : List (List ℕ)) → asked_in at_end 0 (raws ++ more) ≡ one ∷ asked_in at_end 0 more
+    pub answer : Answer
+    pub line : reply ≡ line_of answer
     pub get : MayGet MayAnswer now one answer new
 
   module _ (ended mid_ended now_ended : Bool) (kept bytes rest mid next : List ℕ) (old now : S) (text : List ℕ) (count : ℕ)
@@ -218,103 +220,117 @@ module _ {S : Type 0} (MayAnswer : S → Request → Answer → S → Type 0) wh
     alone : next ≡ mid → now_ended ≡ mid_ended → TakesLines mid_ended now_ended [] mid next
     alone still same_end = ((λ open_still. sym same_end ∙ open_still), still)
 
-    blank_group : (new : S) → AnswersLine MayAnswer mid_ended now_ended now (content_of kept) (Ok Blank) new mid next → IsUnderWay MayAnswer now_ended bytes next old new text count
-    blank_group new (inl a) =
+    blank_group : (reply : List ℕ) (new : S) → AnswersLine MayAnswer mid_ended now_ended now (content_of kept) (Ok Blank) reply new mid next → IsUnderWay MayAnswer now_ended bytes next old new text count
+    blank_group reply new (inl a) =
         blank_lines ended now_ended bytes rest next old now text count u (t.raw ∷ []) (group_taken [] (alone a.1 a.2)) new a.0.1
         (blank_asks t.raw (group_asks (Ok None) a.0.0))
-    blank_group new (inr a) = absurd (never_blank a.3 now new a.0 a.5)
+    blank_group reply new (inr a) = absurd (never_blank a.3 reply now new a.0 a.5)
 
-    answered_reload : (answer : Answer) (new : S) (sequence owned : ℕ) → asking_of (content_of kept) ≡ Ok (Some (Reload sequence owned)) → (lines : TakenLines)
-        → GivesLines mid_ended now_ended owned (Ok lines) mid next → AnswersReload MayAnswer now sequence lines (Answered answer) new
-        → IsAnswered now_ended bytes next u.raws now answer new
-    answered_reload answer new sequence owned asks (taken.Whole lines) gives a = record {
+    answered_reload : (reply : List ℕ) (new : S) (sequence owned : ℕ) → asking_of (content_of kept) ≡ Ok (Some (Reload sequence owned)) → (lines : TakenLines)
+        → GivesLines mid_ended now_ended owned (Ok lines) mid next → AnswersReload MayAnswer now sequence lines Answered reply new
+        → IsAnswered now_ended bytes next u.raws now reply new
+    answered_reload reply new sequence owned asks (taken.Whole lines) gives a = record {
       raws = t.raw ∷ gives.0;
       taken = group_taken gives.0 gives.1;
       whole = group_whole gives.0 gives.1;
       one = record { request = Ok (request.Reload sequence (flat_map handed_on gives.0)); no_memory = Some (reload_without_memory sequence) };
       asks = reload_asks t.raw sequence owned gives.0 (group_asks (Ok (Some (Reload sequence owned))) asks) gives.2;
-      get = inl (subst (λ (text : List ℕ). MayAnswer now (request.Reload sequence text) answer new) gives.3 a);
+      answer = a.0;
+      line = a.1;
+      get = inl (subst (λ (text : List ℕ). MayAnswer now (request.Reload sequence text) a.0 new) gives.3 a.2);
     }
-    answered_reload answer new sequence owned asks taken.NoMemory gives a = record {
+    answered_reload reply new sequence owned asks taken.NoMemory gives a = record {
       raws = t.raw ∷ gives.0;
       taken = group_taken gives.0 gives.1;
       whole = group_whole gives.0 gives.1;
       one = record { request = Ok (request.Reload sequence (flat_map handed_on gives.0)); no_memory = Some (reload_without_memory sequence) };
       asks = reload_asks t.raw sequence owned gives.0 (group_asks (Ok (Some (Reload sequence owned))) asks) gives.2;
-      get = inr (ap Some (sym a.0), a.1);
+      answer = reload_without_memory sequence;
+      line = a.0;
+      get = inr (refl, a.1);
     }
-    answered_reload answer new sequence owned asks taken.CutShort gives a = absurd a
+    answered_reload reply new sequence owned asks taken.CutShort gives a = absurd a
 
-    answered_group : (answer : Answer) (new : S) → AnswersLine MayAnswer mid_ended now_ended now (content_of kept) (Ok (Answered answer)) new mid next → IsAnswered now_ended bytes next u.raws now answer new
-    answered_group answer new (inl a) = record {
-      raws = t.raw ∷ [];
-      taken = group_taken [] (alone a.1 a.2);
-      whole = group_whole [] (alone a.1 a.2);
-      one = record { request = a.0.0; no_memory = no_memory_answer_of (content_of kept) };
-      asks = line_asks t.raw a.0.0 (no_memory_answer_of (content_of kept)) (group_asks (whole_of a.0.0) a.0.1) (sym (kept_registers mid_ended kept rest mid t));
-      get = a.0.2;
-    }
-    answered_group answer new (inr a) = answered_reload answer new a.0 a.1 a.2 a.3 a.4 a.5
+    answered_group : (reply : List ℕ) (new : S) → AnswersLine MayAnswer mid_ended now_ended now (content_of kept) (Ok Answered) reply new mid next → IsAnswered now_ended bytes next u.raws now reply new
+    answered_group reply new (inl a) =
+        let asked = a.0.2 in
+        record {
+          raws = t.raw ∷ [];
+          taken = group_taken [] (alone a.1 a.2);
+          whole = group_whole [] (alone a.1 a.2);
+          one = record { request = asked.0; no_memory = no_memory_answer_of (content_of kept) };
+          asks = line_asks t.raw asked.0 (no_memory_answer_of (content_of kept)) (group_asks (whole_of asked.0) asked.1) (sym (kept_registers mid_ended kept rest mid t));
+          answer = a.0.0;
+          line = a.0.1;
+          get = asked.2;
+        }
+    answered_group reply new (inr a) = answered_reload reply new a.0 a.1 a.2 a.3 a.4 a.5
 
-    answered_line : (answer : Answer) (new : S) → AnswersLine MayAnswer mid_ended now_ended now (content_of kept) (Ok (Answered answer)) new mid next
-        → IsUnderWay MayAnswer now_ended bytes next old new (text ++ line_of answer) (count + 1)
-    answered_line answer new a =
-        let g = answered_group answer new a in
-        answered_lines ended now_ended bytes rest next old now text count u g.raws g.taken g.one answer new g.asks g.get
+    answered_line : (reply : List ℕ) (new : S) → AnswersLine MayAnswer mid_ended now_ended now (content_of kept) (Ok Answered) reply new mid next
+        → IsUnderWay MayAnswer now_ended bytes next old new (text ++ reply) (count + 1)
+    answered_line reply new a =
+        let g = answered_group reply new a in
+        subst (λ (line : List ℕ). IsUnderWay MayAnswer now_ended bytes next old new (text ++ line) (count + 1)) (sym g.line)
+        (answered_lines ended now_ended bytes rest next old now text count u g.raws g.taken g.one g.answer new g.asks g.get)
 
     -- a line whose reply was not written to its end
-    cut_line : (answer : Answer) (new : S) (written lost : List ℕ) → AnswersLine MayAnswer mid_ended now_ended now (content_of kept) (Ok (Answered answer)) new mid next
-        → line_of answer ≡ written ++ lost → IsCutShort MayAnswer bytes next old new (text ++ written)
-    cut_line answer new written lost a line =
-        let g = answered_group answer new a in
+    cut_line : (reply : List ℕ) (new : S) (written lost : List ℕ) → AnswersLine MayAnswer mid_ended now_ended now (content_of kept) (Ok Answered) reply new mid next
+        → reply ≡ written ++ lost → IsCutShort MayAnswer bytes next old new (text ++ written)
+    cut_line reply new written lost a line =
+        let g = answered_group reply new a in
         let asks_at : (at_end : Bool) → asked_in at_end 0 g.raws ≡ g.one ∷ [] = λ at_end. ap (asked_in at_end 0) (sym (append-nil g.raws)) ∙ g.asks at_end [] in
-        cut_lines ended now_ended bytes rest next old now text count u g.raws g.taken g.one answer new written lost (asks_at true)
+        cut_lines ended now_ended bytes rest next old now text count u g.raws g.taken g.one g.answer new written lost (asks_at true)
         (⊎_elim
         (λ (w : filter (list_any (λ b. b == 10)) (u.raws ++ g.raws) ≡ u.raws ++ g.raws). inl (w, asks_at false))
         (λ (none : next ≡ []). inr none) g.whole)
-        g.get line
+        g.get (sym g.line ∙ line)
 
-    -- a reload whose lines are cut short by the end of the input
-    record IsCut (new : S) : Type 0 where
+    -- a reload whose lines are cut short by the end of the input, as this reply says
+    record IsCut (reply : List ℕ) (new : S) : Type 0 where
       pub raws : List (List ℕ)
       pub taken : LinesTaken now_ended bytes next (u.raws ++ raws)
       pub asks : asked_in true 0 raws ≡ (record { request = Err CutShort; no_memory = None }) ∷ []
       pub none : next ≡ []
+      pub line : reply ≡ line_of (Malformed CutShort)
       pub same : new ≡ now
 
-    cut_reload : (new : S) (sequence owned : ℕ) → asking_of (content_of kept) ≡ Ok (Some (Reload sequence owned)) → (lines : TakenLines)
-        → GivesLines mid_ended now_ended owned (Ok lines) mid next → AnswersReload MayAnswer now sequence lines Cut new → IsCut new
-    cut_reload new sequence owned asks (taken.Whole lines) gives a = absurd a
-    cut_reload new sequence owned asks taken.NoMemory gives a = absurd a
-    cut_reload new sequence owned asks taken.CutShort gives a = record {
+    cut_reload : (reply : List ℕ) (new : S) (sequence owned : ℕ) → asking_of (content_of kept) ≡ Ok (Some (Reload sequence owned)) → (lines : TakenLines)
+        → GivesLines mid_ended now_ended owned (Ok lines) mid next → AnswersReload MayAnswer now sequence lines Cut reply new → IsCut reply new
+    cut_reload reply new sequence owned asks (taken.Whole lines) gives a = absurd a
+    cut_reload reply new sequence owned asks taken.NoMemory gives a = absurd a
+    cut_reload reply new sequence owned asks taken.CutShort gives a = record {
       raws = t.raw ∷ gives.0;
       taken = group_taken gives.0 gives.1;
       asks = reload_cut t.raw sequence owned gives.0 (group_asks (Ok (Some (Reload sequence owned))) asks) gives.2;
       none = gives.3;
-      same = a;
+      line = a.0;
+      same = a.1;
     }
 
-    cut_group : (new : S) → AnswersLine MayAnswer mid_ended now_ended now (content_of kept) (Ok Cut) new mid next → IsCut new
-    cut_group new (inl a) = absurd a.0
-    cut_group new (inr a) = cut_reload new a.0 a.1 a.2 a.3 a.4 a.5
+    cut_group : (reply : List ℕ) (new : S) → AnswersLine MayAnswer mid_ended now_ended now (content_of kept) (Ok Cut) reply new mid next → IsCut reply new
+    cut_group reply new (inl a) = absurd a.0
+    cut_group reply new (inr a) = cut_reload reply new a.0 a.1 a.2 a.3 a.4 a.5
 
     -- its fault is the last answer
-    ended_line : (new : S) → AnswersLine MayAnswer mid_ended now_ended now (content_of kept) (Ok Cut) new mid next
-        → (next ≡ []) × IsWhole MayAnswer bytes old new (text ++ line_of (Malformed CutShort)) (count + 1)
-    ended_line new a =
-        let g = cut_group new a in
-        (g.none, answered_at_end ended now_ended bytes rest next old now text count u g.raws g.taken (record { request = Err CutShort; no_memory = None }) (Malformed CutShort) new g.asks g.none (inl (refl, g.same)))
+    ended_line : (reply : List ℕ) (new : S) → AnswersLine MayAnswer mid_ended now_ended now (content_of kept) (Ok Cut) reply new mid next
+        → (next ≡ []) × IsWhole MayAnswer bytes old new (text ++ reply) (count + 1)
+    ended_line reply new a =
+        let g = cut_group reply new a in (
+          g.none,
+          subst (λ (line : List ℕ). IsWhole MayAnswer bytes old new (text ++ line) (count + 1)) (sym g.line)
+              (answered_at_end ended now_ended bytes rest next old now text count u g.raws g.taken (record { request = Err CutShort; no_memory = None }) (Malformed CutShort) new g.asks g.none (inl (refl, g.same))),
+        )
 
-    lost_line : (new : S) (written lost : List ℕ) → AnswersLine MayAnswer mid_ended now_ended now (content_of kept) (Ok Cut) new mid next
-        → line_of (Malformed CutShort) ≡ written ++ lost → IsCutShort MayAnswer bytes next old new (text ++ written)
-    lost_line new written lost a line =
-        let g = cut_group new a in
-        cut_lines ended now_ended bytes rest next old now text count u g.raws g.taken (record { request = Err CutShort; no_memory = None }) (Malformed CutShort) new written lost g.asks (inr g.none) (inl (refl, g.same)) line
+    lost_line : (reply : List ℕ) (new : S) (written lost : List ℕ) → AnswersLine MayAnswer mid_ended now_ended now (content_of kept) (Ok Cut) reply new mid next
+        → reply ≡ written ++ lost → IsCutShort MayAnswer bytes next old new (text ++ written)
+    lost_line reply new written lost a line =
+        let g = cut_group reply new a in
+        cut_lines ended now_ended bytes rest next old now text count u g.raws g.taken (record { request = Err CutShort; no_memory = None }) (Malformed CutShort) new written lost g.asks (inr g.none) (inl (refl, g.same)) (sym g.line ∙ line)
 
     -- the reader fails within the lines of a reload
-    stopped_within : (fault : LineFault) (new : S) → AnswersLine MayAnswer mid_ended now_ended now (content_of kept) (Err fault) new mid next → IsStopped MayAnswer bytes next old new text
-    stopped_within fault new (inl a) = absurd a.0
-    stopped_within fault new (inr a) =
+    stopped_within : (fault : LineFault) (reply : List ℕ) (new : S) → AnswersLine MayAnswer mid_ended now_ended now (content_of kept) (Err fault) reply new mid next → IsStopped MayAnswer bytes next old new text
+    stopped_within fault reply new (inl a) = absurd a.0
+    stopped_within fault reply new (inr a) =
         let gives = a.4 in
         let owned = gives.0 in
         let raws : List (List ℕ) = u.raws ++ t.raw ∷ owned in
@@ -352,28 +368,28 @@ module _ {S : Type 0} (MayAnswer : S → Request → Answer → S → Type 0) wh
       }
 
   -- ---- the same over what a reader tells
-  pub session_passes : (known rest mid next : Option (List ℕ)) (ended mid_ended now_ended : Bool) (kept : List ℕ) (old now new : S) (before after : Option (List ℕ)) (count : ℕ)
+  pub session_passes : (known rest mid next : Option (List ℕ)) (ended mid_ended now_ended : Bool) (kept reply : List ℕ) (old now new : S) (before after : Option (List ℕ)) (count : ℕ)
       → ended ≡ false → KnownStep known rest (UnderWay MayAnswer ended old now before after count) → KnownStep rest mid (TakesLine mid_ended kept)
-      → KnownStep mid next (AnswersLine MayAnswer mid_ended now_ended now (content_of kept) (Ok Blank) new) → KnownStep known next (UnderWay MayAnswer now_ended old new before after count)
-  session_passes None rest mid next ended mid_ended now_ended kept old now new before after count unended u t a = tt
-  session_passes (Some bytes) None mid next ended mid_ended now_ended kept old now new before after count unended u t a = absurd u
-  session_passes (Some bytes) (Some rest) None next ended mid_ended now_ended kept old now new before after count unended u t a = absurd t
-  session_passes (Some bytes) (Some rest) (Some mid) None ended mid_ended now_ended kept old now new before after count unended u t a = absurd a
-  session_passes (Some bytes) (Some rest) (Some mid) (Some next) ended mid_ended now_ended kept old now new before after count unended u t a =
-      (u.0, blank_group ended mid_ended now_ended kept bytes rest mid next old now u.0 count unended u.1 t new a, u.2)
+      → KnownStep mid next (AnswersLine MayAnswer mid_ended now_ended now (content_of kept) (Ok Blank) reply new) → KnownStep known next (UnderWay MayAnswer now_ended old new before after count)
+  session_passes None rest mid next ended mid_ended now_ended kept reply old now new before after count unended u t a = tt
+  session_passes (Some bytes) None mid next ended mid_ended now_ended kept reply old now new before after count unended u t a = absurd u
+  session_passes (Some bytes) (Some rest) None next ended mid_ended now_ended kept reply old now new before after count unended u t a = absurd t
+  session_passes (Some bytes) (Some rest) (Some mid) None ended mid_ended now_ended kept reply old now new before after count unended u t a = absurd a
+  session_passes (Some bytes) (Some rest) (Some mid) (Some next) ended mid_ended now_ended kept reply old now new before after count unended u t a =
+      (u.0, blank_group ended mid_ended now_ended kept bytes rest mid next old now u.0 count unended u.1 t reply new a, u.2)
 
-  pub session_answers : (known rest mid next : Option (List ℕ)) (ended mid_ended now_ended : Bool) (kept : List ℕ) (old now new : S) (answer : Answer) (before after written : Option (List ℕ)) (count : ℕ)
+  pub session_answers : (known rest mid next : Option (List ℕ)) (ended mid_ended now_ended : Bool) (kept reply : List ℕ) (old now new : S) (before after written : Option (List ℕ)) (count : ℕ)
       → ended ≡ false → KnownStep known rest (UnderWay MayAnswer ended old now before after count) → KnownStep rest mid (TakesLine mid_ended kept)
-      → KnownStep mid next (AnswersLine MayAnswer mid_ended now_ended now (content_of kept) (Ok (Answered answer)) new) → Appends after written (line_of answer)
+      → KnownStep mid next (AnswersLine MayAnswer mid_ended now_ended now (content_of kept) (Ok Answered) reply new) → Appends after written reply
       → KnownStep known next (UnderWay MayAnswer now_ended old new before written (count + 1))
-  session_answers None rest mid next ended mid_ended now_ended kept old now new answer before after written count unended u t a w = tt
-  session_answers (Some bytes) None mid next ended mid_ended now_ended kept old now new answer before after written count unended u t a w = absurd u
-  session_answers (Some bytes) (Some rest) None next ended mid_ended now_ended kept old now new answer before after written count unended u t a w = absurd t
-  session_answers (Some bytes) (Some rest) (Some mid) None ended mid_ended now_ended kept old now new answer before after written count unended u t a w = absurd a
-  session_answers (Some bytes) (Some rest) (Some mid) (Some next) ended mid_ended now_ended kept old now new answer before after written count unended u t a w = (
-    u.0 ++ line_of answer,
-    answered_line ended mid_ended now_ended kept bytes rest mid next old now u.0 count unended u.1 t answer new a,
-    appends_more before after written u.0 (line_of answer) u.2 w,
+  session_answers None rest mid next ended mid_ended now_ended kept reply old now new before after written count unended u t a w = tt
+  session_answers (Some bytes) None mid next ended mid_ended now_ended kept reply old now new before after written count unended u t a w = absurd u
+  session_answers (Some bytes) (Some rest) None next ended mid_ended now_ended kept reply old now new before after written count unended u t a w = absurd t
+  session_answers (Some bytes) (Some rest) (Some mid) None ended mid_ended now_ended kept reply old now new before after written count unended u t a w = absurd a
+  session_answers (Some bytes) (Some rest) (Some mid) (Some next) ended mid_ended now_ended kept reply old now new before after written count unended u t a w = (
+    u.0 ++ reply,
+    answered_line ended mid_ended now_ended kept bytes rest mid next old now u.0 count unended u.1 t reply new a,
+    appends_more before after written u.0 reply u.2 w,
   )
 
   -- after the last line
@@ -403,61 +419,61 @@ module _ {S : Type 0} (MayAnswer : S → Request → Answer → S → Type 0) wh
       (u.0, ends_stopped fault bytes pending next old now u.0 none (stopped_session ended bytes rest next old now u.0 count unended u.1 part), u.2)
 
   -- the same within the lines of a reload
-  pub session_stops_within : (known rest mid remaining : Option (List ℕ)) (pending : List ℕ) (ended mid_ended now_ended : Bool) (kept : List ℕ) (old now new : S) (before after : Option (List ℕ)) (count : ℕ) (fault : LineFault)
+  pub session_stops_within : (known rest mid remaining : Option (List ℕ)) (pending : List ℕ) (ended mid_ended now_ended : Bool) (kept reply : List ℕ) (old now new : S) (before after : Option (List ℕ)) (count : ℕ) (fault : LineFault)
       → ended ≡ false → KnownStep known rest (UnderWay MayAnswer ended old now before after count) → KnownStep rest mid (TakesLine mid_ended kept)
-      → KnownStep mid (prepend_known pending remaining) (AnswersLine MayAnswer mid_ended now_ended now (content_of kept) (Err fault) new) → pending ≡ []
+      → KnownStep mid (prepend_known pending remaining) (AnswersLine MayAnswer mid_ended now_ended now (content_of kept) (Err fault) reply new) → pending ≡ []
       → KnownStep known remaining (λ bytes rest. (text : List ℕ) × Ends MayAnswer bytes pending rest old new text (Err (session_fault_of fault)) × Appends before after text)
-  session_stops_within None rest mid remaining pending ended mid_ended now_ended kept old now new before after count fault unended u t a none = tt
-  session_stops_within (Some bytes) None mid remaining pending ended mid_ended now_ended kept old now new before after count fault unended u t a none = absurd u
-  session_stops_within (Some bytes) (Some rest) None remaining pending ended mid_ended now_ended kept old now new before after count fault unended u t a none = absurd t
-  session_stops_within (Some bytes) (Some rest) (Some mid) None pending ended mid_ended now_ended kept old now new before after count fault unended u t a none = absurd a
-  session_stops_within (Some bytes) (Some rest) (Some mid) (Some next) pending ended mid_ended now_ended kept old now new before after count fault unended u t a none =
-      let stopped : IsStopped MayAnswer bytes (pending ++ next) old new u.0 = stopped_within ended mid_ended now_ended kept bytes rest mid (pending ++ next) old now u.0 count unended u.1 t fault new a in
+  session_stops_within None rest mid remaining pending ended mid_ended now_ended kept reply old now new before after count fault unended u t a none = tt
+  session_stops_within (Some bytes) None mid remaining pending ended mid_ended now_ended kept reply old now new before after count fault unended u t a none = absurd u
+  session_stops_within (Some bytes) (Some rest) None remaining pending ended mid_ended now_ended kept reply old now new before after count fault unended u t a none = absurd t
+  session_stops_within (Some bytes) (Some rest) (Some mid) None pending ended mid_ended now_ended kept reply old now new before after count fault unended u t a none = absurd a
+  session_stops_within (Some bytes) (Some rest) (Some mid) (Some next) pending ended mid_ended now_ended kept reply old now new before after count fault unended u t a none =
+      let stopped : IsStopped MayAnswer bytes (pending ++ next) old new u.0 = stopped_within ended mid_ended now_ended kept bytes rest mid (pending ++ next) old now u.0 count unended u.1 t fault reply new a in
       (u.0, ends_stopped fault bytes pending next old new u.0 none (subst (λ (q : List ℕ). IsStopped MayAnswer bytes (q ++ next) old new u.0) none stopped), u.2)
 
   -- a fault of writing
-  pub session_cut : (known rest mid remaining : Option (List ℕ)) (pending : List ℕ) (ended mid_ended now_ended : Bool) (kept : List ℕ) (old now new : S) (answer : Answer) (before after written : Option (List ℕ)) (count : ℕ)
+  pub session_cut : (known rest mid remaining : Option (List ℕ)) (pending : List ℕ) (ended mid_ended now_ended : Bool) (kept reply : List ℕ) (old now new : S) (before after written : Option (List ℕ)) (count : ℕ)
       → ended ≡ false → KnownStep known rest (UnderWay MayAnswer ended old now before after count) → KnownStep rest mid (TakesLine mid_ended kept)
-      → KnownStep mid (prepend_known pending remaining) (AnswersLine MayAnswer mid_ended now_ended now (content_of kept) (Ok (Answered answer)) new) → AppendsFront after written (line_of answer)
+      → KnownStep mid (prepend_known pending remaining) (AnswersLine MayAnswer mid_ended now_ended now (content_of kept) (Ok Answered) reply new) → AppendsFront after written reply
       → KnownStep known remaining (λ bytes rest. (text : List ℕ) × Ends MayAnswer bytes pending rest old new text (Err WriteFault) × Appends before written text)
-  session_cut None rest mid remaining pending ended mid_ended now_ended kept old now new answer before after written count unended u t a w = tt
-  session_cut (Some bytes) None mid remaining pending ended mid_ended now_ended kept old now new answer before after written count unended u t a w = absurd u
-  session_cut (Some bytes) (Some rest) None remaining pending ended mid_ended now_ended kept old now new answer before after written count unended u t a w = absurd t
-  session_cut (Some bytes) (Some rest) (Some mid) None pending ended mid_ended now_ended kept old now new answer before after written count unended u t a w = absurd a
-  session_cut (Some bytes) (Some rest) (Some mid) (Some next) pending ended mid_ended now_ended kept old now new answer before after written count unended u t a w = (
+  session_cut None rest mid remaining pending ended mid_ended now_ended kept reply old now new before after written count unended u t a w = tt
+  session_cut (Some bytes) None mid remaining pending ended mid_ended now_ended kept reply old now new before after written count unended u t a w = absurd u
+  session_cut (Some bytes) (Some rest) None remaining pending ended mid_ended now_ended kept reply old now new before after written count unended u t a w = absurd t
+  session_cut (Some bytes) (Some rest) (Some mid) None pending ended mid_ended now_ended kept reply old now new before after written count unended u t a w = absurd a
+  session_cut (Some bytes) (Some rest) (Some mid) (Some next) pending ended mid_ended now_ended kept reply old now new before after written count unended u t a w = (
     u.0 ++ w.1.0,
-    cut_line ended mid_ended now_ended kept bytes rest mid (pending ++ next) old now u.0 count unended u.1 t answer new w.1.0 w.0 a w.1.1,
+    cut_line ended mid_ended now_ended kept bytes rest mid (pending ++ next) old now u.0 count unended u.1 t reply new w.1.0 w.0 a w.1.1,
     appends_more before after written u.0 w.1.0 u.2 w.1.2,
   )
 
   -- ---- the input ends within the lines of a reload
-  pub session_cut_short : (known rest mid remaining : Option (List ℕ)) (pending : List ℕ) (ended mid_ended now_ended : Bool) (kept : List ℕ) (old now new : S) (before after written : Option (List ℕ)) (count : ℕ)
+  pub session_cut_short : (known rest mid remaining : Option (List ℕ)) (pending : List ℕ) (ended mid_ended now_ended : Bool) (kept reply : List ℕ) (old now new : S) (before after written : Option (List ℕ)) (count : ℕ)
       → ended ≡ false → KnownStep known rest (UnderWay MayAnswer ended old now before after count) → KnownStep rest mid (TakesLine mid_ended kept)
-      → KnownStep mid (prepend_known pending remaining) (AnswersLine MayAnswer mid_ended now_ended now (content_of kept) (Ok Cut) new)
-      → pending ≡ [] → IsAtEnd remaining → Appends after written (line_of (Malformed CutShort))
+      → KnownStep mid (prepend_known pending remaining) (AnswersLine MayAnswer mid_ended now_ended now (content_of kept) (Ok Cut) reply new)
+      → pending ≡ [] → IsAtEnd remaining → Appends after written reply
       → KnownStep known remaining (λ bytes rest. (text : List ℕ) × Ends MayAnswer bytes pending rest old new text (Ok (count + 1)) × Appends before written text)
-  session_cut_short None rest mid remaining pending ended mid_ended now_ended kept old now new before after written count unended u t a none end w = tt
-  session_cut_short (Some bytes) None mid remaining pending ended mid_ended now_ended kept old now new before after written count unended u t a none end w = absurd u
-  session_cut_short (Some bytes) (Some rest) None remaining pending ended mid_ended now_ended kept old now new before after written count unended u t a none end w = absurd t
-  session_cut_short (Some bytes) (Some rest) (Some mid) None pending ended mid_ended now_ended kept old now new before after written count unended u t a none end w = absurd a
-  session_cut_short (Some bytes) (Some rest) (Some mid) (Some next) pending ended mid_ended now_ended kept old now new before after written count unended u t a none end w = (
-    u.0 ++ line_of (Malformed CutShort),
-    (none, end, (ended_line ended mid_ended now_ended kept bytes rest mid (pending ++ next) old now u.0 count unended u.1 t new a).1),
-    appends_more before after written u.0 (line_of (Malformed CutShort)) u.2 w,
+  session_cut_short None rest mid remaining pending ended mid_ended now_ended kept reply old now new before after written count unended u t a none end w = tt
+  session_cut_short (Some bytes) None mid remaining pending ended mid_ended now_ended kept reply old now new before after written count unended u t a none end w = absurd u
+  session_cut_short (Some bytes) (Some rest) None remaining pending ended mid_ended now_ended kept reply old now new before after written count unended u t a none end w = absurd t
+  session_cut_short (Some bytes) (Some rest) (Some mid) None pending ended mid_ended now_ended kept reply old now new before after written count unended u t a none end w = absurd a
+  session_cut_short (Some bytes) (Some rest) (Some mid) (Some next) pending ended mid_ended now_ended kept reply old now new before after written count unended u t a none end w = (
+    u.0 ++ reply,
+    (none, end, (ended_line ended mid_ended now_ended kept bytes rest mid (pending ++ next) old now u.0 count unended u.1 t reply new a).1),
+    appends_more before after written u.0 reply u.2 w,
   )
 
   -- and the reply is not written to its end
-  pub session_lost : (known rest mid remaining : Option (List ℕ)) (pending : List ℕ) (ended mid_ended now_ended : Bool) (kept : List ℕ) (old now new : S) (before after written : Option (List ℕ)) (count : ℕ)
+  pub session_lost : (known rest mid remaining : Option (List ℕ)) (pending : List ℕ) (ended mid_ended now_ended : Bool) (kept reply : List ℕ) (old now new : S) (before after written : Option (List ℕ)) (count : ℕ)
       → ended ≡ false → KnownStep known rest (UnderWay MayAnswer ended old now before after count) → KnownStep rest mid (TakesLine mid_ended kept)
-      → KnownStep mid (prepend_known pending remaining) (AnswersLine MayAnswer mid_ended now_ended now (content_of kept) (Ok Cut) new) → AppendsFront after written (line_of (Malformed CutShort))
+      → KnownStep mid (prepend_known pending remaining) (AnswersLine MayAnswer mid_ended now_ended now (content_of kept) (Ok Cut) reply new) → AppendsFront after written reply
       → KnownStep known remaining (λ bytes rest. (text : List ℕ) × Ends MayAnswer bytes pending rest old new text (Err WriteFault) × Appends before written text)
-  session_lost None rest mid remaining pending ended mid_ended now_ended kept old now new before after written count unended u t a w = tt
-  session_lost (Some bytes) None mid remaining pending ended mid_ended now_ended kept old now new before after written count unended u t a w = absurd u
-  session_lost (Some bytes) (Some rest) None remaining pending ended mid_ended now_ended kept old now new before after written count unended u t a w = absurd t
-  session_lost (Some bytes) (Some rest) (Some mid) None pending ended mid_ended now_ended kept old now new before after written count unended u t a w = absurd a
-  session_lost (Some bytes) (Some rest) (Some mid) (Some next) pending ended mid_ended now_ended kept old now new before after written count unended u t a w = (
+  session_lost None rest mid remaining pending ended mid_ended now_ended kept reply old now new before after written count unended u t a w = tt
+  session_lost (Some bytes) None mid remaining pending ended mid_ended now_ended kept reply old now new before after written count unended u t a w = absurd u
+  session_lost (Some bytes) (Some rest) None remaining pending ended mid_ended now_ended kept reply old now new before after written count unended u t a w = absurd t
+  session_lost (Some bytes) (Some rest) (Some mid) None pending ended mid_ended now_ended kept reply old now new before after written count unended u t a w = absurd a
+  session_lost (Some bytes) (Some rest) (Some mid) (Some next) pending ended mid_ended now_ended kept reply old now new before after written count unended u t a w = (
     u.0 ++ w.1.0,
-    lost_line ended mid_ended now_ended kept bytes rest mid (pending ++ next) old now u.0 count unended u.1 t new w.1.0 w.0 a w.1.1,
+    lost_line ended mid_ended now_ended kept bytes rest mid (pending ++ next) old now u.0 count unended u.1 t reply new w.1.0 w.0 a w.1.1,
     appends_more before after written u.0 w.1.0 u.2 w.1.2,
   )
 

@@ -2,14 +2,17 @@
 use Rattle.std.specs.Prelude.{◌≡◌, ◌⊎◌, ℕ, Bool, List, Option, Some, None, Result, Ok, Err}
 use Rattle.gk_lines.specs.declared.line_reader.ReadFault.{ReadFault}
 use Rattle.gk_protocol.specs.declared.request_faults.RequestFault.{RequestFault}
+use Rattle.gk_protocol.specs.declared.request_faults.RequestFault.TheVariants as fault
 use Rattle.gk_protocol.specs.declared.requests.Request.{Request}
 use Rattle.gk_protocol.specs.declared.requests.Request.TheVariants as request
 use Rattle.gk_protocol.specs.declared.requests.Asking.TheVariants.{Reload}
 use Rattle.gk_protocol.specs.declared.answers.Answer.{Answer}
+use Rattle.gk_protocol.specs.declared.answers.Answer.TheVariants.{Malformed}
 use Rattle.gk_protocol.specs.declared.owned_lines.TakenLines.{TakenLines}
 use Rattle.gk_protocol.specs.declared.owned_lines.TakenLines.TheVariants as taken
-use Rattle.gk_protocol.specs.declared.sessions.Outcome.{Outcome}
-use Rattle.gk_protocol.specs.declared.sessions.Outcome.TheVariants.{Blank, Answered, CutShort}
+use Rattle.gk_protocol.specs.declared.sessions.Progress.{Progress}
+use Rattle.gk_protocol.specs.declared.sessions.Progress.TheVariants.{Blank, Answered, CutShort}
+use Rattle.gk_protocol.specs.Answers.{line_of}
 use Rattle.gk_protocol.specs.Requests.{asking_of, whole_of, no_memory_answer_of, reload_without_memory}
 use Rattle.gk_protocol.specs.OwnedLines.{GivesLines}
 use Rattle.gk_protocol.specs.Session.{MayGet}
@@ -22,37 +25,40 @@ module _ {S : Type 0} (MayAnswer : S → Request → Answer → S → Type 0) wh
       × MayGet MayAnswer old
       (record { request = request; no_memory = no_memory_answer_of line }) answer new
 
-  -- the answer to a reload by what became of its lines
-  abbrev pub AnswersReload : S → ℕ → TakenLines → Outcome → S → Type 0
-  AnswersReload old sequence (taken.Whole lines) (Answered answer) new =
-      MayAnswer old (request.Reload sequence lines) answer new
-  AnswersReload old sequence taken.NoMemory (Answered answer) new =
-      (answer ≡ reload_without_memory sequence) × (new ≡ old)
-  AnswersReload old sequence taken.CutShort CutShort new = new ≡ old
-  AnswersReload old sequence lines outcome new = ⊥
+  -- the answer to a reload by what became of its lines, of which the reply is the line
+  abbrev pub AnswersReload : S → ℕ → TakenLines → Progress → List ℕ → S → Type 0
+  AnswersReload old sequence (taken.Whole lines) Answered reply new =
+      (answer : Answer) × (reply ≡ line_of answer)
+      × MayAnswer old (request.Reload sequence lines) answer new
+  AnswersReload old sequence taken.NoMemory Answered reply new =
+      (reply ≡ line_of (reload_without_memory sequence)) × (new ≡ old)
+  AnswersReload old sequence taken.CutShort CutShort reply new =
+      (reply ≡ line_of (Malformed fault.CutShort)) × (new ≡ old)
+  AnswersReload old sequence lines progress reply new = ⊥
 
   -- a line asks for a reload with the next lines, which are taken; or their end was not read, and
   -- the answerer was not asked
-  abbrev pub TriesReload : Bool → Bool → S → List ℕ → Result Outcome ReadFault → S → List ℕ → List ℕ
-      → Type 0
-  TriesReload ended now_ended old line (Ok outcome) new bytes rest =
+  abbrev pub TriesReload : Bool → Bool → S → List ℕ → Result Progress ReadFault → List ℕ → S
+      → List ℕ → List ℕ → Type 0
+  TriesReload ended now_ended old line (Ok progress) reply new bytes rest =
       (sequence : ℕ) × (count : ℕ) × (asking_of line ≡ Ok (Some (Reload sequence count)))
       × (lines : TakenLines) × GivesLines ended now_ended count (Ok lines) bytes rest
-      × AnswersReload old sequence lines outcome new
-  TriesReload ended now_ended old line (Err fault) new bytes rest =
+      × AnswersReload old sequence lines progress reply new
+  TriesReload ended now_ended old line (Err fault) reply new bytes rest =
       (sequence : ℕ) × (count : ℕ) × (asking_of line ≡ Ok (Some (Reload sequence count)))
       × (new ≡ old) × GivesLines ended now_ended count (Err fault) bytes rest
 
-  -- a line by itself leaves the input after it as it is
-  abbrev pub AnswersByItself : S → List ℕ → Result Outcome ReadFault → S → Type 0
-  AnswersByItself old line (Ok Blank) new = (asking_of line ≡ Ok None) × (new ≡ old)
-  AnswersByItself old line (Ok (Answered answer)) new = AnswersAlone old line answer new
-  AnswersByItself old line (Ok CutShort) new = ⊥
-  AnswersByItself old line (Err fault) new = ⊥
+  -- a line by itself leaves the input after it as it is; the reply is the line of its answer
+  abbrev pub AnswersByItself : S → List ℕ → Result Progress ReadFault → List ℕ → S → Type 0
+  AnswersByItself old line (Ok Blank) reply new = (asking_of line ≡ Ok None) × (new ≡ old)
+  AnswersByItself old line (Ok Answered) reply new =
+      (answer : Answer) × (reply ≡ line_of answer) × AnswersAlone old line answer new
+  AnswersByItself old line (Ok CutShort) reply new = ⊥
+  AnswersByItself old line (Err fault) reply new = ⊥
 
-  -- what comes of a line before these bytes, of which this rest is left
-  abbrev pub AnswersLine : Bool → Bool → S → List ℕ → Result Outcome ReadFault → S → List ℕ → List ℕ
-      → Type 0
-  AnswersLine ended now_ended old line result new bytes rest =
-      (AnswersByItself old line result new × (rest ≡ bytes) × (now_ended ≡ ended))
-      ⊎ TriesReload ended now_ended old line result new bytes rest
+  -- what comes of a line before these bytes, of which this rest is left, with this reply
+  abbrev pub AnswersLine : Bool → Bool → S → List ℕ → Result Progress ReadFault → List ℕ → S
+      → List ℕ → List ℕ → Type 0
+  AnswersLine ended now_ended old line result reply new bytes rest =
+      (AnswersByItself old line result reply new × (rest ≡ bytes) × (now_ended ≡ ended))
+      ⊎ TriesReload ended now_ended old line result reply new bytes rest

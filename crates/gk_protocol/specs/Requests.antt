@@ -262,11 +262,6 @@ abbrev pub IsNoRequest : List ℕ → NoRequest → Type 0
 IsNoRequest line (Fault fault) = asking_of line ≡ Err fault
 IsNoRequest line (NoMemory sequence id) = registering_of line ≡ Some (sequence, id)
 
--- the same, by the words of the line
-abbrev pub IsNoRequestAt : List (List ℕ) → NoRequest → Type 0
-IsNoRequestAt words (Fault fault) = asking_at words ≡ Err fault
-IsNoRequestAt words (NoMemory sequence id) = registering_by_word words ≡ Some (sequence, id)
-
 -- the same of a registration, by the words after RRQ
 abbrev pub IsNoRegistrationAt : List (List ℕ) → NoRequest → Type 0
 IsNoRegistrationAt words (Fault fault) = register_at words ≡ Err fault
@@ -278,6 +273,11 @@ AreNoOptionsAt sequence endpoint words (Fault fault) =
     options_at all_options endpoint words ≡ Err fault
 AreNoOptionsAt sequence endpoint words (NoMemory number id) =
     (number ≡ sequence) × (id ≡ endpoint.id) × IsTrue (begins_with_option words)
+
+-- what is read of a line for which no memory is taken, by what it asks
+abbrev pub read_of : Result (Option Asking) RequestFault → Result (Option Asking) NoRequest
+read_of (Ok asked) = Ok asked
+read_of (Err fault) = Err (Fault fault)
 
 -- the answer to a line that is no request
 abbrev pub answer_of_none : NoRequest → Answer

@@ -10,7 +10,7 @@ ghost use Rattle.gk_protocol.specs.Requests as Spec;
 
 use crate::request_faults::{NoRequest, RequestFault};
 use crate::request_fields::{SIGNALLING_PORT, kind_field, sequence_field};
-use crate::requests::Request;
+use crate::requests::{Asking, Request};
 use gk_terms::fields::{address_field, name_field};
 use gk_terms::limits::{MOST_ALIASES, MOST_TECHNOLOGIES};
 use gk_terms::words::Words;
@@ -38,15 +38,15 @@ pub(crate) struct OptionsLeft {
 
 /// `RRQ seq KIND id zone addr [e164=D] [tech=P] ..`, after its first word.
 #[inline(never)]
-pub(crate) fn register(alloc: Global, words: &mut Words<'_>) -> Result<Request, NoRequest>
+pub(crate) fn register(alloc: Global, words: &mut Words<'_>) -> Result<Option<Asking>, NoRequest>
     ensures { MatchResult result
-        (λ request. Spec.register_at (words_of words.old) ≡ Ok request)
+        (λ asked. Spec.whole_of (Spec.register_at (words_of words.old)) ≡ Ok asked)
         (Spec.IsNoRegistrationAt (words_of words.old)) }
 {
     let sequence = sequence_field(words)?;
     let bare = bare_endpoint(alloc, words)?;
     let endpoint = with_options(sequence, bare, words)?;
-    Ok(Request::Register { sequence, endpoint })
+    Ok(Some(Asking::Whole(Request::Register { sequence, endpoint })))
 }
 
 /// Kind, ID, zone and address of a registration, as an endpoint without aliases and technology

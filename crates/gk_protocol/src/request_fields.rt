@@ -1,12 +1,13 @@
 //! The fields that requests alone have.
 
-ghost use Rattle.gk_terms.specs.Fields.{Gives};
+ghost use Rattle.std.specs.Prelude.{◌≡◌};
+ghost use Rattle.gk_terms.specs.Fields.{Gives, nothing_more};
 ghost use Rattle.gk_terms.specs.Text.{words_of};
 ghost use Rattle.gk_protocol.specs.Requests as Spec;
 
 use crate::request_faults::RequestFault;
 use gk_terms::Units;
-use gk_terms::fields::number_field;
+use gk_terms::fields::{nothing_more, number_field};
 use gk_terms::limits::{MOST_LINES, MOST_SEQUENCE};
 use gk_terms::words::Words;
 use registry::EndpointKind;
@@ -59,4 +60,11 @@ pub fn count_field(words: &mut Words<'_>) -> Result<u32, RequestFault>
         (words_of words.new) }
 {
     number_field(words, 0, MOST_LINES as u32, RequestFault::BadNumber)
+}
+
+/// The value of the last field, if no word comes after it.
+pub fn nothing_after<T: Drop>(value: T, words: &mut Words<'_>) -> Result<T, RequestFault>
+    ensures { result ≡ nothing_more RequestFault.Extra value (words_of words.old) }
+{
+    nothing_more(value, words)
 }

@@ -7,9 +7,9 @@ ghost use Rattle.gk_protocol.specs.Requests as Spec;
 use crate::open_call_requests::{change, release};
 use crate::registrations::register;
 use crate::request_faults::{NoRequest, RequestFault};
-use crate::request_fields::{call_field, count_field, sequence_field, units_field};
+use crate::request_fields::{call_field, count_field, nothing_after, sequence_field, units_field};
 use crate::requests::{Asking, Request};
-use gk_terms::fields::{dialled_field, name_field, nothing_more};
+use gk_terms::fields::{dialled_field, name_field};
 use gk_terms::limits::MOST_LINE_BYTES;
 use gk_terms::words::Words;
 use std::alloc::Global;
@@ -30,81 +30,56 @@ pub fn asking_in(alloc: Global, line: &[u8]) -> Result<Option<Asking>, NoRequest
     if line.len() > MOST_LINE_BYTES {
         return Err(NoRequest::Fault(RequestFault::LineTooLong));
     }
-    asking_at(alloc, &mut Words::of(line))
-}
-
-/// The same, by the words of the line.
-fn asking_at(alloc: Global, words: &mut Words<'_>) -> Result<Option<Asking>, NoRequest>
-    ensures { MatchResult result (λ asked. Spec.asking_at (words_of words.old) ≡ Ok asked)
-        (Spec.IsNoRequestAt (words_of words.old)) }
-{
+    let words = &mut Words::of(line);
     let Some(word) = words.next() else {
         return Ok(None);
     };
-    if word == b"RRQ".as_slice() {
-        return Ok(Some(Asking::Whole(register(alloc, words)?)));
-    }
-    Ok(Some(other_asking(word, words)?))
-}
-
-/// What is asked by a line of another first word than `RRQ`. It takes no memory.
-fn other_asking(word: &[u8], words: &mut Words<'_>) -> Result<Asking, RequestFault>
-    ensures { Spec.asked_of result ≡ Spec.other_asking_at word.now (words_of words.old) }
-{
-    if word == b"CFG".as_slice() {
-        return reload(words);
-    }
-    Ok(Asking::Whole(other_request(word, words)?))
-}
-
-/// The request of another first word than `RRQ` and `CFG`.
-fn other_request(word: &[u8], words: &mut Words<'_>) -> Result<Request, RequestFault>
-    ensures { result ≡ Spec.other_request_at word.now (words_of words.old) }
-{
     match word {
+        b"RRQ" => register(alloc, words),
+        b"CFG" => reload(words),
         b"URQ" => unregister(words),
         b"ARQ" => admit(words),
         b"BRQ" => change(words),
         b"DRQ" => release(words),
-        _ => Err(RequestFault::UnknownWord),
+        _ => Err(NoRequest::Fault(RequestFault::UnknownWord)),
     }
 }
 
 /// `URQ seq id`, after its first word.
 #[inline(never)]
-fn unregister(words: &mut Words<'_>) -> Result<Request, RequestFault>
-    ensures { result ≡ Spec.unregister_at (words_of words.old) }
+fn unregister(words: &mut Words<'_>) -> Result<Option<Asking>, NoRequest>
+    ensures { result ≡ Spec.read_of (Spec.whole_of (Spec.unregister_at (words_of words.old))) }
 {
     let sequence = sequence_field(words)?;
     let id = name_field(words, RequestFault::BadName)?;
-    nothing_more(Request::Unregister { sequence, id }, words)
+    nothing_after((), words)?;
+    Ok(Some(Asking::Whole(Request::Unregister { sequence, id })))
 }
 
 /// `ARQ seq id call digits units`, after its first word.
 #[inline(never)]
-fn admit(words: &mut Words<'_>) -> Result<Request, RequestFault>
-    ensures { result ≡ Spec.admit_at (words_of words.old) }
+fn admit(words: &mut Words<'_>) -> Result<Option<Asking>, NoRequest>
+    ensures { result ≡ Spec.read_of (Spec.whole_of (Spec.admit_at (words_of words.old))) }
 {
     let sequence = sequence_field(words)?;
     let id = name_field(words, RequestFault::BadName)?;
     let call = call_field(words)?;
     let digits = dialled_field(words, RequestFault::BadDigits)?;
-    let units = units_field(words)?;
-    nothing_more((), words)?;
-    Ok(Request::Admit {
+    let units = nothing_after(units_field(words)?, words)?;
+    Ok(Some(Asking::Whole(Request::Admit {
         sequence,
         id,
         call,
         digits,
         units,
-    })
+    })))
 }
 
 /// `CFG seq n`, after its first word.
-fn reload(words: &mut Words<'_>) -> Result<Asking, RequestFault>
-    ensures { result ≡ Spec.reload_at (words_of words.old) }
+fn reload(words: &mut Words<'_>) -> Result<Option<Asking>, NoRequest>
+    ensures { result ≡ Spec.read_of (Spec.asked_of (Spec.reload_at (words_of words.old))) }
 {
     let sequence = sequence_field(words)?;
-    let count = count_field(words)?;
-    nothing_more(Asking::Reload { sequence, count }, words)
+    let count = nothing_after(count_field(words)?, words)?;
+    Ok(Some(Asking::Reload { sequence, count }))
 }

@@ -5,7 +5,6 @@ ghost use Rattle.std.specs.Io.KnownBytes.{Appends, IsAtEnd};
 ghost use Rattle.gk_lines.specs.Streams.{Notes, NotesIf, KnownStep, AppendsFront};
 ghost use Rattle.gk_lines.specs.LineReader.{left_of, work_left, AtEndIfEnded, CountsTurns, is_failure};
 ghost use Rattle.gk_terms.specs.Text.{content_of};
-ghost use Rattle.gk_protocol.specs.Answers.{line_of};
 ghost use Rattle.gk_protocol.specs.Requests.{answer_of_none};
 ghost use Rattle.gk_protocol.specs.Session.{Ends, is_read_fault, is_write_fault};
 ghost use Rattle.gk_protocol.specs.AnswersLine.{AnswersLine, AnswersReload};
@@ -94,55 +93,51 @@ pub fn session_from<R: Source, W: Sink, A: Answerer>(
     let mut reply = LineBuffer::new();
     let mut replies = 0u64;
     while lines.next_line(reader, &mut line)? {
-        match &outcome_of(alloc, lines, reader, &mut line, answerer) {
-            Err(fault) => return Err(SessionFault::from(*fault)),
-            Ok(outcome) => match outcome {
-                Outcome::Blank => {}
-                Outcome::Answered(answer) => {
-                    send(&mut reply, writer, answer)?;
-                    replies += 1;
-                }
-                Outcome::CutShort => {
-                    send(
-                        &mut reply,
-                        writer,
-                        &Answer::Malformed(RequestFault::CutShort),
-                    )?;
-                    return Ok(replies + 1);
-                }
-            },
+        match progress_with(alloc, lines, reader, &mut line, answerer, &mut reply)? {
+            Progress::Blank => {}
+            Progress::Answered => {
+                send(&reply, writer)?;
+                replies += 1;
+            }
+            Progress::CutShort => {
+                send(&reply, writer)?;
+                return Ok(replies + 1);
+            }
         }
     }
     Ok(replies)
 }
 
-/// What comes of a line.
+/// How far a line takes the session. The answer itself is not in it, since a large value is copied
+/// each time that it is handed on: its line is made in the reply at once.
 #[derive(Clone, Copy, Debug, PartialEq, Eq)]
-enum Outcome {
-    /// It is blank, and gets no answer.
+enum Progress {
+    /// The line is blank, and gets no answer.
     Blank,
-    /// It is answered.
-    Answered(Answer),
-    /// The input ended before the lines that belong to it, and so does the session.
+    /// The reply is the line of its answer.
+    Answered,
+    /// The input ended before the lines that belong to it, and so does the session: the reply says
+    /// so.
     CutShort,
 }
 
-/// What comes of a line, and of the lines that belong to it, which are taken off the input.
-fn outcome_of<R: Source, A: Answerer>(
+/// Answers a line, with the lines that belong to it, which are taken off the input.
+fn progress_with<R: Source, A: Answerer>(
     alloc: Global,
     lines: &mut LineReader,
     reader: &mut R,
     line: &mut LineBuffer,
     answerer: &mut A,
-) -> Result<Outcome, ReadFault>
+    reply: &mut LineBuffer,
+) -> Result<Progress, ReadFault>
     requires { AtEndIfEnded lines.old (R.remaining reader.old) }
-    ensures outcome { KnownStep (left_of lines.old (R.remaining reader.old))
+    ensures progress { KnownStep (left_of lines.old (R.remaining reader.old))
         (left_of lines.new (R.remaining reader.new))
         (AnswersLine A.may_answer lines.old.ended lines.new.ended answerer.old
-        (content_of line.old) result answerer.new) }
+        (content_of line.old) result reply.new answerer.new) }
     ensures ended { AtEndIfEnded lines.new (R.remaining reader.new) }
     ensures part_read { IfErr result (λ _. lines.new.pending ≡ []) }
-    ensures nothing_left { IfOk result (λ outcome. outcome ≡ Outcome.CutShort
+    ensures nothing_left { IfOk result (λ progress. progress ≡ Progress.CutShort
         → (lines.new.pending ≡ []) × IsAtEnd (R.remaining reader.new)) }
     ensures turns { CountsTurns (R.calls reader.old)
         (R.calls reader.new) lines.old.turns lines.new.turns }
@@ -153,33 +148,47 @@ fn outcome_of<R: Source, A: Answerer>(
     ensures work { work_left lines.new ≤ work_left lines.old }
 {
     match asking_in(alloc, line.content()) {
-        Ok(None) => Ok(Outcome::Blank),
+        Ok(None) => Ok(Progress::Blank),
         Ok(Some(Asking::Whole(request))) => {
-            Ok(Outcome::Answered(answerer.answer(alloc, request)))
+            show(reply, &answerer.answer(alloc, request));
+            Ok(Progress::Answered)
         }
         Ok(Some(Asking::Reload { sequence, count })) => {
             let taken = take_lines(alloc, count, lines, reader, line)?;
-            Ok(answer_reload(alloc, sequence, taken, answerer))
+            Ok(answer_reload(alloc, sequence, taken, answerer, reply))
         }
-        Err(none) => Ok(Outcome::Answered(answer_to_none(none))),
+        Err(none) => {
+            show(reply, &answer_to_none(none));
+            Ok(Progress::Answered)
+        }
     }
 }
 
-/// What comes of a reload, by what became of its lines.
+/// Answers a reload, by what became of its lines.
 fn answer_reload<A: Answerer>(
     alloc: Global,
     sequence: u32,
     lines: TakenLines,
     answerer: &mut A,
-) -> Outcome
-    ensures { AnswersReload A.may_answer answerer.old sequence lines result answerer.new }
+    reply: &mut LineBuffer,
+) -> Progress
+    ensures { AnswersReload A.may_answer answerer.old sequence lines result reply.new
+        answerer.new }
 {
     match lines {
         TakenLines::Whole(lines) => {
-            Outcome::Answered(answerer.answer(alloc, Request::Reload { sequence, lines }))
+            let reload = Request::Reload { sequence, lines };
+            show(reply, &answerer.answer(alloc, reload));
+            Progress::Answered
         }
-        TakenLines::NoMemory => Outcome::Answered(no_memory(sequence)),
-        TakenLines::CutShort => Outcome::CutShort,
+        TakenLines::NoMemory => {
+            show(reply, &no_memory(sequence));
+            Progress::Answered
+        }
+        TakenLines::CutShort => {
+            show(reply, &Answer::Malformed(RequestFault::CutShort));
+            Progress::CutShort
+        }
     }
 }
 
@@ -197,14 +206,13 @@ fn answer_to_none(none: NoRequest) -> Answer
     }
 }
 
-/// Writes an answer as one line, in one call of the writer if it takes the whole.
-fn send<W: Sink>(reply: &mut LineBuffer, writer: &mut W, answer: &Answer) -> Result<(), WriteFault>
+/// Writes a reply, in one call of the writer if it takes the whole.
+fn send<W: Sink>(reply: &LineBuffer, writer: &mut W) -> Result<(), WriteFault>
     ensures whole { OnOk result
-        (Appends (W.contents writer.old) (W.contents writer.new) (line_of answer.now)) }
+        (Appends (W.contents writer.old) (W.contents writer.new) reply.now) }
     ensures front { OnErr result
-        (AppendsFront (W.contents writer.old) (W.contents writer.new) (line_of answer.now)) }
+        (AppendsFront (W.contents writer.old) (W.contents writer.new) reply.now) }
     ensures noted { Notes (W.has_failed writer.old) (W.has_failed writer.new) result }
 {
-    show(reply, answer);
     write_whole(writer, reply.as_bytes())
 }
