@@ -1,4 +1,4 @@
-//! The machine: the state of a running core, but for the tables in force.
+//! The machine: the state of a running core, except for the tables in force.
 
 ghost use Rattle.std.specs.Prelude.{◌≡◌, ◌≤◌, ◌+◌, nat_le, None, false, true, length, OnOk, OnErr};
 ghost use Rattle.registry.specs.Registration.{is_registered, is_full_for, with_endpoint, without_endpoint, in_zone_meant, kept_zones};
@@ -210,7 +210,7 @@ impl Machine {
         }
     }
 
-    /// Begins the next version, which are the tables that are asked for, and lets go of each
+    /// Begins the next version, with the tables that are asked for, and lets go of each
     /// endpoint whose zone is not local in them. Open calls stay as they are.
     fn put_in_force(&mut self, event: &Event)
         requires founded { IsReloadable (bare self.old) (plain event.now) }
@@ -227,7 +227,7 @@ impl Machine {
         }
     }
 
-    /// Begins the next version, which these tables are.
+    /// Begins the next version: these tables.
     fn begin_version(&mut self, tables: &Tables)
         requires { self.old.version ≤ self.old.limits.reloads }
         ensures { self.new ≡ record self.old {

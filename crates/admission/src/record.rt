@@ -30,7 +30,7 @@ use std::sync::Arc;
 /// What was asked, as the record keeps it.
 #[derive(Drop)]
 pub enum EntryEvent<'a> {
-    /// Another event than a reload.
+    /// An event other than a reload.
     Asked(Cow<'a, Event>),
     /// A reload of these commands. Their tables are let go as others are put in force, and a replay
     /// compiles them again.
@@ -207,8 +207,8 @@ impl Record {
         }
     }
 
-    /// How many bytes of the record an entry takes at most that stands in few bytes, as that of a
-    /// granted admission does if no name in it has more than 19 characters.
+    /// The most bytes of the record that an entry in few bytes takes, as that of a granted admission
+    /// does if no name in it has more than 19 characters.
     pub fn slot_bytes() -> usize {
         SlotList::routed_bytes()
     }
@@ -293,7 +293,7 @@ impl Record {
     }
 
     /// Keeps this many further places: at most 2, as an event needs. If memory runs out, nothing
-    /// changes; it does not for none.
+    /// changes; it never does for none.
     pub(crate) fn keep(&mut self, places: usize) -> Result<(), AllocError>
         requires { places ≤ 2 }
         ensures ok { OnOk result (self.new

@@ -20,7 +20,7 @@ use registry::Endpoint;
 use short_texts::{PackedDigits, ShortName};
 use std::borrow::Cow;
 
-/// Where dialled digits lead, but for the address.
+/// Where dialled digits lead, except for the address.
 #[derive(Clone, Copy)]
 pub(crate) enum ShortDestination {
     Gateway { id: ShortName },

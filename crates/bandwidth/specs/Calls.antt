@@ -77,7 +77,7 @@ closed_in c number id =
     unless_refused c id (without_call c.calls number) (call_of c.calls number)
 
 -- ---- what open calls always keep
--- the calls stand in order of number, so that no two share one
+-- the calls are in order of number, so that no two share one
 abbrev pub AreInOrder : List OpenCall → Type 0
 AreInOrder calls =
     (i j : ℕ) (c d : OpenCall) → i < j

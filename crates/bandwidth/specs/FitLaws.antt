@@ -64,7 +64,7 @@ pub data IsAbove (commands : List Command) (others : List OpenCall) (call : Open
   OfRemote : (limit : ℕ) → call.remote ≡ true → remote_limit_of commands ≡ Some limit
       → limit < remote_of others + call.units → IsAbove commands others call overs.Remote
 
--- a call that does not fit asks more than the open call of its number has, if there is one, and
+-- a call that does not fit asks for more than the open call of its number has, if there is one, and
 -- what is named is above its limit
 abbrev pub RefusalNamesASum : Type 0
 RefusalNamesASum =

@@ -57,7 +57,7 @@ is_no_raise None units = false
 is_no_raise (Some held) units = nat_le units held.units
 
 -- the first sum that would be above its limit; none if the call fits. A call of the number that is
--- open is not counted beside it, and asking no more than that call has always fits
+-- open is not counted beside it, and asking for no more than that call has always fits
 unfoldable pub over_of : List Command → List OpenCall → OpenCall → Option Over
 over_of commands calls call =
     if is_no_raise (call_of calls call.number) call.units then None

@@ -13,7 +13,7 @@ use Rattle.bandwidth.specs.declared.tried_zones.TriedZones.{TriedZones}
 use Rattle.bandwidth.specs.Use.{zones_touched, is_interzone, total_of, interzone_of, remote_of}
 use Rattle.bandwidth.specs.Fits.{Try, is_above, fails, tries_of_kind}
 
--- what the call counts that was found, if it passes the test
+-- what the call that was found counts, if it passes the test
 abbrev pub part_found : (OpenCall → Bool) → Option OpenCall → ℕ
 part_found test None = 0
 part_found test (Some call) = if test call then call.units else 0
@@ -51,7 +51,7 @@ pub record AreTried (commands : List Command) (others : List OpenCall) (call : O
 abbrev pub over_if_above : ℕ → Option ℕ → Over → Option Over
 over_if_above sum limit over = if is_above sum limit then Some over else None
 
--- what the first try names that fails
+-- what the first try that fails names
 abbrev pub first_over : List Try → Option Over
 first_over tries = option_map (λ t. t.over) (find fails tries)
 

@@ -15,8 +15,8 @@ use std::alloc::{AllocError, Global};
 use std::collections::HashMap;
 use std::marker::Model;
 
-/// Calls, each under its number in a hash map and in a place of its own. A contract sees the list of
-/// them in order of number.
+/// Calls, each under its number in a hash map and in a place of its own. A contract sees them as a
+/// list in order of number.
 #[derive(Drop)]
 pub struct CallList {
     calls: HashMap<u32, HeldCall>,
@@ -106,7 +106,7 @@ impl CallList {
         }
     }
 
-    /// Adds a call with a new number, which stands in its own place; nothing had that number. If
+    /// Adds a call with a new number, which is in a place of its own; nothing had that number. If
     /// memory runs out it gives the call back, and nothing has changed.
     fn put(&mut self, held: HeldCall) -> Result<Option<HeldCall>, HeldCall>
         requires fresh { is_open self.old held.number ≡ false }

@@ -21,12 +21,12 @@ use gk_terms::Name;
 
 impl OpenCalls {
     /// Whether the call fits the limits in force beside the open calls, or which sum would be the
-    /// first above its limit. An open call of its number is not counted beside it, and asking no
-    /// more than that call has always fits. The sums are tried in this order: the bandwidth of the
-    /// call, the total, and if the call is between two zones the interzone sum, each for the zones
-    /// that the call touches, the source first; then the sum of all calls to remote zones, if the
-    /// call is marked as one of them. A sum that is equal to its limit fits. Takes no memory, and
-    /// reads no call but the open one of that number.
+    /// first above its limit. An open call of its number is not counted beside it, and asking for
+    /// no more than that call has always fits. The sums are tried in this order: the bandwidth of
+    /// the call, the total, and if the call is between two zones the interzone sum, each for the
+    /// zones that the call touches, the source first; then the sum of all calls to remote zones, if
+    /// the call is marked as one of them. A sum that is equal to its limit fits. Takes no memory,
+    /// and reads no call but the open one of that number.
     pub fn fits(&self, tables: &Tables, call: &OpenCall) -> Result<(), Over>
         ensures { result_err result ≡ over_of tables.now.commands self.now.calls call.now }
     {
@@ -65,7 +65,7 @@ impl OpenCalls {
         }
     }
 
-    /// The same for a call whose number is no open call's; `is_open` tests that. Reads no call.
+    /// The same for a call whose number no open call has; `is_open` tests that. Reads no call.
     #[tactic(auto, using(crate::proofs::CallLemmas::none_if_closed))]
     pub fn fits_new(&self, tables: &Tables, call: &OpenCall) -> Result<(), Over>
         requires fresh { is_open self.now.calls call.now.number ≡ false }
@@ -134,13 +134,13 @@ impl OpenCalls {
         ensures { result
             ≡ remote_of (without_call self.now.calls call.now.number) + call.now.units }
     {
-        // So it is known that the calls stand in order.
+        // So it is known that the calls are in order.
         let _count = self.len();
         self.remote() - part_in_remote(held) + u64::from(call.units.value())
     }
 }
 
-/// Whether the call asks no more than the one that is held has.
+/// Whether the call asks for no more than the one that is held has.
 fn is_no_raise(held: Option<&OpenCall>, call: &OpenCall) -> bool
     ensures { result ≡ is_no_raise (option_copied held.entry) call.now.units }
 {

@@ -187,8 +187,8 @@ impl OpenCalls {
         }
     }
 
-    /// Closes the call of this number, if one is open, whoever owns it. Takes no memory. For whom
-    /// knows the owner: the call is looked up once, and not copied.
+    /// Closes the call of this number, if one is open, whoever owns it. Takes no memory. For a
+    /// caller that knows the owner: the call is looked up once, and not copied.
     pub fn take_out(&mut self, number: u32)
         ensures { self.new ≡ record self.old { calls = without_call self.old.calls number } }
     {
@@ -206,8 +206,8 @@ impl OpenCalls {
         self.sums.pass(closed, &step);
     }
 
-    /// Opens a call whose number is no open call's, and for which there is room; `is_open` and
-    /// `len` test that. If memory runs out nothing has changed. The number is looked up once.
+    /// Opens a call whose number no open call has, and for which there is room; `is_open` and `len`
+    /// test that. If memory runs out nothing has changed. The number is looked up once.
     pub fn open_fresh(&mut self, call: &OpenCall) -> Result<(), AllocError>
         requires fresh { is_open self.old.calls call.now.number ≡ false }
         requires room { length self.old.calls < self.old.most }

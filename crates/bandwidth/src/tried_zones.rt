@@ -133,7 +133,7 @@ impl OpenCalls {
         ensures interzone { result.interzone
             ≡ sum_beside Interzone (without_call self.now.calls call.now.number) call.now zone.now }
     {
-        // So it is known that the calls stand in order.
+        // So it is known that the calls are in order.
         let _count = self.len();
         let units = u64::from(call.units.value());
         let used = self.used(zone);

@@ -66,7 +66,7 @@ fn assert_three(rt: &impl Abort, calls: &OpenCalls) -> Result<(), Fail> {
     Ok(())
 }
 
-/// Each refusal, of three calls where no more may be.
+/// Each refusal, with three calls, which are as many as may be.
 fn assert_refusals(rt: &impl Abort, calls: &mut OpenCalls) -> Result<(), Fail> {
     let ta = Name::read(b"ta")?;
     let more = Units::new(1);

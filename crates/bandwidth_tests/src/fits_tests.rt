@@ -75,7 +75,7 @@ fn beside_three(rt: &impl Abort, calls: &OpenCalls, tables: &Tables) -> Result<(
         (9, "a", "a", 201, Some((Total, "a"))),
         (9, "a", "x", 241, Some((Total, "a"))),
         (9, "b", "a", 300, Some((Total, "b"))),
-        // A call that is not marked is none to another gatekeeper.
+        // A call that is not marked does not count as one to another gatekeeper.
         (9, "a", "x", 51, None),
         // A call that is open is not counted beside itself, and a lower amount always fits.
         (2, "a", "a", 500, None),
@@ -142,7 +142,7 @@ fn close_many(calls: &mut OpenCalls, call: &OpenCall) -> Result<(), Fail> {
     Ok(())
 }
 
-/// Beside many calls one at most is read, and when they are closed nothing is left of them.
+/// Beside many calls at most one is read, and when they are closed nothing is left of them.
 fn many_calls(rt: &impl Abort, calls: &mut OpenCalls, tables: &Tables) -> Result<(), Fail> {
     let call = call_between(FIRST, "c", "c", u32::MAX)?;
     let more = call_between(AFTER_LAST, "c", "c", 1)?;

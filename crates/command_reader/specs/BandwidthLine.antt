@@ -1,4 +1,4 @@
--- What a line says that begins with `bandwidth`, by the words after that. Sizes are in kbit/s.
+-- What a line that begins with `bandwidth` says, by the words after that. Sizes are in kbit/s.
 use Rattle.std.specs.Prelude.{ℕ, List, [], ◌∷◌, Result, Err, codes, bytes_eq, if◌then◌else◌}
 use Rattle.gk_terms.specs.Name.{name_of}
 use Rattle.gk_terms.specs.Number.{number_of}

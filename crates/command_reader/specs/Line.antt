@@ -51,7 +51,7 @@ left_out_commands =
     codes "alias" ∷ codes "endpoint" ∷ codes "gw" ∷ codes "load-balance"
     ∷ codes "security" ∷ codes "server" ∷ codes "shutdown" ∷ codes "use-proxy" ∷ []
 
--- what a line says that begins with none of the words that are kept
+-- what a line says if it begins with none of the words of kept lines
 abbrev pub passed_at : List ℕ → List (List ℕ) → Result (Option Command) FaultKind
 passed_at word words =
     if bytes_eq word (codes "no") then no_at words

@@ -83,7 +83,7 @@ unknown_zone read =
     option_map (λ n. fault_at n.line UnknownZone)
     (find (λ n. names_unknown (commands_in read) n.command) read.kept)
 
--- a file without a local zone is at fault one past its last line
+-- a configuration without a local zone is at fault one past its last line
 abbrev pub local_zone_checked : Progress → Result Configuration LineFault
 local_zone_checked read =
     if is_some (first_local_of (commands_in read))
@@ -98,7 +98,7 @@ zones_checked read None = local_zone_checked read
 abbrev pub finished : Progress → Result Configuration LineFault
 finished read = zones_checked read (unknown_zone read)
 
--- each line for itself, and then the zones of all
+-- each line by itself, and then the zones of all
 abbrev pub whole_of : Result Progress LineFault → Result Configuration LineFault
 whole_of (Err fault) = Err fault
 whole_of (Ok read) = finished read

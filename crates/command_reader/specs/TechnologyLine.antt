@@ -1,4 +1,4 @@
--- What a line says that begins with `gw-type-prefix`, by the words after that.
+-- What a line that begins with `gw-type-prefix` says, by the words after that.
 use Rattle.std.specs.Prelude.{ℕ, Bool, true, false, List, [], ◌∷◌, Option, Some, None, Result, Ok, Err, codes, bytes_eq, if◌then◌else◌}
 use Rattle.std.specs.Option.{ok_or}
 use Rattle.gk_terms.specs.Name.{name_of}

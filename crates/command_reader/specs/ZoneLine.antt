@@ -1,4 +1,4 @@
--- What a line says that begins with `zone`, by the words after that.
+-- What a line that begins with `zone` says, by the words after that.
 use Rattle.std.specs.Prelude.{ℕ, List, [], ◌∷◌, Option, Some, None, Result, Ok, Err, codes, bytes_eq, if◌then◌else◌}
 use Rattle.gk_terms.specs.Name.{name_of}
 use Rattle.gk_terms.specs.Number.{number_of}

@@ -1,4 +1,4 @@
-//! What a line says that begins with `bandwidth`.
+//! What a line that begins with `bandwidth` says.
 
 ghost use Rattle.std.specs.Prelude.{◌≡◌};
 ghost use Rattle.gk_terms.specs.Text.{words_of};

@@ -15,7 +15,7 @@ use digit_patterns::Pattern;
 use gk_lines::LineBuffer;
 use gk_terms::limits::MOST_DIALLED;
 use gk_terms::{Address, Kbps, Name, TechPrefix};
-/// The dots of the pattern that has most of them.
+/// The dots of the pattern with the most dots.
 static DOTS: [u8; MOST_DIALLED] = [b'.'; MOST_DIALLED];
 
 /// Makes it the canonical line of a command, with its line feed.

@@ -74,8 +74,8 @@ impl Draft {
         self.commands().len() + self.passed as usize
     }
 
-    /// With the next line, or the line's first fault. Where memory is refused for the command of a
-    /// line without a fault, the fault is `NoMemory` in its place.
+    /// With the next line, or the line's first fault. If memory is refused for the command of a
+    /// line without a fault, the answer is the fault `NoMemory`.
     pub fn with_line(self, line: &[u8]) -> Result<Draft, LineFault>
         ensures { MayReadLine self line.now result }
     {

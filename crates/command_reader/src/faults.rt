@@ -46,7 +46,7 @@ pub enum FaultKind {
     /// The line is the 20,001st, or declares the 1,025th zone.
     #[error("TooMany")]
     TooMany,
-    /// Memory was refused while the line was read.
+    /// Memory ran out while the line was read.
     #[error("NoMemory")]
     NoMemory,
 }

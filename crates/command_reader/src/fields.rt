@@ -77,7 +77,7 @@ pub fn gateway_priority_field(words: &mut Words<'_>) -> Result<u8, FaultKind>
 }
 
 /// All further words as names; at least one is needed. If memory is refused for one, the words are
-/// read to their end all the same, since a fault of theirs comes first.
+/// still read to their end, since a fault of theirs comes first.
 pub fn some_names(alloc: Global, words: &mut Words<'_>) -> Result<Names, FaultKind>
     ensures { UnlessMemory Any (some_names_in (words_of words.old)) result }
 {

@@ -26,7 +26,7 @@ pub fn read(alloc: Global, bytes: &[u8]) -> Result<Commands, LineFault>
     lines_in(alloc, bytes)?.finish()
 }
 
-/// The lines, each looked at for itself.
+/// The lines, each looked at by itself.
 fn lines_in(alloc: Global, bytes: &[u8]) -> Result<Draft, LineFault>
     ensures { MayReadOn nothing_read (lines_of bytes.now) result }
 {

@@ -1,4 +1,4 @@
-//! What a line says that begins with `gw-type-prefix`.
+//! What a line that begins with `gw-type-prefix` says.
 
 ghost use Rattle.std.specs.Prelude.{◌≡◌};
 ghost use Rattle.gk_terms.specs.Text.{words_of};
@@ -66,7 +66,7 @@ pub fn gw_type_prefix(alloc: Global, words: &mut Words<'_>) -> Result<Command, F
 }
 
 /// The names of all hopoffs, and whether `default-technology` was given. If memory is refused for a
-/// name, the words are read to their end all the same, since a fault of theirs comes first.
+/// name, the words are still read to their end, since a fault of theirs comes first.
 fn options(alloc: Global, words: &mut Words<'_>) -> Result<(Names, bool), FaultKind>
     ensures { UnlessMemory Any
         (hopoffs_and_default (options_at Expected.AnOption (words_of words.old))) result }

@@ -1,4 +1,4 @@
-//! What a line says that begins with `zone`.
+//! What a line that begins with `zone` says.
 
 ghost use Rattle.std.specs.Prelude.{◌≡◌, ◌≤◌, [], ◌∷◌, codes, MatchOption, MatchResult, Ok, Err};
 ghost use Rattle.std.specs.Option.{option_copied};

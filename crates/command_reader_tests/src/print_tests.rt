@@ -67,7 +67,7 @@ fn assert_prints(rt: &impl Abort, alloc: Global, text: &[u8], want: &[u8]) -> Re
     Ok(())
 }
 
-/// Behind zones, a line prints as another.
+/// After zones, a line prints as another.
 fn assert_line_prints(rt: &impl Abort, alloc: Global, line: &str, want: &str) -> Result<(), Fail> {
     let text = format!(in alloc; "{ZONES}{line}\n")?;
     let want = format!(in alloc; "{ZONES}{want}\n")?;

@@ -30,7 +30,7 @@ priority_in row gateway (BandwidthDefault kind size) = None
 priority_in row gateway (BandwidthZone kind zone size) = None
 priority_in row gateway (BandwidthRemote size) = None
 
--- what the last such command says that names the gateway
+-- what the last such command that names the gateway says
 abbrev pub named_priority_of : List Command → Row → List ℕ → Option ℕ
 named_priority_of commands row gateway = last_in (filter_map (priority_in row gateway) commands)
 

@@ -1,4 +1,4 @@
--- What the tables keep, beside the commands that they stand for.
+-- What the tables keep, beside the commands that they were compiled from.
 use Rattle.std.specs.Prelude.{◌≡◌, ℕ, ◌+◌, ◌≤◌, ◌<◌, ◌==◌, Bool, ◌&&◌, true, false, List, [], ◌∷◌, ◌++◌, length, take, fold, map, slice_get, Option, Some, None, option_map, option_and_then, unwrap_or, is_some, nat_eq, bytes_eq, if◌then◌else◌}
 use Rattle.std.specs.List.{All, IsDistinct, filter_map, list_any}
 use Rattle.std.specs.Map.{lookup, keys_of}
@@ -174,7 +174,7 @@ numbered_priority_in zones row gateway command =
     if is_about zones row (row_of command) then priority_among gateway (gateways_named command)
     else None
 
--- what the last such command says that names the gateway
+-- what the last such command that names the gateway says
 abbrev pub numbered_priority_of : Zones → List Command → NumberedRow → List ℕ → Option ℕ
 numbered_priority_of zones commands row gateway =
     last_in (filter_map (numbered_priority_in zones row gateway) commands)

@@ -18,7 +18,7 @@ prefix_in (BandwidthDefault kind size) = None
 prefix_in (BandwidthZone kind zone size) = None
 prefix_in (BandwidthRemote size) = None
 
--- all that are declared, in order; one may stand there more than once
+-- all that are declared, in order; one may be there more than once
 abbrev pub prefixes_of : List Command → List (List ℕ)
 prefixes_of commands = filter_map prefix_in commands
 

@@ -27,7 +27,7 @@ abbrev pub address_of_kind : ZoneKind → Option AddressParts
 address_of_kind Local = None
 address_of_kind (Remote address cost priority) = Some address
 
--- what is told of the zone of a number
+-- what the commands say of the zone of a number
 abbrev pub view_of : ℕ → List ℕ × ZoneKind → ZoneView
 view_of number zone = record {
   no = number;
@@ -43,6 +43,6 @@ view_at commands number = option_map (view_of number) (zone_at commands number)
 abbrev pub number_in : List (List ℕ × ZoneKind) → List ℕ → ℕ
 number_in zones name = position_or_len (λ zone. bytes_eq name zone.0) zones
 
--- what is told of the zone of a name
+-- what the commands say of the zone of a name
 abbrev pub view_of_name : List Command → List ℕ → Option ZoneView
 view_of_name commands name = view_at commands (number_in (zones_of commands) name)

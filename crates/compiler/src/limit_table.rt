@@ -74,8 +74,8 @@ fn named_limits(command: &Command) -> Option<(Name, ZoneLimits)>
     }
 }
 
-/// Gives each local zone the default of each kind of which it has no limit of its own, and leaves
-/// each remote zone none.
+/// Gives each local zone the default of each kind of which it has no limit of its own, and each
+/// remote zone none.
 fn add_defaults(limits: &mut [ZoneLimits], zones: &IndexMap<Name, ZoneKind>, defaults: ZoneLimits)
     requires { length limits.now ≡ length zones.now.entries }
     ensures kept { (place : ℕ) → slice_get limits.new place

@@ -19,7 +19,7 @@ use indexmap::IndexMap;
 use std::alloc::{AllocError, Global};
 
 /// For each row for which gateways are named, by its number, those gateways, each with the priority
-/// that the last command gives it which names it for the row's zone and pattern.
+/// that the last command gives it, of those that name it for the row's zone and pattern.
 pub(crate) fn priorities_in(
     alloc: Global,
     commands: &[Command],

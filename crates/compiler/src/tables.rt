@@ -128,8 +128,8 @@ impl Tables {
         }
     }
 
-    /// Where a call goes whose digits begin with this technology prefix, which has this hop-off
-    /// zone if it has one.
+    /// Where a call goes if its digits begin with this technology prefix, whose hop-off zone is
+    /// given if it has one.
     fn plan_by_technology(
         &self,
         digits: &Dialled,
@@ -207,7 +207,7 @@ impl Tables {
 
     /// The priority of a gateway for a row, 0 to 10: what the last `gw-priority` for the row's zone
     /// and pattern that names the gateway says, and 5 if none does or no row was used. The number
-    /// is to be one of these tables'; nothing is promised for another.
+    /// has to be one of these tables'; nothing is promised for another.
     pub fn priority(&self, row: Option<RowNo>, gateway: &Name) -> u8
         ensures { IfSome (row_meant self.now.commands row) (λ used.
             result ≡ priority_of self.now.commands used gateway.now) }
@@ -223,7 +223,7 @@ impl Tables {
 
     /// The gateways that `gw-priority` names for the row's zone and pattern, each with what the
     /// last such line says. A gateway that is not in the map has 5, and so has each if there is no
-    /// map or no row was used. The number is to be one of these tables'.
+    /// map or no row was used. The number has to be one of these tables'.
     pub fn gateways(&self, row: Option<RowNo>) -> Option<&IndexMap<Name, u8>>
         ensures { IfSome (row_meant self.now.commands row) (λ used.
             AreNamedFor self.now.commands used (entries_of (option_copied result))) }
@@ -239,7 +239,7 @@ impl Tables {
         self.default_technology
     }
 
-    /// What is told of the zone of a name, if it is declared.
+    /// What the tables say of the zone of a name, if it is declared.
     pub fn zone_of(&self, name: &Name) -> Option<ZoneView>
         ensures { result ≡ view_of_name self.now.commands name.now }
     {
@@ -247,7 +247,7 @@ impl Tables {
         Some(self.zone(ZoneNo::new(place as u32)))
     }
 
-    /// What is told of the zone of a number, which is to be one of these tables'.
+    /// What the tables say of the zone of a number, which has to be one of these tables'.
     pub fn zone(&self, number: ZoneNo) -> ZoneView
         requires { number < length (zones_of self.now.commands) }
         ensures { Some result ≡ view_at self.now.commands number }
@@ -258,7 +258,7 @@ impl Tables {
         }
     }
 
-    /// The name of the zone of a number, which is to be one of these tables'.
+    /// The name of the zone of a number, which has to be one of these tables'.
     pub fn zone_name(&self, number: ZoneNo) -> &Name
         requires { number < length (zones_of self.now.commands) }
         ensures { option_map (λ zone. zone.0) (zone_at self.now.commands number)

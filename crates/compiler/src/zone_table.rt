@@ -16,7 +16,7 @@ use gk_terms::{Address, Name};
 use indexmap::IndexMap;
 use std::alloc::{AllocError, Global};
 
-/// The zones that commands declare, in line order. Their names are to differ.
+/// The zones that commands declare, in line order. Their names have to differ.
 pub(crate) fn zones_in(
     alloc: Global,
     commands: &[Command],
@@ -76,7 +76,7 @@ pub(crate) fn kind_at(zones: &IndexMap<Name, ZoneKind>, number: ZoneNo) -> Optio
         .map(|(_, kind)| *kind)
 }
 
-/// What is told of the zone of a number.
+/// What the tables say of the zone of a number.
 pub(crate) fn view_of(number: ZoneNo, name: &Name, kind: &ZoneKind) -> ZoneView
     ensures { result ≡ view_of number (name.now, kind.now) }
 {

@@ -1,4 +1,4 @@
-//! What is told of a zone.
+//! What the tables say of a zone.
 
 use crate::plans::ZoneNo;
 use gk_terms::{Address, Name};

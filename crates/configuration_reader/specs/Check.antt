@@ -9,7 +9,7 @@ use Rattle.configuration_reader.specs.declared.configuration.ConfigurationFault.
 use Rattle.configuration_reader.specs.declared.check.CheckFault.{CheckFault}
 use Rattle.configuration_reader.specs.declared.check.CheckFault.TheVariants as check
 
--- how many commands and passed over lines there are, in words
+-- how many commands, and how many lines passed over, as words
 abbrev pub summary_words : ℕ → ℕ → List (List ℕ)
 summary_words count passed =
     decimal count ∷ codes "commands," ∷ decimal passed ∷ codes "passed" ∷ codes "over" ∷ []

@@ -53,7 +53,8 @@ IsUnended until bytes rest =
     (read : List ℕ) × (bytes ≡ read ++ rest)
     × (list_any (λ raw. ends_with until (content_of raw)) (whole_lines_of read) ≡ false)
 
--- a faulty configuration that ends before its input is read to its end all the same
+-- what is left of the input of a faulty configuration: what follows it, if it ends with a line;
+-- nothing is said if it ends with its input
 abbrev pub LeavesRest : Until → List ℕ → List ℕ → Type 0
 LeavesRest EndLine bytes rest = rest ≡ rest_of EndLine bytes
 LeavesRest EndOfInput bytes rest = ⊤

@@ -59,7 +59,7 @@ impl From<WriteFault> for CheckFault {
 /// Reads the configuration that a reader gives, and reports if it is accepted: its canonical lines,
 /// if they are asked for, and then how many commands it has and how many of its lines were passed
 /// over. It is read line by line, and nothing is read after its first faulty line, so it takes
-/// memory for the commands that are kept alone.
+/// memory only for the commands that are kept.
 pub fn check<R: Source, W: Sink>(
     alloc: Global,
     reader: &mut R,
@@ -173,7 +173,7 @@ fn write_summary<W: Sink>(commands: &Commands, writer: &mut W) -> Result<(), Wri
 }
 
 #[tactic(auto, using(gk_lines::proofs::LineBufferLemmas::line_in_room))]
-/// Makes it the line of so many commands, and of so many lines passed over.
+/// Makes it the summary: so many commands, and so many lines passed over.
 fn show_summary(line: &mut LineBuffer, count: u32, passed: u32)
     ensures { line.new ≡ line_text (Spec.summary_words count passed) }
 {

@@ -48,10 +48,10 @@ impl From<ReadFault> for ConfigurationFault {
     }
 }
 
-/// Reads the configuration at the front of the input. It takes memory for the commands that are
-/// kept alone, so an input without an end needs no more than the longest configuration.
+/// Reads the configuration at the front of the input. It takes memory only for the commands that
+/// are kept, so an input without an end needs no more than the longest configuration.
 ///
-/// A configuration that ends with a line is read up to that line, also after its first fault; of
+/// A configuration that ends with a line is read up to that line, even after its first fault; of
 /// one that ends with the input nothing is read after the first faulty line.
 pub fn read_configuration<R: Source>(
     alloc: Global,

@@ -37,7 +37,7 @@ pattern_of text =
     let p = parts_of text in
     then_some (is_pattern p && bytes_eq (pattern_text p) text) p
 
--- whether the text has as many characters as a pattern wants
+-- whether the text has as many characters as a pattern needs
 abbrev pub has_count : PatternParts → ℕ → Bool
 has_count p count = if p.star then nat_le (least_count p) count else count == least_count p
 

@@ -9,7 +9,7 @@ pub fn rank_decides()
 {}
 
 #[tactic(auto, using(crate::proofs::RankLaws::rank_orders))]
-/// No pattern outranks itself, and a pattern outranks what those outrank that it outranks.
+/// No pattern outranks itself, and what outranks one that outranks a third outranks the third.
 pub fn rank_orders()
     ensures { RankOrders }
 {}

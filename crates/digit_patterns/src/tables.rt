@@ -128,7 +128,7 @@ fn better(best: Option<(Pattern, u32)>, row: (Pattern, u32)) -> Option<(Pattern,
     }
 }
 
-/// What is told of a row.
+/// What a hit says of a row.
 fn told_of(row: (Pattern, u32)) -> Hit
     ensures { result ≡ hit_of row }
 {

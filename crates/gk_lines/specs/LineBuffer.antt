@@ -1,4 +1,4 @@
--- A line in a place of fixed size, as it is read or made.
+-- A line in a buffer of fixed size, as it is read or made.
 use Rattle.std.specs.Prelude.{ℕ, ◌+◌, List, [], ◌∷◌, ◌++◌, length, take}
 use Rattle.gk_terms.specs.declared.limits.TheConstants.{MOST_LINE_BYTES}
 

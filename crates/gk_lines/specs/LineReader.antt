@@ -8,7 +8,7 @@ use Rattle.gk_lines.specs.declared.line_reader.ReadFault.{ReadFault}
 use Rattle.gk_lines.specs.declared.line_reader.ReadFault.TheVariants.{Failed, TurnsSpent}
 use Rattle.gk_lines.specs.LineBuffer.{ROOM_BYTES}
 
--- what was read and not yet taken, how often the reader may be called still, and whether it came to
+-- what was read and not yet taken, how often the reader may still be called, and whether it came to
 -- its end
 pub record LineReaderParts : Type 0 where
   pub pending : List ℕ
@@ -36,7 +36,7 @@ CountsTurns calls_before calls_after turns_before turns_after =
     calls_before + turns_before < 2 ^ 64 → calls_after + turns_after ≡ calls_before + turns_before
 
 -- ---- a line
--- no line feed stands in these bytes
+-- there is no line feed in these bytes
 abbrev pub HasNoFeed : List ℕ → Type 0
 HasNoFeed [] = Unit {0}
 HasNoFeed (b ∷ bs) = ((b == 10) ≡ false) × HasNoFeed bs

@@ -1,4 +1,4 @@
--- Readers and writers: what they note of their calls, and what stands in a writer that failed.
+-- Readers and writers: what they note of their calls, and what a writer that failed holds.
 use Rattle.std.specs.Prelude.{◌≡◌, ℕ, ◌+◌, ◌^◌, ◌<◌, Bool, true, List, ◌++◌, Option, Some, None, Result, Ok, Err, ⊤, if◌then◌else◌}
 use Rattle.std.specs.Io.KnownBytes.{Appends}
 
@@ -8,8 +8,8 @@ abbrev pub Notes : {A E : Type 0} → Bool → Bool → Result A E → Type 0
 Notes old new (Ok x) = new ≡ old
 Notes old new (Err fault) = new ≡ true
 
--- the same where a fault may be that of another stream, or none of a stream: the note is set
--- exactly by this stream's
+-- the same if a fault may be that of another stream, or none of a stream: the note is set exactly
+-- by this stream's
 abbrev pub NotesIf : {A E : Type 0} → (E → Bool) → Bool → Bool → Result A E → Type 0
 NotesIf is_its old new (Ok x) = new ≡ old
 NotesIf is_its old new (Err fault) = new ≡ (if is_its fault then true else old)

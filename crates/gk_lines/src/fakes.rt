@@ -5,14 +5,14 @@ ghost use Rattle.std.specs.Prelude.{◌≡◌, Some, None};
 use std::io;
 use std::io::{ErrorKind, Read, Write};
 
-/// A reader or writer before another one: it passes on at most `most` bytes a call. The call of the
-/// number `failing_call`, which begins at 1, fails without reaching the other; the calls after it
-/// do not.
+/// A reader or writer in front of another one, which passes on at most `most` bytes a call. Its
+/// call of the number `failing_call`, from 1, fails without reaching the other one; the calls after
+/// it do not fail.
 #[derive(Drop)]
 pub struct Piecewise<T> {
     /// The other reader or writer.
     pub stream: T,
-    /// How many bytes it passes on at most a call. At 0 a reader seems to be at its end, and a
+    /// The most bytes that it passes on in a call. At 0 a reader seems to be at its end, and a
     /// writer takes nothing.
     pub most: usize,
     /// Which of its calls fails, if one does.

@@ -1,4 +1,4 @@
-//! A line in a place of fixed size.
+//! A line in a buffer of fixed size.
 
 ghost use Rattle.std.specs.Prelude.{◌≡◌, ◌+◌, ◌*◌, ◌≤◌, [], ◌∷◌, ◌++◌, length, take, drop, decimal};
 ghost use Rattle.gk_terms.specs.Text.{content_of};
@@ -16,7 +16,7 @@ use std::marker::Model;
 /// and its line feed. A line that fills them without a line feed is too long, whatever follows.
 pub const ROOM: usize = MOST_LINE_BYTES + 2;
 
-/// One line, as it is read or made: its first bytes, `len` of them, stand in the array. What has no
+/// One line, as it is read or made: its first bytes, `len` of them, are in the array. What has no
 /// room is left out. Takes no memory. A contract sees the line's bytes.
 #[derive(Drop)]
 pub struct LineBuffer {

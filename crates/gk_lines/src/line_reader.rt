@@ -27,7 +27,7 @@ pub enum ReadFault {
     TurnsSpent,
 }
 
-/// What was read of an input and not yet taken, and how often its reader may be called still. The
+/// What was read of an input and not yet taken, and how often its reader may still be called. The
 /// bytes of `piece` from `start` to `end` are pending; `ended` says that the reader gave no byte
 /// more, and then none is pending.
 #[derive(Drop)]
@@ -71,7 +71,7 @@ impl LineReader {
         }
     }
 
-    /// How often the reader may be called still.
+    /// How often the reader may still be called.
     pub fn turns(&self) -> u32
         ensures turns { result ≡ self.now.turns }
         ensures bounded { work_left self.now < 2 ^ 63 }
@@ -93,8 +93,7 @@ impl LineReader {
         // input meets this.
         requires { AtEndIfEnded self.old (R.remaining reader.old) }
 
-        // The first of the lines that are left is taken off, whatever the pieces are in which it
-        // comes.
+        // The first of the lines that are left is taken off, in whatever pieces it comes.
         ensures line { IfOk result (λ more. IsTrue more → KnownStep
             (left_of self.old (R.remaining reader.old)) (left_of self.new (R.remaining reader.new))
             (TakesLine self.new.ended line.new)) }
@@ -223,7 +222,7 @@ impl LineReader {
     }
 }
 
-/// How many bytes stand before the first line feed.
+/// How many bytes come before the first line feed.
 fn bytes_before_feed(bytes: &[u8]) -> usize
     ensures value { result ≡ position_or_len (λ b. b == 10) bytes.now }
     ensures within { result ≤ length bytes.now }

@@ -176,7 +176,7 @@ fn asks_for_whole_pieces(rt: HostRuntime) -> Result<(), Fail> {
 }
 
 /// Two lines are read, so many bytes a call, by a reader that fails at one call: before that so
-/// many whole lines come, and behind it this line, if any.
+/// many whole lines come, and after them this line, if any.
 fn assert_failure(
     rt: &impl Abort,
     most: usize,

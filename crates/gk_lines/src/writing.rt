@@ -1,4 +1,4 @@
-//! Bytes that are written to the last.
+//! Bytes that are written to the last one.
 
 ghost use Rattle.std.specs.Prelude.{OnOk, OnErr};
 ghost use Rattle.std.specs.Io.KnownBytes.{Appends};

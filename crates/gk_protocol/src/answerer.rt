@@ -12,7 +12,7 @@ use admission::{Core, Event};
 use gk_terms::{Dialled, Name, Units};
 use std::alloc::Global;
 
-/// Who answers the requests of a session: a core, or a seat on a desk of many.
+/// Who answers the requests of a session, as a core does.
 pub trait Answerer {
     ghost use Rattle.gk_protocol.specs.declared.requests.Request.{Request};
     ghost use Rattle.gk_protocol.specs.declared.answers.Answer.{Answer};

@@ -1,4 +1,4 @@
--- Dialled digits: the characters of H.225.0's dialedDigits but for the comma, 1 to 32 of them.
+-- Dialled digits: the characters of H.225.0's dialedDigits except the comma, 1 to 32 of them.
 use Rattle.std.specs.Prelude.{ℕ, ◌==◌, Bool, ◌&&◌, ◌||◌, IsTrue, nat_le, List, length, Option}
 use Rattle.std.specs.Bool.{then_some}
 use Rattle.std.specs.Char.{is_ascii_digit}

@@ -6,7 +6,7 @@ abbrev pub Changes : {S T E : Type 0} → S → S → Result S E → Result T E 
 Changes old new expected result =
     MatchResult result (λ _. expected ≡ Ok new) (λ e. (new ≡ old) × (expected ≡ Err e))
 
--- the same if memory may run out, which comes only in the place of Ok
+-- the same if memory may run out, which is answered only in place of Ok
 abbrev pub ChangesUnlessMemory : {S T E : Type 0} → E → S → S → Result S E → Result T E → Type 0
 ChangesUnlessMemory no_memory old new expected result =
     MatchResult result (λ _. expected ≡ Ok new)

@@ -140,7 +140,7 @@ fn cut(text: &[u8], separator: u8) -> (&[u8], Option<&[u8]>)
     }
 }
 
-/// How many bytes stand before the first separator.
+/// How many bytes come before the first separator.
 fn length_before(text: &[u8], separator: u8) -> usize
     ensures { result ≡ position_or_len (λ b. b == separator) text.now }
 {

@@ -63,7 +63,7 @@ impl Dialled {
     }
 }
 
-/// Whether a byte may stand among dialled digits.
+/// Whether a byte may be among dialled digits.
 fn is_dialled_byte(byte: u8) -> bool
     ensures { result ≡ is_dialled_byte byte }
 {

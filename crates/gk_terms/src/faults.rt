@@ -1,4 +1,4 @@
-//! Why a text is none of the terms.
+//! Why a text is not a term.
 
 use thiserror::Error;
 
@@ -6,16 +6,16 @@ use thiserror::Error;
 /// changes.
 #[derive(Clone, Copy, Debug, PartialEq, Eq, Error)]
 pub enum TermFault {
-    /// No name: empty, longer than 128 bytes, or with a byte outside 0x21 to 0x7E.
+    /// Not a name: empty, longer than 128 bytes, or with a byte outside 0x21 to 0x7E.
     #[error("not a name")]
     BadName,
-    /// No dialled digits, or no technology prefix: empty, too long, or with another character.
+    /// Not dialled digits, or not a technology prefix: empty, too long, or with another character.
     #[error("not dialled digits")]
     BadDigits,
-    /// No decimal number, a leading zero, or a number outside the stated range.
+    /// Not a decimal number, one with a leading zero, or one outside the stated range.
     #[error("not a number in range")]
     BadNumber,
-    /// No IPv4 address, or a port that is none.
+    /// Not an IPv4 address, or a port that is not one.
     #[error("not an address")]
     BadAddress,
 }

@@ -1,5 +1,5 @@
-//! The stated limits: what a configuration, a request or a core may at most have. Each is this
-//! project's profile, but for the sequence number, whose range is that of H.225.0's RequestSeqNum.
+//! The stated limits: the most that a configuration, a request or a core may have. Each is this
+//! project's profile, except the sequence number, whose range is that of H.225.0's RequestSeqNum.
 
 /// Bytes of a line, without its line feed and one carriage return just before that.
 pub const MOST_LINE_BYTES: usize = 512;

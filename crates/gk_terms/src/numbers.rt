@@ -8,8 +8,9 @@ ghost use Rattle.gk_terms.specs.Number.{is_numeral, value_of, number_of};
 
 use crate::faults::TermFault;
 
-/// Reads a decimal number from `least` to `most`: digits without sign, and no leading zero but in
-/// `0` itself. Any other text, and a number outside the range, is `BadNumber`. Takes no memory.
+/// Reads a decimal number from `least` to `most`: digits without a sign, and without a leading zero
+/// except in `0` itself. Any other text, and a number outside the range, is `BadNumber`. Takes no
+/// memory.
 pub fn read_number(text: &[u8], least: u32, most: u32) -> Result<u32, TermFault>
     ensures { result ≡ ok_or (number_of least most text.now) TermFault.BadNumber }
 {

@@ -8,13 +8,13 @@ use std::fmt;
 /// by its name in H.225.0. Which case gives which reason is this project's profile.
 #[derive(Clone, Copy, Debug, PartialEq, Eq)]
 pub enum Reason {
-    /// AdmissionRejectReason: the caller is no registered endpoint.
+    /// AdmissionRejectReason: the caller is not a registered endpoint.
     CallerNotRegistered,
     /// AdmissionRejectReason: the dialled digits lead to no destination.
     CalledPartyNotRegistered,
     /// AdmissionRejectReason: a bandwidth limit would be passed.
     RequestDenied,
-    /// AdmissionRejectReason: a table is full, or memory is refused.
+    /// AdmissionRejectReason: a table is full, or memory ran out.
     ResourceUnavailable,
     /// The reason of a refusal for which the message has no better one.
     UndefinedReason,

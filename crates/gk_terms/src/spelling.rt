@@ -16,8 +16,8 @@ use std::hash::{Hash, Hasher};
 use std::marker::Model;
 use std::{fmt, str};
 
-/// A text of at most `MOST` visible ASCII characters. The length stands before the characters, so
-/// that a short text lies in one or two cache lines. A contract sees the text alone.
+/// A text of at most `MOST` visible ASCII characters. The length comes before the characters, so
+/// that a short text is in one or two cache lines. A contract sees the text alone.
 #[derive(Clone, Copy)]
 pub struct Spelling<const MOST: usize> {
     len: u8,
@@ -64,7 +64,7 @@ impl<const MOST: usize> Spelling<MOST> {
         &self.bytes[..self.len as usize]
     }
 
-    /// The text as text.
+    /// The text as a string.
     pub fn as_str(&self) -> &str
         ensures { result.now ≡ self.now }
     {

@@ -74,7 +74,7 @@ fn without_star(text: &[u8]) -> &[u8]
     }
 }
 
-/// Whether a byte may stand in a technology prefix.
+/// Whether a byte may be in a technology prefix.
 fn is_technology_byte(byte: u8) -> bool
     ensures { result ≡ is_technology_byte byte }
 {

@@ -61,15 +61,15 @@ fn first_line(text: &[u8]) -> (&[u8], &[u8])
     }
 }
 
-/// How many bytes stand before the first line feed.
+/// How many bytes come before the first line feed.
 fn length_of_line(text: &[u8]) -> usize
     ensures { result ≡ position_or_len (λ b. b == 10) text.now }
 {
     text.iter().take_while(|byte| **byte != b'\n').count()
 }
 
-/// What a line says: without its line feed and one carriage return just before that.
-/// A last line without line feed keeps its carriage return.
+/// What a line says: without its line feed and one carriage return just before that. A last line
+/// without a line feed keeps its carriage return.
 pub fn content(line: &[u8]) -> &[u8]
     ensures { result.now ≡ content_of line.now }
 {

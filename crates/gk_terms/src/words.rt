@@ -73,7 +73,7 @@ fn blanks_in_front(line: &[u8]) -> usize
     line.iter().take_while(|byte| is_blank(**byte)).count()
 }
 
-/// How many bytes stand before the first blank.
+/// How many bytes come before the first blank.
 fn length_of_word(line: &[u8]) -> usize
     ensures { result ≡ position_or_len is_blank line.now }
 {

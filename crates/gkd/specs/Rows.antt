@@ -36,7 +36,7 @@ OpenCall = Writes stated (configuration ++ open_call_requests)
     ∷ codes "ARJ 3 1001 undefinedReason call-open"
     ∷ codes "URJ 4 ta callInProgress" ∷ codes "URJ 5 tb notCurrentlyRegistered" ∷ [])
 
--- the same, and the record has room for five entries alone, one of which the open call keeps
+-- the same, and the record has room for only five entries, one of which the open call keeps
 abbrev pub FullRecord : Type 0
 FullRecord = Writes (record stated { records = 5 }) (configuration ++ open_call_requests)
     (codes "RCF 1 ta gk-a" ∷ codes "ACF 2 1001 ZONE gk-x 10.9.0.1:1719 640"
@@ -175,7 +175,7 @@ LongDigits = Writes stated
     ∷ codes "ERR digits" ∷ []))
 
 -- ---- bandwidth limits
--- two calls take all that a zone may have, and one of 0 units fits still
+-- two calls take all that a zone may have, and one of 0 units still fits
 abbrev pub FullTotal : Type 0
 FullTotal = Writes stated
     (dial_plan default_technology []
@@ -186,7 +186,7 @@ FullTotal = Writes stated
     ∷ codes "ARJ 7 1003 requestDenied total gk-a"
     ∷ codes "ACF 8 1003 ZONE gk-y 10.9.0.2:1719 0" ∷ []))
 
--- one that asks more than a call may have is refused for that first
+-- one that asks for more than a call may have is refused for that first
 abbrev pub SessionBeforeTotal : Type 0
 SessionBeforeTotal = Writes stated
     (dial_plan default_technology []
@@ -301,7 +301,8 @@ WithoutSecondZone = Writes stated
     ∷ codes "ARJ 7 1002 callerNotRegistered" ∷ codes "DCF 8 1001"
     ∷ codes "URJ 9 gb1 notCurrentlyRegistered" ∷ []))
 
--- lines that are no configuration, each with its first fault, and one that is cut short
+-- reloads of lines that are not a configuration, each with its first fault, and one reload that is
+-- cut short
 abbrev pub FaultyReloads : Type 0
 FaultyReloads = Writes stated
     (dial_plan default_technology []

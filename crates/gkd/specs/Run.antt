@@ -32,8 +32,9 @@ OpensWithin limits configuration core = core ≡ opened configuration limits
 -- ---- how a run ends, whoever answers its requests
 module _ {S : Type 0} (MayAnswer : S → Request → Answer → S → Type 0)
     (Opens : Configuration → S → Type 0) where
-  -- the configuration at the front of these bytes was accepted, and the bytes after it are a
-  -- session from the opening state on, which ended so
+  -- the configuration at the front of these bytes was accepted, and the bytes after it were served
+  -- as a session: it began in a state that the configuration opens, wrote this text, and ended with
+  -- this result. `ahead` are the bytes that were read and belong to no line that was taken
   pub record Serves (bytes rest : List ℕ) (text : List ℕ)
       (result : Result ℕ SessionFault) : Type 0 where
     pub configuration : Configuration
@@ -57,7 +58,9 @@ module _ {S : Type 0} (MayAnswer : S → Request → Answer → S → Type 0)
       (configuration : Configuration)
       × (reading_in (configuration_of EndLine bytes) ≡ Ok configuration)
 
-  -- what a run over these bytes wrote, by how it ended, with this rest of its input
+  -- what a run over these bytes wrote, one case for each result; `rest` is what the reader has left
+  -- of them. At each fault before the requests nothing was written, and at Config and NoMemory the
+  -- configuration was read to its end, with some bytes after it read ahead
   abbrev pub RunEnds : List ℕ → List ℕ → List ℕ → Result ℕ RunFault → Type 0
   RunEnds bytes rest text (Ok count) = Serves bytes rest text (Ok count)
   RunEnds bytes rest text (Err BadLimits) = (text ≡ []) × (rest ≡ bytes)
@@ -84,7 +87,7 @@ is_run_write_fault (Config fault) = false
 is_run_write_fault (Session fault) = is_write_fault fault
 is_run_write_fault NoMemory = false
 
--- whether a fault always comes before the first request is read
+-- whether a fault always comes before the requests
 abbrev pub is_before_requests : RunFault → Bool
 is_before_requests BadLimits = true
 is_before_requests (Config fault) = true
@@ -102,7 +105,8 @@ opening_run_fault_of opening.NoMemory = NoMemory
 
 -- ---- a run under a configuration that was read before
 module _ {S : Type 0} (MayAnswer : S → Request → Answer → S → Type 0) where
-  -- the bytes are a session from this state on, which ended so; or nothing was read or written
+  -- the bytes were served as a session that began in this state and ended so; or nothing was read
+  -- or written
   abbrev pub ServesUnder : S → List ℕ → List ℕ → List ℕ → Result ℕ RunFault → Type 0
   ServesUnder first bytes rest text (Ok count) =
       (last : S) × (ahead : List ℕ) × Ends MayAnswer bytes ahead rest first last text (Ok count)

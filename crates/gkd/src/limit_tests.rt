@@ -96,7 +96,7 @@ fn limits_all_calls_to_remote_zones_together(rt: HostRuntime) -> Result<(), Fail
     Ok(())
 }
 
-/// Limits of which each lets less pass than the ones that are tried before it.
+/// Limits, each of which lets less pass than the ones that are tried before it.
 const NARROWING: &str = " bandwidth session zone gk-a 60\n \
     bandwidth session zone gk-b 50\n \
     bandwidth total zone gk-a 40\n \

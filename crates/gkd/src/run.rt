@@ -98,26 +98,30 @@ impl<T: Drop> From<AllocFailed<T>> for RunFault {
     }
 }
 
-/// Reads a configuration up to the first line whose only word is `end`, or to the end of the input,
-/// and then answers the requests that follow to the end of the input. The answer is how many
-/// replies were written. The reader is called at most 4,294,967,295 times, for the configuration
-/// and the requests together.
+/// Reads a configuration, and then answers the requests after it to the end of the input. The
+/// configuration ends with the first line of at most 512 bytes whose only word is `end`, or with
+/// the input. `Ok` gives the number of replies that were written. The reader is called at most
+/// 4,294,967,295 times, for the configuration and the requests together.
 ///
-/// `BadLimits` comes before the reader is touched. `Config` comes once the configuration's last
-/// line was read; a fault of reading before that is `Session`. If the answer is one of these two or
-/// `NoMemory`, nothing was written. The configuration ends with the first line of at most 512 bytes
-/// whose only word is `end`, or with the input.
+/// `BadLimits` comes before the reader is touched. `Config` comes once the configuration was read
+/// to its end; a fault of reading before that is `Session`. At `BadLimits`, `Config` and `NoMemory`
+/// nothing was written.
 pub fn run_over<R: Source, W: Sink>(
     alloc: Global,
     limits: Limits,
     reader: &mut R,
     writer: &mut W,
 ) -> Result<u64, RunFault>
-    // What was written, by how the run ended, however the reader cut the bytes into pieces.
+    // If the reader tells its bytes: what was written, by how the run ended (`RunEnds` has one case
+    // for each result), however the reader cut the bytes into pieces. A writer that tells its bytes
+    // holds just this more than before.
     ensures written { KnownStep (R.remaining reader.old) (R.remaining reader.new) (λ bytes rest.
         (text : List ℕ)
         × Spec.RunEnds MayAnswer (Spec.OpensWithin limits) bytes rest text result
         × Appends (W.contents writer.old) (W.contents writer.new) text) }
+
+    // At `Ok` the reader is at its end. No run ends at a session's `NoMemory`. At a fault that
+    // always comes before the requests, nothing was written.
     ensures end { OnOk result (IsAtEnd (R.remaining reader.new)) }
     ensures buffered { result ≢ Err (RunFault.Session SessionFault.NoMemory) }
     ensures unwritten { (fault : _) → result ≡ Err fault → Spec.is_before_requests fault ≡ true

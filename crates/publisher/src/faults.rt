@@ -17,7 +17,7 @@ pub enum NewFault {
 #[derive(Clone, Copy, Debug, PartialEq, Eq, Error)]
 pub enum ReaderFault {
     /// No place was found: each is taken by a reader that wasn't let go, or the table of places
-    /// gave none for a cause of its own.
+    /// gave none for a reason of its own.
     #[error("no place is left")]
     NoPlace,
     /// Memory was refused. Making a reader takes none, so this doesn't come.

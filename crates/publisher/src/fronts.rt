@@ -122,8 +122,8 @@ impl<J: Imprint> Front<J> {
         self.stem.len()
     }
 
-    /// Of two beginnings of one history the shorter begins the longer, and both are legal. It does
-    /// nothing when it runs.
+    /// Of two beginnings of one history the shorter is a beginning of the longer, and both are
+    /// legal. It does nothing when it runs.
     pub(crate) fn meet(&self, other: &Stem)
         requires { other.now.seen.book ≡ J.book }
         ensures shorter { length self.now ≤ length other.now.seen.log →
@@ -136,8 +136,8 @@ impl<J: Imprint> Front<J> {
         both.learn(&other.seen);
     }
 
-    /// Whether this is the shorter of two beginnings. The shorter one's generations begin the
-    /// longer one's.
+    /// Whether this is the shorter of two beginnings. The shorter one's generations are a beginning
+    /// of the longer one's.
     pub(crate) fn is_shorter(&self, other: &Front<J>) -> bool
         ensures { MatchBool result
             (IsPrefix (generations self.now) (generations other.now))

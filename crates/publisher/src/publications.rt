@@ -87,7 +87,7 @@ impl Publication {
         Version::new(self.version)
     }
 
-    /// Whether all that was told is in what this shows. It is if this has at most one entry less,
+    /// Whether all that was told is in what this shows. It is if this has at most one entry fewer,
     /// which then says that this is in force.
     pub(crate) fn has<J: Imprint>(&self, told: &Front<J>) -> bool
         requires { self.now.stem.seen.book ≡ J.book }

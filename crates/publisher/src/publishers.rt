@@ -28,7 +28,7 @@ use std::sync::{Arc, Wait};
 /// The greatest number of places for readers.
 pub const MOST_PLACES: u32 = 32;
 
-/// A history with so many entries takes no publication more.
+/// A history with so many entries takes no more publications.
 const MOST_ENTRIES: u64 = 1 << 61;
 
 /// Puts tables in force, one version after another, for readers that never wait. It can't be let
@@ -107,8 +107,8 @@ impl<J: Imprint> Publisher<J> {
     }
 
     /// A reader, which has read nothing and was told of all publications. `NoPlace` if each place
-    /// is taken, or if no place is found for a cause of the table of places, as while readers come
-    /// and go in other threads. This project's profile.
+    /// is taken, or if the table of places finds none for a reason of its own, as while readers
+    /// come and go in other threads. This project's profile.
     pub fn reader(&mut self) -> Result<Reader<J>, ReaderFault>
         ensures same { self.new ≡ self.old }
         ensures list { IfOk result (λ reader. IsPrefix reader.list self.old) }
@@ -166,8 +166,8 @@ impl<J: Imprint> Publisher<J> {
         Told::new(self.told.again())
     }
 
-    /// Ends it. Its readers are lost from then on, and what they read stays theirs. It waits until
-    /// no reader is inside a copy, and takes no memory.
+    /// Ends it. Its readers are lost from then on, and what they have read stays theirs. It waits
+    /// until no reader is inside a copy, and takes no memory.
     pub fn close<R: Wait>(self, rt: &R) {
         let Publisher {
             copies,
@@ -232,7 +232,7 @@ fn show<J: Imprint, R: Wait>(copies: Copies<J>, asked: (&R, Publication)) -> (Co
     (copies, true)
 }
 
-/// The history with one entry more, which says that the last draft is in force.
+/// The history with one more entry, which says that the last draft is in force.
 fn confirm<J: Imprint>(
     head: &Head<J>,
     drafted: &Front<J>,
@@ -251,8 +251,8 @@ fn confirm<J: Imprint>(
     Some(front)
 }
 
-/// Says in the history that the last draft is in force. There is no other who adds to the history,
-/// so the first try goes through.
+/// Says in the history that the last draft is in force. Nobody else adds to the history, so the
+/// first try goes through.
 fn put_in_force<J: Imprint, R: Wait>(
     rt: &R,
     head: &Head<J>,

@@ -11,8 +11,8 @@ use std::marker::PhantomData;
 /// A list of generations. No value of it is made; a clause reads an array as a list, of any length.
 pub(crate) type Generations = [[Command; 0]; 0];
 
-/// What is shown is of this history, and each list that was seen begins the list that is shown. A
-/// look takes the list that is shown, which goes on from the list that was seen before.
+/// What is shown is of this history, and each list that was seen is a beginning of the list that is
+/// shown. A look takes the list that is shown, which goes on from the list that was seen before.
 pub(crate) struct Shown<J: Imprint> {
     of: PhantomData<J>,
 }

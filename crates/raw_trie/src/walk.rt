@@ -17,7 +17,7 @@ use digit_patterns::Hit;
 /// What a look at a node tells.
 #[derive(Clone, Copy)]
 pub(crate) struct Seen {
-    /// Where the link of the digit leads that was asked for, or 0.
+    /// Where the link of the digit that was asked for leads, or 0.
     pub(crate) next: u32,
     /// Where the dot's link leads, or 0.
     pub(crate) dot: u32,

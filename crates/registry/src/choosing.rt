@@ -50,7 +50,7 @@ fn first_serving<'a>(listing: &'a Listing, zone: &Name, prefix: &TechPrefix) -> 
     listing.at_number(number)
 }
 
-/// The first gateway that is not named, with the usual priority.
+/// The first gateway that is not named, with the default priority.
 fn first_unnamed(
     listing: &Listing,
     zone: &Name,
@@ -126,7 +126,7 @@ fn with_named(
     }
 }
 
-/// The priority that is named for this gateway, or else the usual one.
+/// The priority that is named for this gateway, or else the default one.
 fn priority_of(named: &IndexMap<Name, u8>, gateway: &Name) -> u8
     ensures { result ≡ named_priority named.now.entries gateway.now }
 {

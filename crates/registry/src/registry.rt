@@ -114,7 +114,7 @@ impl Registry {
     }
 
     /// Why the endpoint may not register, room aside: the first of `UnknownZone`, if the zone that
-    /// it means is no local one, `DuplicateAlias(Id)`, if its ID is registered from another
+    /// it means is not a local one, `DuplicateAlias(Id)`, if its ID is registered from another
     /// address, and `DuplicateAlias(E164)`, if an alias is another endpoint's, in whatever zone.
     pub fn fault_of(&self, endpoint: &Endpoint, tables: &Tables) -> Option<RegistryFault>
         ensures { result

@@ -111,8 +111,9 @@ impl Shelf {
     }
 
     /// The gateway that is chosen for the zone and the prefix by these priorities: the greatest one
-    /// above 0, and of equal ones the gateway that registered first. Who is not named has the usual
-    /// priority. The time grows with the number of those that are named, and not of the endpoints.
+    /// above 0, and of equal ones the gateway that registered first. One that is not named has the
+    /// default priority. The time grows with the number of those that are named, and not with that
+    /// of the endpoints.
     pub fn chosen(
         &self,
         zone: &Name,
@@ -144,8 +145,8 @@ impl Shelf {
 
     /// Puts the endpoint in the place of the one with its ID, or else at the end. None of its
     /// aliases may be another endpoint's; `alias_is_taken` tests that. If memory runs out, the
-    /// endpoints stay as they are. The time does not grow with their number, but that once in about
-    /// 4,000,000,000 calls each gets a new number.
+    /// endpoints stay as they are. The time does not grow with their number, except that
+    /// once in about 4,000,000,000 calls each gets a new number.
     pub fn put(&mut self, endpoint: Endpoint, alloc: Global) -> Result<(), AllocError>
         requires free { alias_is_taken (endpoints_of self.old) endpoint ≡ false }
         requires few { length (endpoints_of self.old) < 2 ^ 32 }

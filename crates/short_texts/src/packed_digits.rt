@@ -9,11 +9,11 @@ use gk_terms::Dialled;
 use gk_terms::limits::MOST_DIALLED;
 use std::marker::Model;
 
-/// So many bytes hold the longest dialled digits.
+/// How many bytes hold the longest dialled digits.
 const BYTES: usize = 16;
 
 /// Dialled digits, two characters in each byte, the first of them in its low bits: 1 to 10 is a
-/// digit, 11 the hash sign, 12 the star, and 0 stands after the last one. A contract sees the text.
+/// digit, 11 the hash sign, 12 the star, and 0 comes after the last one. A contract sees the text.
 #[derive(Clone, Copy)]
 pub struct PackedDigits {
     bytes: [u8; BYTES],

@@ -6,7 +6,7 @@ use gk_terms::Name;
 use gk_terms::spelling::Spelling;
 use std::marker::Model;
 
-/// So many characters a short name may have.
+/// How many characters a short name may have.
 pub const SHORT_NAME: usize = 19;
 
 /// A name of at most 19 characters, held in 20 bytes. A contract sees the name.

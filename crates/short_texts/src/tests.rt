@@ -4,7 +4,7 @@ use crate::{PackedDigits, ShortName};
 use gk_terms::{Dialled, Name};
 use std::test::Fail;
 
-/// Whether the name is short, reads back, and is told from the other one.
+/// Whether the name is short, reads back, and differs from the other one.
 fn is_kept_beside(name: &Name, other: &Name) -> bool {
     match ShortName::of(name) {
         Some(short) => short.name() == *name && short.is(name) && !short.is(other),
