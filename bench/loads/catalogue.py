@@ -1,0 +1,83 @@
+"""The loads, and the sizes at which each is measured."""
+
+from dataclasses import dataclass
+from typing import Callable
+
+from loads import decisions, gateways, network, registrations, reloads, small_site
+from loads.writer import Writer
+
+REQUESTS = (30000, 100000, 300000)
+FEWER_REQUESTS = (3000, 10000, 30000)
+
+
+@dataclass
+class Load:
+    name: str
+    # what its sizes count
+    unit: str
+    write: Callable
+    sizes: tuple
+    quick_sizes: tuple
+    # how many requests there are besides, if the sizes count something else
+    requests: tuple = ()
+    quick_requests: tuple = ()
+
+    def sizes_of(self, quick):
+        return self.quick_sizes if quick else self.sizes
+
+    def write_to(self, file, size, quick):
+        """Writes the load, and answers with what the writer knows of it."""
+        out = Writer(file)
+        self.write(out, size, *(self.quick_requests if quick else self.requests))
+        return out
+
+
+LOADS = [
+    Load("small site", "requests", small_site.write, REQUESTS, FEWER_REQUESTS),
+    Load(
+        "large network",
+        "prefixes",
+        network.write_prefixes,
+        (2000, 6000, 18000),
+        (2000, 6000, 18000),
+        (100000,),
+        (20000,),
+    ),
+    Load(
+        "dots and stars",
+        "patterns",
+        network.write_patterns,
+        (2000, 6000, 19000),
+        (2000, 6000, 19000),
+        (100000,),
+        (20000,),
+    ),
+    Load(
+        "gateways",
+        "gateways",
+        gateways.write,
+        (1000, 3000, 10000),
+        (1000, 3000, 10000),
+        (100000,),
+        (20000,),
+    ),
+    Load("registrations", "requests", registrations.write, REQUESTS, (10000, 20000, 40000)),
+    Load("reloads", "reloads", reloads.write_many, (10, 30, 100), (2, 6, 20)),
+    Load("long reloads", "lines", reloads.write_long, (2000, 6000, 20000), (2000, 6000, 20000)),
+    Load(
+        "open calls",
+        "calls",
+        decisions.write_open,
+        (5000, 15000, 50000),
+        (1000, 3000, 10000),
+        (150000,),
+        (30000,),
+    ),
+    Load(
+        "decisions",
+        "records",
+        decisions.write,
+        (100000, 300000, 1000000),
+        (10000, 30000, 100000),
+    ),
+]
