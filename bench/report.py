@@ -29,7 +29,7 @@ def main():
 
     begun = time.monotonic()
     measure = Measure(asked.measure, asked.program, asked.folder)
-    rounds, passes = (5, 2) if asked.quick else (7, 3)
+    rounds, passes = (4, 2) if asked.quick else (7, 3)
     refused = []
     table.show_head()
     for load in loads:

@@ -5,7 +5,7 @@ FASTER = 1.1
 
 COLUMNS = [
     ("load", 14),
-    ("size", 16),
+    ("size", 17),
     ("requests", 9),
     ("granted", 7),
     ("start ms", 8),

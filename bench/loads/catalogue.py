@@ -18,7 +18,7 @@ class Load:
     write: Callable
     sizes: tuple
     quick_sizes: tuple
-    # how many requests there are besides, if the sizes count something else
+    # how many requests or reloads there are, if the sizes count something else
     requests: tuple = ()
     quick_requests: tuple = ()
 
@@ -62,8 +62,16 @@ LOADS = [
         (20000,),
     ),
     Load("registrations", "requests", registrations.write, REQUESTS, (10000, 20000, 40000)),
-    Load("reloads", "reloads", reloads.write_many, (10, 30, 100), (2, 6, 20)),
-    Load("long reloads", "lines", reloads.write_long, (2000, 6000, 20000), (2000, 6000, 20000)),
+    Load("reloads", "reloads", reloads.write_many, (10, 30, 100), (2, 5, 10)),
+    Load(
+        "long reloads",
+        "lines",
+        reloads.write_long,
+        (2000, 6000, 20000),
+        (2000, 6000, 20000),
+        (20,),
+        (8,),
+    ),
     Load(
         "open calls",
         "calls",
@@ -78,6 +86,6 @@ LOADS = [
         "records",
         decisions.write,
         (100000, 300000, 1000000),
-        (10000, 30000, 100000),
+        (10000, 30000, 60000),
     ),
 ]

@@ -34,8 +34,8 @@ def write_many(out, reloads):
     write(out, reloads, 20000)
 
 
-def write_long(out, length):
-    write(out, 20, length)
+def write_long(out, length, reloads):
+    write(out, reloads, length)
 
 
 def write(out, reloads, length):
