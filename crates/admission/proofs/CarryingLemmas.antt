@@ -7,7 +7,7 @@ use Rattle.admission.specs.Events.{PlainEvent, Registering, Unregistering, Admit
 use Rattle.admission.specs.Step.{count_refusal, with_commands, with_effect}
 use Rattle.admission.specs.Founded.{IsUnder}
 use Rattle.admission.specs.declared.rulings.Effect.TheVariants.{PutInForce}
-use Rattle.admission.specs.declared.rulings.Ruling.{Ruling}
+use Rattle.admission.specs.Ruling.{Ruling}
 
 -- commands are put in force alike
 pub put_under : (commands : List Command) (old new : MachineParts) (event : PlainEvent)

@@ -14,9 +14,9 @@ use Rattle.admission.specs.declared.replies.ReloadRefusal.TheVariants.{NoMemory}
 use Rattle.admission.specs.Step.{is_recorded, places_needed, reload_refusal, count_refusal, state_after, Outcome, outcome_of, step, no_memory_reply_of}
 use Rattle.admission.specs.History.{PlainEntry, entry_of, IsLegal, replay, CoreParts, RecordParts, in_force, in_force_of, generations_of, generations, state_of, with_entry, receipt_of, unrecorded_reply, IsRecorded, IsUnrecorded, MayReply, core_after}
 use Rattle.admission.specs.CoreInvariant.{IsKept}
-use Rattle.admission.specs.declared.rulings.Ruling.{Ruling}
+use Rattle.admission.specs.Ruling.{Ruling}
 use Rattle.admission.specs.declared.replies.Reply.{Reply}
-use Rattle.admission.specs.declared.record.Receipt.{Receipt}
+use Rattle.admission.specs.declared.entries.Receipt.{Receipt}
 use Rattle.admission.specs.HistoryLaws.{AreAccepted, IsWithinLimits, IsSound}
 use Rattle.admission.proofs.CarryingLemmas.{counts_alike}
 use Rattle.admission.proofs.VersionLemmas.{all_more, all_accepted}

@@ -22,7 +22,7 @@ use Rattle.admission.specs.declared.routes.Route.{Route}
 use Rattle.admission.specs.declared.routes.Route.TheVariants.{To, Refused}
 use Rattle.admission.specs.declared.rulings.Effect.{Effect}
 use Rattle.admission.specs.declared.rulings.Effect.TheVariants.{Nothing, Put, Remove, Open, Resize, Close, PutInForce}
-use Rattle.admission.specs.declared.rulings.Ruling.{Ruling}
+use Rattle.admission.specs.Ruling.{Ruling}
 use Rattle.admission.specs.State.{State, free_places}
 use Rattle.command_reader.specs.declared.commands.Command.{Command}
 use Rattle.admission.specs.Events.{PlainEvent, Registering, Unregistering, Admitting, Changing, Releasing, Reloading, endpoint_asking, put_in_force}

@@ -2,6 +2,7 @@ pub mod CallingLemmas
 pub mod CallsLemmas
 pub mod CarryingLemmas
 pub mod CoreLemmas
+pub mod EnteringLemmas
 pub mod FirstLaws
 pub mod FoundedLemmas
 pub mod GrantLaws

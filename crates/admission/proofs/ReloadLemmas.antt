@@ -12,7 +12,7 @@ use Rattle.pieces.specs.Pieces.{PiecesParts}
 use Rattle.admission.specs.Reloads.{ReloadsParts}
 use Rattle.admission.specs.RecordIndex.{entries_told, IsStored, IsLastReload}
 use Rattle.admission.specs.declared.events.Event.{Event}
-use Rattle.admission.specs.declared.record.WholeEntry.{WholeEntry}
+use Rattle.admission.specs.declared.entries.WholeEntry.{WholeEntry}
 use Rattle.admission.specs.declared.slots.ShortReply.{ShortReply}
 use Rattle.admission.specs.declared.slots.Slot.{Slot}
 use Rattle.admission.specs.declared.slots.Slot.TheVariants as slot

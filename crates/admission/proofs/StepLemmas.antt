@@ -10,7 +10,7 @@ use Rattle.admission.specs.History.{in_force_after}
 use Rattle.admission.specs.declared.replies.Reply.{Reply}
 use Rattle.admission.specs.declared.rulings.Effect.{Effect}
 use Rattle.admission.specs.declared.rulings.Effect.TheVariants.{Nothing, Put, Remove, Open, Resize, Close, PutInForce}
-use Rattle.admission.specs.declared.rulings.Ruling.{Ruling}
+use Rattle.admission.specs.Ruling.{Ruling}
 
 -- ---- the state after a ruling
 -- two states are alike but for what an effect changes

@@ -13,7 +13,7 @@ use Rattle.admission.specs.Slots.{entry_meant, registration_meant}
 use Rattle.admission.specs.Reloads.{ReloadsParts}
 use Rattle.admission.specs.RecordIndex.{plain_whole, slot_meant, entries_told, IsStored}
 use Rattle.admission.specs.declared.events.Event.{Event}
-use Rattle.admission.specs.declared.record.WholeEntry.{WholeEntry}
+use Rattle.admission.specs.declared.entries.WholeEntry.{WholeEntry}
 use Rattle.admission.specs.declared.slots.ShortReply.{ShortReply}
 use Rattle.admission.specs.declared.slots.Slot.{Slot}
 use Rattle.admission.specs.declared.slots.Slot.TheVariants as slot

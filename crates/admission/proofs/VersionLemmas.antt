@@ -20,7 +20,7 @@ use Rattle.admission.specs.Step.{places_needed, are_reloads_spent, count_refusal
 use Rattle.admission.specs.History.{PlainEntry, CoreParts, entry_of, generations_of, generations, state_of, with_entry, Steps}
 use Rattle.admission.specs.declared.replies.Reply.{Reply}
 use Rattle.admission.specs.declared.replies.Reply.TheVariants.{Reloaded, ReloadRefused}
-use Rattle.admission.specs.declared.record.Receipt.{Receipt}
+use Rattle.admission.specs.declared.entries.Receipt.{Receipt}
 use Rattle.admission.proofs.StepLemmas.{step_reply}
 
 -- ---- generations

@@ -6,13 +6,13 @@ use Rattle.admission.specs.State.{State}
 use Rattle.admission.specs.Events.{PlainEvent, Reloading, plain, kind_of, id_of, call_number_of, put_in_force}
 use Rattle.admission.specs.Ruling.{ruling_of}
 use Rattle.admission.specs.Step.{step, no_memory_reply_of}
-use Rattle.admission.specs.declared.rulings.Ruling.{Ruling}
+use Rattle.admission.specs.Ruling.{Ruling}
 use Rattle.admission.specs.declared.replies.Reply.{Reply}
 use Rattle.admission.specs.declared.routes.Route.{Route}
-use Rattle.admission.specs.declared.record.Entry.{Entry}
-use Rattle.admission.specs.declared.record.EntryEvent.{EntryEvent}
-use Rattle.admission.specs.declared.record.EntryEvent.TheVariants as in_entry
-use Rattle.admission.specs.declared.record.Receipt.{Receipt}
+use Rattle.admission.specs.declared.entries.Entry.{Entry}
+use Rattle.admission.specs.declared.entries.EntryEvent.{EntryEvent}
+use Rattle.admission.specs.declared.entries.EntryEvent.TheVariants as in_entry
+use Rattle.admission.specs.declared.entries.Receipt.{Receipt}
 
 -- ---- entries
 -- an entry of the record by its values alone

@@ -3,6 +3,7 @@ pub mod Events
 pub mod Founded
 pub mod History
 pub mod HistoryLaws
+pub mod Lent
 pub mod Limits
 pub mod RecordIndex
 pub mod Refusals
@@ -15,3 +16,4 @@ pub mod SlotList
 pub mod Slots
 pub mod State
 pub mod Step
+pub mod Told

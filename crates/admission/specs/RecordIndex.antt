@@ -7,7 +7,7 @@ use Rattle.admission.specs.History.{PlainEntry, in_force_after, in_force_of}
 use Rattle.admission.specs.Reloads.{ReloadsParts}
 use Rattle.admission.specs.Slots.{entry_meant}
 use Rattle.admission.specs.declared.events.Event.{Event}
-use Rattle.admission.specs.declared.record.WholeEntry.{WholeEntry}
+use Rattle.admission.specs.declared.entries.WholeEntry.{WholeEntry}
 use Rattle.admission.specs.declared.slots.Slot.{Slot}
 
 -- the values of an entry that stands whole

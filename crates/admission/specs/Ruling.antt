@@ -23,10 +23,18 @@ use Rattle.admission.specs.declared.replies.Reply.{Reply}
 use Rattle.admission.specs.declared.replies.Reply.TheVariants.{Registered, RegisterRefused, Unregistered, UnregisterRefused, Admitted, AdmitRefused, Changed, ChangeRefused, Released, ReleaseRefused, Reloaded}
 use Rattle.admission.specs.declared.rulings.Effect.{Effect}
 use Rattle.admission.specs.declared.rulings.Effect.TheVariants as effects
-use Rattle.admission.specs.declared.rulings.Ruling.{Ruling}
 use Rattle.admission.specs.State.{State}
 use Rattle.admission.specs.Events.{PlainEvent, Registering, Unregistering, Admitting, Changing, Releasing, Reloading}
 use Rattle.admission.specs.Routing.{route_of}
+
+-- what is ruled of an event, apart from counts and memory: the verdict; of an admission, the zone of
+-- the caller, if it is registered, and where the digits lead, if that was looked for; and what it
+-- changes
+pub record Ruling : Type 0 where
+  pub verdict : Reply
+  pub zone : Option (List ℕ)
+  pub route : Option Route
+  pub effect : Effect
 
 -- a ruling on an event that is not routed
 abbrev pub unrouted : Reply → Effect → Ruling

@@ -13,7 +13,7 @@ use Rattle.admission.specs.declared.replies.Reply.{Reply}
 use Rattle.admission.specs.declared.replies.Reply.TheVariants.{Registered, RegisterRefused, Unregistered, UnregisterRefused, Admitted, AdmitRefused, Changed, ChangeRefused, Released, ReleaseRefused, Reloaded, ReloadRefused}
 use Rattle.admission.specs.declared.rulings.Effect.{Effect}
 use Rattle.admission.specs.declared.rulings.Effect.TheVariants.{Nothing, Put, Remove, Open, Resize, Close, PutInForce}
-use Rattle.admission.specs.declared.rulings.Ruling.{Ruling}
+use Rattle.admission.specs.Ruling.{Ruling}
 use Rattle.admission.specs.State.{State, free_places}
 use Rattle.admission.specs.Events.{PlainEvent, Registering, Unregistering, Admitting, Changing, Releasing, Reloading, endpoint_asking, put_in_force}
 use Rattle.admission.specs.Ruling.{ruling_of}

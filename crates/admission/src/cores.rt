@@ -8,11 +8,9 @@ ghost use Rattle.admission.specs.Events.{put_in_force};
 ghost use Rattle.admission.specs.State.{opening_of};
 ghost use Rattle.admission.specs.Limits.{are_limits};
 ghost use Rattle.compiler.specs.Plan.{plan_of, target_of};
-ghost use Rattle.admission.specs.Ruling.{ruling_of};
 ghost use Rattle.admission.specs.Step.{step};
-ghost use Rattle.admission.specs.History.{Enters, generations, IsLegal, IsUnrecorded, MayReply, state_of, Steps};
+ghost use Rattle.admission.specs.History.{generations, IsLegal, IsUnrecorded, MayReply, state_of, Steps, with_entry};
 ghost use Rattle.admission.specs.Founded.{IsUnder};
-ghost use Rattle.admission.specs.CoreInvariant.{places_reserved};
 ghost use Rattle.admission.specs.HistoryLaws.{AreAccepted, IsSound};
 ghost use Rattle.std.specs.List.{AllByRecursion};
 
@@ -21,8 +19,6 @@ use crate::limits::Limits;
 use crate::machine::Machine;
 use crate::record::{Receipt, Record};
 use crate::replies::{ReloadRefusal, Reply};
-use crate::rulings::Ruling;
-use crate::settling::prepare;
 use bandwidth::OpenCalls;
 use compiler::{Plan, Routed, Tables};
 use gk_terms::{Dialled, Name, Units, Version};
@@ -49,9 +45,9 @@ pub enum OpeningFault {
 /// current state is the replay of the entries.
 #[derive(Drop)]
 pub struct Core {
-    machine: Machine,
-    history: Record,
-    reserved: bool,
+    pub(crate) machine: Machine,
+    pub(crate) history: Record,
+    pub(crate) reserved: bool,
 }
 
 impl Model for Core {
@@ -128,16 +124,14 @@ impl Core {
         ensures { Steps self.old (Events.Admitting id.now call routed.now.dialled units)
             result self.new }
     {
-        let digits = routed.dialled;
-        let plan = self.plan_for(routed);
-        let ruling = self.admission(&plan, id, call, &digits, units);
+        let plan = &self.plan_for(routed);
         let event = Event::Admit {
             id: *id,
             call,
-            digits,
+            digits: routed.dialled,
             units,
         };
-        self.settle(event, &ruling)
+        self.answer_by(Some(plan), event)
     }
 
     /// Gives an open call another bandwidth. Ok and Err are as of `answer`.
@@ -199,8 +193,8 @@ impl Core {
             (Events.Reloading (arc_value tables.now).commands) reply self.new) }
     {
         let _ = tables;
-        let ruling = self.machine.reload();
-        if let Some(refusal) = self.machine.reload_refusal(&ruling.effect) {
+        let ruling = &self.machine.reload();
+        if let Some(refusal) = self.machine.reload_refusal(ruling) {
             return Err(refusal);
         }
         if self.reserved {
@@ -228,21 +222,18 @@ impl Core {
         ensures reserved { self.old.reserved ≡ true → IsSome (put_in_force (Events.plain event))
             → OnErr result ((step (state_of self.old) (Events.plain event)).recorded ≡ false) }
     {
-        let ruling = self.ruling(&event);
-        self.settle(event, &ruling)
+        self.answer_by(None, event)
     }
 
-    #[tactic(auto, using(crate::proofs::CoreLemmas::ruled_by))]
     /// Answers an event as `answer` does, for a caller that keeps no receipt.
     #[inline(never)]
     pub fn reply(&mut self, event: Event) -> Reply
-        ensures { MayReply self.old (Events.plain event) result self.new }
+        ensures reply { MayReply self.old (Events.plain event) result self.new }
+        ensures reserved { self.old.reserved ≡ true → IsSome (put_in_force (Events.plain event))
+            → (step (state_of self.old) (Events.plain event)).recorded ≡ true
+            → self.new ≡ with_entry self.old (Events.plain event) }
     {
-        let ruling = &self.machine().ruling(self.tables(), &event);
-        match &self.enter(event, ruling) {
-            Ok(_) => ruling.verdict,
-            Err(reply) => *reply,
-        }
+        self.reply_by(None, event)
     }
 
     /// What the tables in force say of the digits.
@@ -268,79 +259,6 @@ impl Core {
             routed.plan
         } else {
             self.tables().plan(&routed.dialled)
-        }
-    }
-
-    #[tactic(auto, using(crate::proofs::CoreLemmas::ruled_by))]
-    /// The ruling on an event in the current state.
-    fn ruling(&self, event: &Event) -> Ruling
-        ensures { result ≡ ruling_of (state_of self.now) (Events.plain event.now) }
-    {
-        self.machine().ruling(self.tables(), event)
-    }
-
-    #[tactic(auto, using(crate::proofs::CoreLemmas::ruled_by))]
-    /// The ruling on an admission in the current state, by a plan of the tables in force.
-    fn admission(&self, plan: &Plan, id: &Name, call: u32, digits: &Dialled, units: Units) -> Ruling
-        requires { target_of (state_of self.now).commands plan.now
-            ≡ Some (plan_of (state_of self.now).commands digits.now) }
-        ensures { result ≡ ruling_of (state_of self.now)
-            (Events.Admitting id.now call digits.now units) }
-    {
-        self.machine()
-            .admission(self.tables(), plan, id, call, digits, units)
-    }
-
-    /// Records the event and carries out the ruling on it, as `enter` does, and makes the receipt.
-    fn settle(&mut self, event: Event, ruling: &Ruling) -> Result<(Reply, Receipt), Reply>
-        requires { ruling.now ≡ ruling_of (state_of self.old) (Events.plain event) }
-        ensures step { Steps self.old (Events.plain event) result self.new }
-        ensures reserved { self.old.reserved ≡ true → IsSome (put_in_force (Events.plain event))
-            → OnErr result ((step (state_of self.old) (Events.plain event)).recorded ≡ false) }
-    {
-        let unnumbered = ruling.receipt(0, &event);
-        match self.enter(event, ruling) {
-            Ok(number) => Ok((
-                ruling.verdict,
-                Receipt {
-                    number,
-                    ..unnumbered
-                },
-            )),
-            Err(reply) => Err(reply),
-        }
-    }
-
-    /// Refuses by a count, or records the event and carries out the ruling on it; a refused release
-    /// is not recorded. The answer is the number of the entry.
-    fn enter(&mut self, event: Event, ruling: &Ruling) -> Result<u32, Reply>
-        requires { ruling.now ≡ ruling_of (state_of self.old) (Events.plain event) }
-        ensures step { Enters self.old (Events.plain event) ruling.now result self.new }
-        ensures reserved { self.old.reserved ≡ true → IsSome (put_in_force (Events.plain event))
-            → OnErr result ((step (state_of self.old) (Events.plain event)).recorded ≡ false) }
-    {
-        if self.machine.is_refused_by_count(&event, ruling) {
-            let refusal = self.machine.count_refusal(&event, ruling);
-            return Err(refusal.unwrap());
-        }
-        if !ruling.verdict.is_recorded() {
-            return Err(ruling.verdict);
-        }
-        event.is_of_an_accepted_configuration();
-        let reserved = places_reserved(self.reserved);
-        match prepare(
-            &mut self.history,
-            &mut self.machine,
-            &event,
-            ruling,
-            reserved,
-        ) {
-            Ok(number) => {
-                self.reserved = false;
-                self.history.push(event, ruling);
-                Ok(number)
-            }
-            Err(_) => Err(event.no_memory_reply().unwrap()),
         }
     }
 
@@ -403,16 +321,9 @@ impl Core {
     }
 
     /// The machine: with the commands in force it is the current state, the replay of the record.
-    fn machine(&self) -> &Machine
+    pub(crate) fn machine(&self) -> &Machine
         ensures { IsUnder result.now (state_of self.now) }
     {
         &self.machine
     }
-}
-
-/// The places of the record that are kept for a reload.
-fn places_reserved(reserved: bool) -> usize
-    ensures { result ≡ places_reserved reserved }
-{
-    if reserved { 1 } else { 0 }
 }

@@ -1,11 +1,15 @@
 //! The core of a gatekeeper: events in, replies and receipts out, each recorded.
 #![tactic(auto)]
 
+mod answering;
 mod calling;
 pub mod cores;
 mod counts;
+mod entries;
 pub mod events;
 pub mod laws;
+mod lent_routes;
+mod lent_rulings;
 pub mod limits;
 mod machine;
 mod packing;
@@ -17,10 +21,12 @@ pub mod routes;
 pub mod routing;
 mod rulings;
 mod settling;
+mod slot_entries;
 mod slot_kinds;
 mod slot_list;
 mod slot_places;
 mod slots;
+mod told;
 mod verdicts;
 
 pub use cores::{Core, OpeningFault};

@@ -5,148 +5,29 @@ ghost use Rattle.std.specs.List.{All, cons_option};
 ghost use Rattle.std.specs.Option.{option_and_then};
 ghost use Rattle.admission.specs.Events.{plain, put_in_force, Reloading};
 ghost use Rattle.admission.specs.Reloads.{plain_last};
-ghost use Rattle.admission.specs.Slots.{entry_meant, other_entry, registration_meant};
+ghost use Rattle.admission.specs.Slots.{entry_meant, registration_meant};
+ghost use Rattle.admission.specs.Told.{told_meant};
 ghost use Rattle.admission.specs.RecordIndex.{slot_meant, plain_whole, IsRoomier};
 ghost use Rattle.pieces.specs.declared.list.TheConstants.{PIECE_ITEMS};
 ghost use Rattle.std.specs.Arc.{arc_value};
-ghost use Rattle.admission.specs.History.{plain_entry, entry_by, entry_of_number, receipt_of, Stands, in_force};
+ghost use Rattle.admission.specs.History.{plain_entry, entry_of_number, Stands, in_force};
 
-use crate::events::{Event, EventKind};
+pub use crate::entries::{Entry, EntryEvent, Receipt};
+
+use crate::entries::{WholeEntry, same_receipt};
+use crate::events::Event;
 use crate::reloads::{LastReload, Reloads};
 use crate::replies::Reply;
 use crate::routes::Route;
-use crate::rulings::Ruling;
 use crate::slot_list::SlotList;
 use crate::slots::{ShortReply, Slot};
-use command_reader::Commands;
+use crate::told::Told;
 use compiler::Tables;
 use gk_terms::Name;
 use pieces::Pieces;
 use std::alloc::{AllocError, Global};
-use std::borrow::Cow;
 use std::marker::Model;
 use std::sync::Arc;
-
-/// What was asked, as the record keeps it.
-#[derive(Drop)]
-pub enum EntryEvent<'a> {
-    /// An event other than a reload.
-    Asked(Cow<'a, Event>),
-    /// A reload of these commands. Their tables are let go as others are put in force, and a replay
-    /// compiles them again.
-    Reload(&'a Commands),
-}
-
-/// One recorded event with its reply.
-#[derive(Drop)]
-pub struct Entry<'a> {
-    /// What was asked.
-    pub event: EntryEvent<'a>,
-    /// What was replied.
-    pub reply: Reply,
-    /// Of an admission: the zone of the caller, if it was registered.
-    pub zone: Option<Name>,
-    /// Of an admission: where the digits lead, if that was looked for.
-    pub route: Option<Route>,
-}
-
-impl Entry<'_> {
-    /// The receipt of this entry, if it has this number.
-    pub fn receipt(&self, number: u32) -> Receipt
-        ensures { result ≡ receipt_of number (plain_entry self.now) }
-    {
-        match &self.event {
-            EntryEvent::Asked(event) => Receipt::of(number, event, self.reply),
-            EntryEvent::Reload(_) => Receipt {
-                number,
-                kind: EventKind::Reload,
-                id: None,
-                call: None,
-                reply: self.reply,
-            },
-        }
-    }
-}
-
-/// An entry as the record keeps it whole.
-#[derive(Drop)]
-pub(crate) struct WholeEntry {
-    event: Event,
-    reply: Reply,
-    zone: Option<Name>,
-    route: Option<Route>,
-}
-
-impl WholeEntry {
-    /// The entry, with the event lent.
-    pub(crate) fn lent(&self) -> Entry<'_>
-        ensures { plain_entry result ≡ plain_whole self.now }
-    {
-        let WholeEntry {
-            event,
-            reply,
-            zone,
-            route,
-        } = self;
-        Entry {
-            event: EntryEvent::Asked(Cow::Borrowed(event)),
-            reply: *reply,
-            zone: *zone,
-            route: *route,
-        }
-    }
-}
-
-/// What whoever asked may keep of an entry, to find it in the record again.
-#[derive(Clone, Copy, Debug, PartialEq, Eq)]
-pub struct Receipt {
-    /// The number of the entry, from 1.
-    pub number: u32,
-    /// What kind of event it was.
-    pub kind: EventKind,
-    /// The ID of the endpoint that asked; nothing for a reload.
-    pub id: Option<Name>,
-    /// The number of the call that it was about, if it was about one.
-    pub call: Option<u32>,
-    /// What was replied.
-    pub reply: Reply,
-}
-
-impl Ruling {
-    /// The entry of the event on which this was ruled.
-    pub(crate) fn entry(&self, event: Event) -> WholeEntry
-        ensures { plain_whole result ≡ entry_by (plain event) self.now }
-    {
-        WholeEntry {
-            event,
-            reply: self.verdict,
-            zone: self.zone,
-            route: self.route,
-        }
-    }
-
-    /// The receipt of that entry, if it has this number.
-    pub(crate) fn receipt(&self, number: u32, event: &Event) -> Receipt
-        ensures { result ≡ receipt_of number (entry_by (plain event.now) self.now) }
-    {
-        Receipt::of(number, event, self.verdict)
-    }
-}
-
-impl Receipt {
-    /// The receipt of an event with its reply, if its entry has this number.
-    fn of(number: u32, event: &Event, reply: Reply) -> Receipt
-        ensures { result ≡ receipt_of number (other_entry (plain event.now) reply) }
-    {
-        Receipt {
-            number,
-            kind: event.kind(),
-            id: event.id(),
-            call: event.call(),
-            reply,
-        }
-    }
-}
 
 /// The recorded events in order, and the tables that they put in force. A contract sees the events
 /// by their values alone, after the commands that were in force before them, and how many further
@@ -325,58 +206,64 @@ impl Record {
         self.kept -= places;
     }
 
-    /// Puts what was ruled on an event at the end, in a place that was kept.
-    pub(crate) fn push(&mut self, event: Event, ruling: &Ruling)
+    /// Puts the entry of an event with its reply at the end that has no slot in few bytes, in a place
+    /// that was kept.
+    #[inline(never)]
+    pub(crate) fn push(&mut self, event: Event, reply: &Reply, told: &Told)
         requires kept { 1 ≤ self.old.kept }
         requires few { length self.old.entries < 2 ^ 32 }
+        requires meant { IsSome (told_meant told.now (plain event) reply.now) }
         ensures { self.new ≡ record self.old {
-          entries = self.old.entries ++ entry_by (plain event) ruling.now ∷ [];
+          entries = self.old.entries
+              ++ cons_option (told_meant told.now (plain event) reply.now) [];
           kept = self.old.kept - 1;
         } }
     {
-        match &Slot::of(&event, ruling) {
-            Some(slot) => self.push_slot(slot),
-            None => self.push_event(event, ruling),
+        match &told.replied {
+            Some(replied) => self.push_registration(event, *replied),
+            None => self.push_event(event, reply, &told.zone, &told.route),
         }
     }
 
-    /// Puts an entry that does not fit into a slot at the end: a reload, a registration, or whole.
-    #[inline(never)]
-    fn push_event(&mut self, event: Event, ruling: &Ruling)
+    /// Puts an entry at the end that stands apart from its slot: of a reload among the reloads, and
+    /// any other whole.
+    fn push_event(
+        &mut self,
+        event: Event,
+        reply: &Reply,
+        zone: &Option<Name>,
+        route: &Option<Route>,
+    )
         requires kept { 1 ≤ self.old.kept }
         requires few { length self.old.entries < 2 ^ 32 }
         ensures { self.new ≡ record self.old {
-          entries = self.old.entries ++ entry_by (plain event) ruling.now ∷ [];
+          entries = self.old.entries ++ record {
+            event = plain event;
+            reply = reply.now;
+            zone = zone.now;
+            route = route.now;
+          } ∷ [];
           kept = self.old.kept - 1;
         } }
     {
         match tables_asked_for(event) {
-            Ok(tables) => self.push_reload(LastReload::new(tables, ruling)),
-            Err(event) => self.push_other(event, ruling),
+            Ok(tables) => self.push_reload(LastReload {
+                tables,
+                reply: *reply,
+                zone: *zone,
+                route: *route,
+            }),
+            Err(event) => self.push_whole(WholeEntry {
+                event,
+                reply: *reply,
+                zone: *zone,
+                route: *route,
+            }),
         }
     }
 
-    /// Puts an entry at the end that is not of a reload: a registration, or whole.
-    fn push_other(&mut self, event: Event, ruling: &Ruling)
-        requires kept { 1 ≤ self.old.kept }
-        requires few { length self.old.entries < 2 ^ 32 }
-        requires other { put_in_force (plain event) ≡ None }
-        ensures { self.new ≡ record self.old {
-          entries = self.old.entries ++ entry_by (plain event) ruling.now ∷ [];
-          kept = self.old.kept - 1;
-        } }
-    {
-        match ShortReply::of(&event, ruling) {
-            Some(replied) => self.push_registration(event, replied),
-            None => {
-                let entry = ruling.entry(event);
-                self.push_whole(entry);
-            }
-        }
-    }
-
-    /// Puts an entry at the end in few bytes.
-    fn push_slot(&mut self, slot: &Slot)
+    /// Puts an entry at the end in few bytes, in a place that was kept.
+    pub(crate) fn push_slot(&mut self, slot: &Slot)
         requires kept { 1 ≤ self.old.kept }
         requires few { length self.old.entries < 2 ^ 32 }
         requires meant { IsSome (entry_meant [] [] [] slot.now) }
@@ -507,29 +394,4 @@ fn entry_at<'a>(
         None => None,
         Some(slot) => slot.entry(aside, registrations, reloads),
     }
-}
-
-/// Whether two receipts are the same.
-fn same_receipt(a: &Receipt, b: &Receipt) -> bool
-    ensures { (result ≡ true) ↔ (a.now ≡ b.now) }
-{
-    a.number == b.number
-        && a.kind == b.kind
-        && same_id(&a.id, &b.id)
-        && a.call == b.call
-        && same_reply(&a.reply, &b.reply)
-}
-
-/// Whether two IDs are the same, or both are absent.
-fn same_id(a: &Option<Name>, b: &Option<Name>) -> bool
-    ensures { (result ≡ true) ↔ (a.now ≡ b.now) }
-{
-    *a == *b
-}
-
-/// Whether two replies are the same.
-fn same_reply(a: &Reply, b: &Reply) -> bool
-    ensures { (result ≡ true) ↔ (a.now ≡ b.now) }
-{
-    *a == *b
 }

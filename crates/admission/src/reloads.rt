@@ -6,10 +6,9 @@ ghost use Rattle.pieces.specs.declared.list.TheConstants.{PIECE_ITEMS};
 ghost use Rattle.admission.specs.History.{plain_entry};
 ghost use Rattle.admission.specs.Reloads.{commands_past, commands_last, plain_past, plain_last};
 
-use crate::record::{Entry, EntryEvent};
+use crate::entries::{Entry, EntryEvent};
 use crate::replies::Reply;
 use crate::routes::Route;
-use crate::rulings::Ruling;
 use command_reader::Commands;
 use compiler::Tables;
 use gk_terms::Name;
@@ -39,10 +38,10 @@ pub(crate) struct PastReload {
 /// The entry of the last reload, whose tables are in force.
 #[derive(Drop)]
 pub(crate) struct LastReload {
-    tables: Arc<Tables>,
-    reply: Reply,
-    zone: Option<Name>,
-    route: Option<Route>,
+    pub(crate) tables: Arc<Tables>,
+    pub(crate) reply: Reply,
+    pub(crate) zone: Option<Name>,
+    pub(crate) route: Option<Route>,
 }
 
 /// The entries of reloads in order. A contract sees their values, the commands that the last one put
@@ -107,23 +106,6 @@ impl PastReload {
 }
 
 impl LastReload {
-    /// The entry of a reload of these tables on which this was ruled.
-    pub(crate) fn new(tables: Arc<Tables>, ruling: &Ruling) -> LastReload
-        ensures { result ≡ record {
-          tables = tables;
-          reply = ruling.now.verdict;
-          zone = ruling.now.zone;
-          route = ruling.now.route;
-        } }
-    {
-        LastReload {
-            tables,
-            reply: ruling.verdict,
-            zone: ruling.zone,
-            route: ruling.route,
-        }
-    }
-
     /// The entry, with its commands lent.
     fn lent(&self) -> Entry<'_>
         ensures { plain_entry result ≡ plain_last self.now }

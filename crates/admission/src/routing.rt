@@ -7,12 +7,14 @@ ghost use Rattle.compiler.specs.Plan as Plans;
 ghost use Rattle.compiler.specs.Zones.{zone_at};
 ghost use Rattle.compiler.specs.Technology.{default_technology_of};
 ghost use Rattle.registry.specs.Registration.{by_alias};
+ghost use Rattle.admission.specs.Lent.{route_meant};
 ghost use Rattle.admission.specs.Routing as Spec;
 
-use crate::routes::{Destination, Route, RouteRefusal};
+use crate::lent_routes::{DestinationKind, LentRoute};
+use crate::routes::{Route, RouteRefusal};
 use compiler::{Plan, RowNo, Tables, ZoneNo};
-use gk_terms::{Address, Dialled, Name, TechPrefix};
-use registry::{Endpoint, EndpointKind, Registry};
+use gk_terms::{Dialled, Name, TechPrefix};
+use registry::{Endpoint, Registry};
 
 /// Where the digits lead a caller of this zone, by the configuration and the registered endpoints.
 ///
@@ -26,21 +28,21 @@ pub fn route(tables: &Tables, registry: &Registry, caller: &Name, digits: &Diall
     ensures { result ≡ Spec.route_of
         tables.now.commands registry.now.endpoints caller.now digits.now }
 {
-    route_of_plan(tables, registry, &tables.plan(digits), caller, digits)
+    route_of_plan(tables, registry, &tables.plan(digits), caller, digits).route()
 }
 
 #[tactic(auto, unfolding(crate::specs::Routing::route_of))]
 /// The same by a plan that was made of the digits.
-pub(crate) fn route_of_plan(
-    tables: &Tables,
-    registry: &Registry,
+pub(crate) fn route_of_plan<'a>(
+    tables: &'a Tables,
+    registry: &'a Registry,
     plan: &Plan,
     caller: &Name,
     digits: &Dialled,
-) -> Route
+) -> LentRoute<'a>
     requires planned { Plans.target_of tables.now.commands plan.now
         ≡ Some (Plans.plan_of tables.now.commands digits.now) }
-    ensures { result ≡ Spec.route_of
+    ensures { route_meant result ≡ Spec.route_of
         tables.now.commands registry.now.endpoints caller.now digits.now }
 {
     match plan {
@@ -62,7 +64,7 @@ pub(crate) fn route_of_plan(
         Plan::Caller { technology } => {
             in_local_zone(tables, registry, caller, None, digits, technology)
         }
-        Plan::UnknownPrefix => Route::Refused(RouteRefusal::UnknownPrefix),
+        Plan::UnknownPrefix => LentRoute::Refused(RouteRefusal::UnknownPrefix),
     }
 }
 
@@ -87,73 +89,66 @@ pub(crate) fn is_remote(plan: &Plan) -> bool
 }
 
 /// To the gatekeeper of a remote zone.
-fn to_remote(tables: &Tables, zone: ZoneNo) -> Route
+fn to_remote(tables: &Tables, zone: ZoneNo) -> LentRoute<'_>
     requires { IsSome (option_and_then Plans.remote_target (zone_at tables.now.commands zone)) }
     ensures { IfSome (option_and_then Plans.remote_target (zone_at tables.now.commands zone))
-        (λ target. Spec.remote_route target ≡ Some result) }
+        (λ target. Spec.remote_route target ≡ Some (route_meant result)) }
 {
-    let view = tables.zone(zone);
-    match view.address {
-        Some(address) => Route::To(Destination::Zone {
-            name: view.name,
+    match tables.zone(zone).address {
+        Some(address) => LentRoute::To {
+            kind: DestinationKind::Zone,
+            name: tables.zone_name(zone),
             address,
-        }),
+        },
         None => unreachable!(),
     }
 }
 
 /// Where the digits lead in a local zone, by the technology prefix with which they begin.
-fn in_local_zone(
+fn in_local_zone<'a>(
     tables: &Tables,
-    registry: &Registry,
+    registry: &'a Registry,
     zone: &Name,
     row: Option<RowNo>,
     digits: &Dialled,
     technology: &Option<TechPrefix>,
-) -> Route
-    ensures { IfSome (Plans.row_meant tables.now.commands row) (λ used. result
+) -> LentRoute<'a>
+    ensures { IfSome (Plans.row_meant tables.now.commands row) (λ used. route_meant result
         ≡ Spec.in_local_zone tables.now.commands registry.now.endpoints zone.now used digits.now
         technology.now) }
 {
     match technology {
         Some(prefix) => to_gateway(registry.gateway(tables, zone, prefix, row)),
         None => match registry.by_alias(zone, digits) {
-            Some(endpoint) => Route::To(destination_of(endpoint)),
+            Some(endpoint) => LentRoute::to_endpoint(endpoint),
             None => by_default(tables, registry, zone, row),
         },
     }
 }
 
 /// To a gateway of the zone for the default technology, if one is set.
-fn by_default(tables: &Tables, registry: &Registry, zone: &Name, row: Option<RowNo>) -> Route
-    ensures { IfSome (Plans.row_meant tables.now.commands row) (λ used. result
+fn by_default<'a>(
+    tables: &Tables,
+    registry: &'a Registry,
+    zone: &Name,
+    row: Option<RowNo>,
+) -> LentRoute<'a>
+    ensures { IfSome (Plans.row_meant tables.now.commands row) (λ used. route_meant result
         ≡ Spec.by_default tables.now.commands registry.now.endpoints zone.now used
         (default_technology_of tables.now.commands)) }
 {
     match tables.default_technology() {
         Some(prefix) => to_gateway(registry.gateway(tables, zone, &prefix, row)),
-        None => Route::Refused(RouteRefusal::NoDefault),
+        None => LentRoute::Refused(RouteRefusal::NoDefault),
     }
 }
 
 /// To the gateway that was chosen, if there is one.
-fn to_gateway(chosen: Option<&Endpoint>) -> Route
-    ensures { result ≡ Spec.to_gateway (option_copied chosen.entry) }
+fn to_gateway(chosen: Option<&Endpoint>) -> LentRoute<'_>
+    ensures { route_meant result ≡ Spec.to_gateway (option_copied chosen.entry) }
 {
     match chosen {
-        Some(gateway) => Route::To(destination_of(gateway)),
-        None => Route::Refused(RouteRefusal::NoGateway),
-    }
-}
-
-/// An endpoint as a destination, by its registered kind.
-fn destination_of(endpoint: &Endpoint) -> Destination
-    ensures { result ≡ Spec.destination_of endpoint.now.kind endpoint.now }
-{
-    let id = *endpoint.id();
-    let address = endpoint.address();
-    match endpoint.kind() {
-        EndpointKind::Gateway => Destination::Gateway { id, address },
-        EndpointKind::Terminal => Destination::Terminal { id, address },
+        Some(gateway) => LentRoute::to_endpoint(gateway),
+        None => LentRoute::Refused(RouteRefusal::NoGateway),
     }
 }

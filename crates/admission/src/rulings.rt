@@ -1,21 +1,22 @@
 //! Rulings: what is decided of an event, and what the decision changes.
 
-ghost use Rattle.std.specs.Prelude.{◌≡◌, false, Some, None, IfSome, IsSome, MatchResult};
-ghost use Rattle.bandwidth.specs.Calls.{call_of, is_open};
+ghost use Rattle.std.specs.Prelude.{◌≡◌, Some, None, IfSome, MatchResult};
+ghost use Rattle.std.specs.Option.{option_copied};
+ghost use Rattle.bandwidth.specs.Calls.{call_of};
 ghost use Rattle.bandwidth.specs.Fits.{over_of};
 ghost use Rattle.compiler.specs.Plan as Plans;
 ghost use Rattle.compiler.specs.Zones.{zone_meant};
 ghost use Rattle.admission.specs.Events as Events;
+ghost use Rattle.admission.specs.Lent.{IsPlanOf, ruling_meant};
 ghost use Rattle.admission.specs.Ruling as Spec;
 ghost use Rattle.admission.specs.State.{bare, under};
 
 use crate::events::Event;
+use crate::lent_routes::LentRoute;
+use crate::lent_rulings::LentRuling;
 use crate::machine::Machine;
 use crate::registering::refusal_of;
-use crate::replies::{
-    AdmitRefusal, ChangeRefusal, RegisterRefusal, ReleaseRefusal, Reply, UnregisterRefusal,
-};
-use crate::routes::{Destination, Route};
+use crate::replies::{ChangeRefusal, RegisterRefusal, ReleaseRefusal, UnregisterRefusal};
 use crate::routing::{is_remote, route_of_plan, target_zone};
 use bandwidth::OpenCall;
 use compiler::{Plan, Tables};
@@ -42,56 +43,20 @@ pub enum Effect {
     PutInForce,
 }
 
-/// What is ruled of an event, apart from counts and memory.
-#[derive(Clone, Copy)]
-pub struct Ruling {
-    /// The verdict.
-    pub verdict: Reply,
-    /// Of an admission: the zone of the caller, if it is registered.
-    pub zone: Option<Name>,
-    /// Of an admission: where the digits lead, if that was looked for.
-    pub route: Option<Route>,
-    /// What it changes.
-    pub effect: Effect,
-}
-
-impl Ruling {
-    /// A ruling on an event that is not routed.
-    fn unrouted(verdict: Reply, effect: Effect) -> Ruling
-        ensures { result ≡ Spec.unrouted verdict effect }
-    {
-        Ruling {
-            verdict,
-            zone: None,
-            route: None,
-            effect,
-        }
-    }
-
-    /// A refused admission of a registered caller.
-    fn refused(zone: &Name, route: Option<Route>, call: u32, reason: AdmitRefusal) -> Ruling
-        ensures { result ≡ record {
-          verdict = Reply.AdmitRefused call reason;
-          zone = Some zone.now;
-          route = route;
-          effect = Effect.Nothing;
-        } }
-    {
-        Ruling {
-            verdict: Reply::AdmitRefused { call, reason },
-            zone: Some(*zone),
-            route,
-            effect: Effect::Nothing,
-        }
-    }
-}
-
 impl Machine {
     #[tactic(auto, unfolding(crate::specs::Ruling::ruling_of))]
-    /// The ruling on an event, with these tables in force. An admission is planned by them.
+    /// The ruling on an event, with these tables in force. An admission is planned by them, unless
+    /// their plan for its digits is given.
     #[inline(never)]
-    pub fn ruling(&self, tables: &Tables, event: &Event) -> Ruling
-        ensures { result ≡ Spec.ruling_of (under tables.now.commands self.now)
+    pub fn ruling<'a>(
+        &'a self,
+        tables: &'a Tables,
+        planned: Option<&Plan>,
+        event: &'a Event,
+    ) -> LentRuling<'a>
+        requires planned { IfSome (option_copied planned)
+            (IsPlanOf tables.now.commands (Events.plain event.now)) }
+        ensures { ruling_meant result ≡ Spec.ruling_of (under tables.now.commands self.now)
             (Events.plain event.now) }
     {
         match event {
@@ -102,10 +67,13 @@ impl Machine {
                 call,
                 digits,
                 units,
-            } => {
-                let plan = tables.plan(digits);
-                self.admission(tables, &plan, id, *call, digits, *units)
-            }
+            } => match planned {
+                Some(plan) => self.admission(tables, plan, id, *call, digits, *units),
+                None => {
+                    let plan = &tables.plan(digits);
+                    self.admission(tables, plan, id, *call, digits, *units)
+                }
+            },
             Event::Change { id, call, units } => {
                 self.bandwidth_change(tables, id, *call, *units)
             }
@@ -119,16 +87,14 @@ impl Machine {
     #[tactic(auto, unfolding(crate::specs::Ruling::ruling_of))]
     /// The ruling on a registration. The refusals are tried in this order: the zone is not a local
     /// zone; the ID is registered from another address; an alias is another endpoint's.
-    pub fn registration(&self, tables: &Tables, endpoint: &Endpoint) -> Ruling
-        ensures { result ≡ Spec.ruling_of (under tables.now.commands self.now)
+    pub fn registration<'a>(&self, tables: &Tables, endpoint: &'a Endpoint) -> LentRuling<'a>
+        ensures { ruling_meant result ≡ Spec.ruling_of (under tables.now.commands self.now)
             (Events.Registering endpoint.now) }
     {
-        let id = *endpoint.id();
+        let id = endpoint.id();
         match self.placement(tables, endpoint) {
-            Ok(zone) => Ruling::unrouted(Reply::Registered { id, zone }, Effect::Put { zone }),
-            Err(reason) => {
-                Ruling::unrouted(Reply::RegisterRefused { id, reason }, Effect::Nothing)
-            }
+            Ok(zone) => LentRuling::Registered { id, zone },
+            Err(reason) => LentRuling::RegisterRefused { id, reason },
         }
     }
 
@@ -154,18 +120,17 @@ impl Machine {
 
     /// The ruling on an unregistration. The refusals are tried in this order: the ID is not
     /// registered; it owns an open call.
-    pub fn unregistration(&self, id: &Name) -> Ruling
-        ensures { result ≡ Spec.unregistration_ruling (bare self.now) id.now }
+    pub fn unregistration<'a>(&self, id: &'a Name) -> LentRuling<'a>
+        ensures { ruling_meant result ≡ Spec.unregistration_ruling (bare self.now) id.now }
     {
-        let id = *id;
-        if !self.registry().is_registered(&id) {
+        if !self.registry().is_registered(id) {
             let reason = UnregisterRefusal::NotRegistered;
-            Ruling::unrouted(Reply::UnregisterRefused { id, reason }, Effect::Nothing)
-        } else if self.calls().owns(&id) {
+            LentRuling::UnregisterRefused { id, reason }
+        } else if self.calls().owns(id) {
             let reason = UnregisterRefusal::CallInProgress;
-            Ruling::unrouted(Reply::UnregisterRefused { id, reason }, Effect::Nothing)
+            LentRuling::UnregisterRefused { id, reason }
         } else {
-            Ruling::unrouted(Reply::Unregistered { id }, Effect::Remove { id })
+            LentRuling::Unregistered { id }
         }
     }
 
@@ -175,67 +140,71 @@ impl Machine {
     /// The ruling on an admission; the plan is what the commands in force say of the digits. The
     /// refusals are tried in this order: the caller is not registered; a call of the number is
     /// open; the digits lead nowhere; a sum of the call would be above its limit.
-    pub fn admission(
-        &self,
-        tables: &Tables,
+    pub fn admission<'a>(
+        &'a self,
+        tables: &'a Tables,
         plan: &Plan,
         id: &Name,
         call: u32,
         digits: &Dialled,
         units: Units,
-    ) -> Ruling
+    ) -> LentRuling<'a>
         requires planned { Plans.target_of tables.now.commands plan.now
             ≡ Some (Plans.plan_of tables.now.commands digits.now) }
-        ensures { result ≡ Spec.ruling_of (under tables.now.commands self.now)
+        ensures { ruling_meant result ≡ Spec.ruling_of (under tables.now.commands self.now)
             (Events.Admitting id.now call digits.now units) }
     {
         let Some(caller) = self.registry().endpoint(id) else {
-            let reason = AdmitRefusal::CallerNotRegistered;
-            return Ruling::unrouted(Reply::AdmitRefused { call, reason }, Effect::Nothing);
+            return LentRuling::CallerNotRegistered { call };
         };
-        let zone = caller.zone();
+        let source = caller.zone();
         if self.calls().is_open(call) {
-            return Ruling::refused(zone, None, call, AdmitRefusal::CallOpen);
+            return LentRuling::CallOpen { call, source };
         }
-        match &route_of_plan(tables, self.registry(), plan, zone, digits) {
-            Route::Refused(refusal) => {
-                let route = Some(Route::Refused(*refusal));
-                Ruling::refused(zone, route, call, AdmitRefusal::NoRoute(*refusal))
-            }
-            Route::To(destination) => {
-                let admitted = &admitted_call(tables, caller, call, units, plan);
-                self.admission_to(tables, zone, destination, admitted)
-            }
-        }
-    }
-
-    /// The ruling on an admission to a destination, by the limits.
-    fn admission_to(
-        &self,
-        tables: &Tables,
-        zone: &Name,
-        destination: &Destination,
-        call: &OpenCall,
-    ) -> Ruling
-        requires { is_open self.now.calls call.now.number ≡ false }
-        ensures { result ≡ Spec.admission_unless zone.now destination.now call.now
-            (over_of tables.now.commands self.now.calls call.now) }
-    {
-        match &self.calls().fits_new(tables, call) {
-            Err(over) => {
-                let route = Some(Route::To(*destination));
-                Ruling::refused(zone, route, call.number, AdmitRefusal::OverLimit(*over))
-            }
-            Ok(()) => Ruling {
-                verdict: Reply::Admitted {
-                    call: call.number,
-                    destination: *destination,
-                    units: call.units,
-                },
-                zone: Some(*zone),
-                route: Some(Route::To(*destination)),
-                effect: Effect::Open(*call),
+        match route_of_plan(tables, self.registry(), plan, source, digits) {
+            LentRoute::Refused(refusal) => LentRuling::NoRoute {
+                call,
+                source,
+                refusal,
             },
+            LentRoute::To {
+                kind,
+                name,
+                address,
+            } => {
+                let owner = caller.id();
+                let target = target_zone(tables, plan, source);
+                let remote = is_remote(plan);
+                let admitted = &OpenCall {
+                    number: call,
+                    owner: *owner,
+                    source: *source,
+                    target: *target,
+                    remote,
+                    units,
+                };
+                match &self.calls().fits_new(tables, admitted) {
+                    Err(over) => LentRuling::OverLimit {
+                        call,
+                        source,
+                        kind,
+                        name,
+                        address,
+                        over: *over,
+                    },
+                    Ok(()) => LentRuling::Admitted {
+                        call,
+                        owner,
+                        source,
+                        target,
+                        remote,
+                        units,
+                        kind,
+                        name,
+                        address,
+                    },
+                }
+            }
         }
     }
 
@@ -244,33 +213,47 @@ impl Machine {
     #[tactic(auto, unfolding(crate::specs::Ruling::ruling_of))]
     /// The ruling on a bandwidth change. The refusals are tried in this order: no call of the
     /// number is open; it belongs to another endpoint; a sum of the call would be above its limit.
-    pub fn bandwidth_change(&self, tables: &Tables, id: &Name, call: u32, units: Units) -> Ruling
-        ensures { result ≡ Spec.ruling_of (under tables.now.commands self.now)
+    pub fn bandwidth_change<'a>(
+        &self,
+        tables: &Tables,
+        id: &'a Name,
+        call: u32,
+        units: Units,
+    ) -> LentRuling<'a>
+        ensures { ruling_meant result ≡ Spec.ruling_of (under tables.now.commands self.now)
             (Events.Changing id.now call units) }
     {
         match self.calls().get(call) {
-            None => change_refused(call, ChangeRefusal::NoCall),
-            Some(held) if held.owner != *id => change_refused(call, ChangeRefusal::NotYours),
+            None => {
+                let reason = ChangeRefusal::NoCall;
+                LentRuling::ChangeRefused { call, reason }
+            }
+            Some(held) if held.owner != *id => {
+                let reason = ChangeRefusal::NotYours;
+                LentRuling::ChangeRefused { call, reason }
+            }
             Some(held) => self.change_to(tables, id, call, &OpenCall { units, ..*held }),
         }
     }
 
     /// The ruling on a change of a call that is open, to what it would be, by the limits.
-    fn change_to(&self, tables: &Tables, id: &Name, call: u32, changed: &OpenCall) -> Ruling
-        ensures { result ≡ Spec.change_unless id.now call changed.now.units
+    fn change_to<'a>(
+        &self,
+        tables: &Tables,
+        id: &'a Name,
+        call: u32,
+        changed: &OpenCall,
+    ) -> LentRuling<'a>
+        ensures { ruling_meant result ≡ Spec.change_unless id.now call changed.now.units
             (over_of tables.now.commands self.now.calls changed.now) }
     {
         let units = changed.units;
-        match &self.calls().fits(tables, changed) {
-            Err(over) => change_refused(call, ChangeRefusal::OverLimit(*over)),
-            Ok(()) => {
-                let effect = Effect::Resize {
-                    call,
-                    id: *id,
-                    units,
-                };
-                Ruling::unrouted(Reply::Changed { call, units }, effect)
+        match self.calls().fits(tables, changed) {
+            Err(over) => {
+                let reason = ChangeRefusal::OverLimit(over);
+                LentRuling::ChangeRefused { call, reason }
             }
+            Ok(()) => LentRuling::Changed { call, id, units },
         }
     }
 
@@ -279,8 +262,8 @@ impl Machine {
     /// The ruling on a release. It is granted to the owner of the call, registered or not. Else the
     /// refusals are tried in this order: the ID is not registered; the call belongs to another
     /// endpoint; no call of the number is open.
-    pub fn release(&self, id: &Name, call: u32) -> Ruling
-        ensures { result ≡ Spec.release_ruling (bare self.now) id.now call
+    pub fn release<'a>(&self, id: &'a Name, call: u32) -> LentRuling<'a>
+        ensures { ruling_meant result ≡ Spec.release_ruling (bare self.now) id.now call
             (call_of self.now.calls call) }
     {
         match self.calls().get(call) {
@@ -288,61 +271,30 @@ impl Machine {
             Some(held) if held.owner != *id => {
                 self.release_refused(id, call, ReleaseRefusal::NotYours)
             }
-            Some(_) => {
-                let id = *id;
-                Ruling::unrouted(Reply::Released { call }, Effect::Close { call, id })
-            }
+            Some(_) => LentRuling::Released { call, id },
         }
     }
 
     /// A refused release, for this reason if the ID is registered.
-    fn release_refused(&self, id: &Name, call: u32, reason: ReleaseRefusal) -> Ruling
-        ensures { result ≡ Spec.release_refused (bare self.now) id.now call reason }
+    fn release_refused<'a>(&self, id: &Name, call: u32, reason: ReleaseRefusal) -> LentRuling<'a>
+        ensures { ruling_meant result ≡ Spec.release_refused (bare self.now) id.now call reason }
     {
         let reason = if self.registry().is_registered(id) {
             reason
         } else {
             ReleaseRefusal::NotRegistered
         };
-        Ruling::unrouted(Reply::ReleaseRefused { call, reason }, Effect::Nothing)
+        LentRuling::ReleaseRefused { call, reason }
     }
 
     // ---- reloads
 
     /// The ruling on a reload: it is granted, and makes the next version.
-    pub fn reload(&self) -> Ruling
-        ensures { result ≡ Spec.reload_ruling (bare self.now) }
+    pub fn reload(&self) -> LentRuling<'static>
+        ensures { ruling_meant result ≡ Spec.reload_ruling (bare self.now) }
     {
-        let version = self.next_version();
-        Ruling::unrouted(Reply::Reloaded { version }, Effect::PutInForce)
+        LentRuling::Reloaded {
+            version: self.next_version(),
+        }
     }
-}
-
-/// The call that an admission of this caller would open.
-fn admitted_call(
-    tables: &Tables,
-    caller: &Endpoint,
-    number: u32,
-    units: Units,
-    plan: &Plan,
-) -> OpenCall
-    requires { IsSome (Plans.target_of tables.now.commands plan.now) }
-    ensures { IfSome (Plans.target_of tables.now.commands plan.now) (λ target. result
-        ≡ Spec.admitted_call caller.now number units target) }
-{
-    OpenCall {
-        number,
-        owner: *caller.id(),
-        source: *caller.zone(),
-        target: *target_zone(tables, plan, caller.zone()),
-        remote: is_remote(plan),
-        units,
-    }
-}
-
-/// A refused bandwidth change.
-fn change_refused(call: u32, reason: ChangeRefusal) -> Ruling
-    ensures { result ≡ Spec.unrouted (Reply.ChangeRefused call reason) Effect.Nothing }
-{
-    Ruling::unrouted(Reply::ChangeRefused { call, reason }, Effect::Nothing)
 }

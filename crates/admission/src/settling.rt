@@ -12,7 +12,7 @@ ghost use Rattle.admission.specs.Founded.{IsUnder, IsFallible, takes_memory};
 use crate::events::Event;
 use crate::machine::Machine;
 use crate::record::Record;
-use crate::rulings::Ruling;
+use crate::rulings::Effect;
 use std::alloc::AllocError;
 
 #[tactic(auto, unfolding(crate::specs::Step::state_after))]
@@ -24,38 +24,41 @@ pub(crate) fn prepare(
     history: &mut Record,
     machine: &mut Machine,
     event: &Event,
-    ruling: &Ruling,
+    effect: &Effect,
     reserved: usize,
 ) -> Result<u32, AllocError>
-    requires ruled { ruling.now ≡ ruling_of (under (in_force history.old) machine.old)
-        (plain event.now) }
+    requires ruled { effect.now ≡ (ruling_of (under (in_force history.old) machine.old)
+        (plain event.now)).effect }
     requires recordable { count_refusal (under (in_force history.old) machine.old)
-        (plain event.now) ruling.now ≡ None }
-    requires recorded { is_recorded ruling.now.verdict ≡ true }
+        (plain event.now) (ruling_of (under (in_force history.old) machine.old)
+        (plain event.now)) ≡ None }
+    requires recorded { is_recorded (ruling_of (under (in_force history.old) machine.old)
+        (plain event.now)).verdict ≡ true }
     requires kept { length machine.old.calls + reserved ≤ history.old.kept }
     requires one { reserved ≤ 1 }
     requires counted { machine.old.records ≡ length history.old.entries }
     requires within { IsWithinLimits (under (in_force history.old) machine.old) }
     ensures number { IfOk result (λ number. number ≡ machine.old.records + 1) }
     ensures state { OnOk result (IsUnder machine.new
-        (state_after (under (in_force history.old) machine.old) (plain event.now) ruling.now)) }
+        (state_after (under (in_force history.old) machine.old) (plain event.now)
+        (ruling_of (under (in_force history.old) machine.old) (plain event.now)))) }
     ensures entries { OnOk result (history.new.entries ≡ history.old.entries) }
     ensures opening { OnOk result (history.new.opening ≡ history.old.opening) }
     ensures few { OnOk result (length history.new.entries < 2 ^ 32) }
     ensures places { OnOk result (length machine.new.calls + 1 ≤ history.new.kept) }
     ensures kept { OnOk result (history.new.kept + reserved
-        ≡ history.old.kept + places_needed ruling.now.effect) }
+        ≡ history.old.kept + places_needed effect.now) }
     ensures err { OnErr result ((machine.new ≡ machine.old) × (history.new ≡ history.old)
         × IsFallible (plain event.now)) }
-    ensures unfailing { takes_memory ruling.now.effect ≡ false
-        → places_needed ruling.now.effect ≤ reserved → IsOk result }
+    ensures unfailing { takes_memory effect.now ≡ false
+        → places_needed effect.now ≤ reserved → IsOk result }
 {
     let number = machine.next_number();
-    let needed = ruling.effect.places_needed();
+    let needed = effect.places_needed();
     // The reserved place is the first of those that are needed; if none is, it is free again.
     let more = needed.saturating_sub(reserved);
     history.keep(more)?;
-    if let Err(error) = machine.apply(history.tables(), event, &ruling.effect) {
+    if let Err(error) = machine.apply(history.tables(), event, effect) {
         history.give_back(more);
         return Err(error);
     }

@@ -1,4 +1,4 @@
-//! Replies to events, by what they grant and what they need.
+//! The replies to an event if the record is full or memory runs out.
 
 ghost use Rattle.std.specs.Prelude.{◌≡◌};
 ghost use Rattle.admission.specs.Events.{plain};
@@ -8,48 +8,6 @@ use crate::events::Event;
 use crate::replies::{
     AdmitRefusal, ChangeRefusal, RegisterRefusal, ReloadRefusal, Reply, UnregisterRefusal,
 };
-
-impl Reply {
-    /// Whether it grants what was asked.
-    pub(crate) fn is_granted(&self) -> bool
-        ensures { result ≡ Spec.is_granted self.now }
-    {
-        match self {
-            Reply::Registered { .. }
-            | Reply::Unregistered { .. }
-            | Reply::Admitted { .. }
-            | Reply::Changed { .. }
-            | Reply::Released { .. }
-            | Reply::Reloaded { .. } => true,
-            Reply::RegisterRefused { .. }
-            | Reply::UnregisterRefused { .. }
-            | Reply::AdmitRefused { .. }
-            | Reply::ChangeRefused { .. }
-            | Reply::ReleaseRefused { .. }
-            | Reply::ReloadRefused { .. } => false,
-        }
-    }
-
-    /// Whether it is recorded if it is a verdict: each is but a refused release.
-    pub(crate) fn is_recorded(&self) -> bool
-        ensures { result ≡ Spec.is_recorded self.now }
-    {
-        match self {
-            Reply::Registered { .. }
-            | Reply::RegisterRefused { .. }
-            | Reply::Unregistered { .. }
-            | Reply::UnregisterRefused { .. }
-            | Reply::Admitted { .. }
-            | Reply::AdmitRefused { .. }
-            | Reply::Changed { .. }
-            | Reply::ChangeRefused { .. }
-            | Reply::Released { .. }
-            | Reply::Reloaded { .. }
-            | Reply::ReloadRefused { .. } => true,
-            Reply::ReleaseRefused { .. } => false,
-        }
-    }
-}
 
 impl Event {
     /// The reply if the record is full; nothing for a release, which is never refused for that.

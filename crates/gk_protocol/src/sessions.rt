@@ -5,6 +5,7 @@ ghost use Rattle.std.specs.Io.KnownBytes.{Appends, IsAtEnd};
 ghost use Rattle.gk_lines.specs.Streams.{Notes, NotesIf, KnownStep, AppendsFront};
 ghost use Rattle.gk_lines.specs.LineReader.{left_of, work_left, AtEndIfEnded, CountsTurns, is_failure};
 ghost use Rattle.gk_terms.specs.Text.{content_of};
+ghost use Rattle.gk_protocol.specs.Answers.{line_of};
 ghost use Rattle.gk_protocol.specs.Requests.{answer_of_none};
 ghost use Rattle.gk_protocol.specs.Session.{Ends, is_read_fault, is_write_fault};
 ghost use Rattle.gk_protocol.specs.AnswersLine.{AnswersLine, AnswersReload};
@@ -158,13 +159,15 @@ fn progress_with<R: Source, A: Answerer>(
             Ok(answer_reload(alloc, sequence, taken, answerer, reply))
         }
         Err(none) => {
-            show(reply, &answer_to_none(none));
+            show_none(none, reply);
             Ok(Progress::Answered)
         }
     }
 }
 
-/// Answers a reload, by what became of its lines.
+/// Answers a reload, by what became of its lines. In a function of its own, so that no request clears
+/// the places of its answers.
+#[inline(never)]
 fn answer_reload<A: Answerer>(
     alloc: Global,
     sequence: u32,
@@ -190,6 +193,14 @@ fn answer_reload<A: Answerer>(
             Progress::CutShort
         }
     }
+}
+
+/// Answers a line that is not a request. In a function of its own, likewise.
+#[inline(never)]
+fn show_none(none: NoRequest, reply: &mut LineBuffer)
+    ensures { reply.new ≡ line_of (answer_of_none none) }
+{
+    show(reply, &answer_to_none(none));
 }
 
 /// The answer to a line that is not a request.

@@ -53,6 +53,14 @@ impl Name {
         self.spelling.as_bytes()
     }
 
+    /// The bytes as they are held.
+    pub fn spelling(&self) -> &Spelling<MOST_NAME_BYTES>
+        ensures spells { result.now ≡ self.now }
+        ensures name { IsName self.now }
+    {
+        &self.spelling
+    }
+
     /// The name as text.
     pub fn as_str(&self) -> &str
         ensures { result.now ≡ self.now }

@@ -56,6 +56,18 @@ impl<const MOST: usize> Spelling<MOST> {
         }
     }
 
+    /// The same text with room for fewer characters, which it is to fit.
+    pub fn with_room<const ROOM: usize>(&self) -> Spelling<ROOM>
+        requires less { ROOM ≤ MOST }
+        requires fits { length self.now ≤ ROOM }
+        ensures { result ≡ self.now }
+    {
+        Spelling {
+            len: self.len,
+            bytes: front(&self.bytes),
+        }
+    }
+
     /// The text as bytes.
     pub fn as_bytes(&self) -> &[u8]
         ensures spells { result.now ≡ self.now }
@@ -70,6 +82,16 @@ impl<const MOST: usize> Spelling<MOST> {
     {
         unsafe { str::from_utf8_unchecked(self.as_bytes()) }
     }
+}
+
+/// The first bytes.
+fn front<const SIZE: usize>(bytes: &[u8]) -> [u8; SIZE]
+    requires { SIZE ≤ length bytes.now }
+    ensures { result ≡ take SIZE bytes.now }
+{
+    let mut front = [0; SIZE];
+    front.copy_from_slice(&bytes[..SIZE]);
+    front
 }
 
 /// Whether a byte is from `!` to `~`: neither a blank nor a control byte, and ASCII.

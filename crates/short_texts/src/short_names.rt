@@ -34,12 +34,11 @@ impl ShortName {
         ensures same { IfSome result (λ short. short ≡ name.now) }
         ensures long { (result ≡ None) ↔ (19 < length name.now) }
     {
-        let text = name.as_bytes();
-        if text.len() > SHORT_NAME {
+        if name.as_bytes().len() > SHORT_NAME {
             return None;
         }
         Some(ShortName {
-            spelling: Spelling::new(text),
+            spelling: name.spelling().with_room(),
         })
     }
 

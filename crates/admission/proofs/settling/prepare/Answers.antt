@@ -1,32 +1,35 @@
-use Rattle.std.proofs.Common.{refl, ap, ◌-◌, arith}
+use Rattle.std.proofs.Common.{refl, sym, ap, ◌∙◌, ◌-◌, arith}
 use Rattle.std.specs.Prelude.{◌≤◌, length}
-use Rattle.admission.specs.Step.{places_needed}
+use Rattle.admission.specs.Ruling.{ruling_of}
+use Rattle.admission.specs.Events.{plain}
+use Rattle.admission.specs.Step.{places_needed, with_count, with_effect}
 use Rattle.command_reader.proofs.PrintingLemmas.{OnErr-from}
-use Rattle.admission.specs.State.{State}
-use Rattle.admission.specs.History.{RecordParts}
+use Rattle.admission.specs.State.{State, under}
+use Rattle.admission.specs.History.{RecordParts, in_force}
 use Rattle.admission.proofs.FoundedLemmas.{ruled_founded, ruled_lacks, ruled_fits, ruled_one, ruled_enough}
 use Rattle.admission.proofs.settling.prepare.Goals as goal
 
 pub next_number-number-requires : goal.next_number-number-requires
 next_number-number-requires c =
-    ruled_fits _ _ _ c.requires.ruled c.requires.recordable c.requires.recorded c.requires.within
+    ruled_fits _ _ _ refl c.requires.recordable c.requires.recorded c.requires.within
 
 pub apply-requires-clause-founded : goal.apply-requires-clause-founded
 apply-requires-clause-founded c =
-    rw (c.tables.ensures, c.in_ok-keep.ensures.ok)
-    (ruled_founded _ _ _ c.requires.ruled c.requires.recordable)
+    rw (c.tables.ensures, c.in_ok-keep.ensures.ok, c.requires.ruled)
+    (ruled_founded _ _ _ refl c.requires.recordable)
 
 pub apply-requires-clause-counted : goal.apply-requires-clause-counted
 apply-requires-clause-counted c =
-    ruled_fits _ _ _ c.requires.ruled c.requires.recordable c.requires.recorded c.requires.within
+    ruled_fits _ _ _ refl c.requires.recordable c.requires.recorded c.requires.within
 
 pub returns-in_err-keep-clause-err : goal.returns-in_err-keep-clause-err
 returns-in_err-keep-clause-err c =
     let err = c.in_err-keep.ensures.err in
-    let one : 1 ≤ places_needed c.args.ruling.now.effect =
-    omega (arith, err.1, c.saturating_sub-more.ensures, c.places_needed-needed.ensures) in
+    let needed = sym (ap places_needed c.requires.ruled) ∙ sym c.places_needed-needed.ensures in
+    let one : 1 ≤ places_needed (ruling_of _ _).effect =
+    omega (arith, err.1, c.saturating_sub-more.ensures, needed) in
     OnErr-from c.from_residual.result _
-    (refl, err.0, ruled_lacks _ _ _ c.requires.ruled c.requires.recordable c.requires.recorded one)
+    (refl, err.0, ruled_lacks _ _ _ refl c.requires.recordable c.requires.recorded one)
 
 pub returns-clause-places : goal.returns-clause-places
 returns-clause-places c =
@@ -37,10 +40,12 @@ returns-clause-places c =
       arith,
       ap (λ (h : RecordParts). h.kept) c.in_ok-keep.ensures.ok,
       ap (λ (h : RecordParts). h.kept) c.give_back-2.ensures,
-      ap (λ (s : State). length s.calls) moved,
+      ap (λ (s : State). length s.calls) (moved
+          ∙ ap (λ e. with_count (with_effect (under (in_force c.args.history.now) c.args.machine.now)
+          (plain c.args.event.now) e)) c.requires.ruled),
       c.saturating_sub-more.ensures,
-      c.places_needed-needed.ensures,
+      c.places_needed-needed.ensures ∙ ap places_needed c.requires.ruled,
       c.requires.kept,
-      ruled_one _ _ _ c.requires.ruled c.requires.recordable _ enough,
-      ruled_enough _ _ _ c.requires.ruled c.requires.recordable _ enough,
+      ruled_one _ _ _ refl c.requires.recordable _ enough,
+      ruled_enough _ _ _ refl c.requires.recordable _ enough,
     )

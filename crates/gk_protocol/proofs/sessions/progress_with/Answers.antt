@@ -1,3 +1,4 @@
+use Rattle.std.proofs.Common.{refl}
 use Rattle.std.specs.Prelude.{Ok}
 use Rattle.gk_terms.specs.Text.{content_of}
 use Rattle.gk_protocol.specs.declared.sessions.Progress.TheVariants.{Answered}
@@ -13,4 +14,4 @@ returns-in-Ok-Some-Whole-clause-progress g c =
 pub returns-in-Err-clause-progress : goal.returns-in-Err-clause-progress
 returns-in-Err-clause-progress g c =
     by_itself g.A.Answerer.may_answer _ c.args.lines.now.ended c.args.answerer.now c.args.answerer.now (content_of c.args.line.now) _ (Ok Answered)
-    (c.answer_to_none.result, c.show-in-Err.ensures, answered_none g.A.Answerer.may_answer _ _ _ _ (rw c.content.ensures at c.in-Err.ensures) c.answer_to_none.ensures)
+    (_, c.show_none.ensures, answered_none g.A.Answerer.may_answer _ _ _ _ (rw c.content.ensures at c.in-Err.ensures) refl)

@@ -1,16 +1,31 @@
-use Rattle.std.proofs.Common.{◌≡◌, ◌++◌, ◌∷◌, [], sym, ap, ap₂, ◌∙◌, true≢false, arith}
+use Rattle.std.proofs.Common.{◌≡◌, ◌≤◌, ◌++◌, [], Some, false, refl, sym, ap, ap₂, ◌∙◌, true≢false, arith}
+use Rattle.std.specs.List.{cons_option}
 use Rattle.admission.specs.Events as Events
-use Rattle.admission.specs.History.{CoreParts, RecordParts, entry_by, receipt_of}
+use Rattle.admission.specs.History.{CoreParts, RecordParts, entry_of, state_of}
 use Rattle.admission.specs.CoreInvariant.{places_reserved}
-use Rattle.admission.specs.Step.{is_recorded}
-use Rattle.admission.proofs.CarryingLemmas.{counts_alike}
-use Rattle.admission.proofs.CoreLemmas.{stands_as, ruled, refusal_is, nothing_if_not, unrefused, verdict_is, counts, is_within, refuses, refused_step, leaves_out, left_out_step, lacks_memory, kept_on, records, core_still, ruled_light}
+use Rattle.admission.specs.Ruling.{ruling_of}
+use Rattle.admission.specs.Founded.{takes_memory}
+use Rattle.admission.specs.Step.{places_needed, step}
+use Rattle.admission.proofs.EnteringLemmas.{recorded_unrefused, recorded_verdict_of}
+use Rattle.admission.proofs.CoreLemmas.{stands_as, counts, is_within, lacks_memory, kept_on, records, core_still, reload_is_light}
 use Rattle.admission.proofs.cores.Core.enter.Goals as goal
-use Rattle.admission.proofs.cores.Core.enter.Goals.{in-Register-3, in-Reload-3, in-Unregister-3}
+use Rattle.admission.proofs.cores.Core.enter.Goals.{in-Register-1, in-Reload-1, in-Unregister-1}
 
 pub prepare-requires-clause-ruled : goal.prepare-requires-clause-ruled
 prepare-requires-clause-ruled c =
-    ruled _ _ _ c.self.invariant _ c.self.view_is _ _ c.requires
+    c.requires.effect
+    ∙ ap (λ s. (ruling_of s (Events.plain c.args.event)).effect)
+    (sym (stands_as _ _ _ c.self.invariant _ c.self.view_is))
+
+pub prepare-requires-clause-recordable : goal.prepare-requires-clause-recordable
+prepare-requires-clause-recordable c =
+    recorded_unrefused _ _ (ap (λ s. (step s (Events.plain c.args.event)).recorded)
+    (stands_as _ _ _ c.self.invariant _ c.self.view_is) ∙ c.requires.recorded)
+
+pub prepare-requires-clause-recorded : goal.prepare-requires-clause-recorded
+prepare-requires-clause-recorded c =
+    recorded_verdict_of _ _ (ap (λ s. (step s (Events.plain c.args.event)).recorded)
+    (stands_as _ _ _ c.self.invariant _ c.self.view_is) ∙ c.requires.recorded)
 
 pub prepare-requires-clause-counted : goal.prepare-requires-clause-counted
 prepare-requires-clause-counted c = counts _ _ _ c.self.invariant
@@ -18,95 +33,62 @@ prepare-requires-clause-counted c = counts _ _ _ c.self.invariant
 pub prepare-requires-clause-within : goal.prepare-requires-clause-within
 prepare-requires-clause-within c = is_within _ _ _ c.self.invariant
 
-pub prepare-requires-clause-recordable : goal.prepare-requires-clause-recordable
-prepare-requires-clause-recordable c =
-    sym (counts_alike _ _ _ _)
-    ∙ nothing_if_not _ (sym c.is_refused_by_count.ensures ∙ c.if-is_refused_by_count.false)
-
-pub returns-then-is_refused_by_count-clause-step : goal.returns-then-is_refused_by_count-clause-step
-returns-then-is_refused_by_count-clause-step c =
-    refuses _ _ _ (stands_as _ _ _ c.self.invariant _ c.self.view_is) _
-    (refusal_is _ _ _ c.self.invariant _ c.self.view_is _ _ c.requires _ _
-    (c.count_refusal-refusal.ensures ∙ counts_alike _ _ _ _) c.unwrap.ensures)
-
-pub returns-then-is_refused_by_count-clause-reserved
-    : goal.returns-then-is_refused_by_count-clause-reserved
-returns-then-is_refused_by_count-clause-reserved c =
-    λ _ _. refused_step _ _ _ (stands_as _ _ _ c.self.invariant _ c.self.view_is) _
-    (refusal_is _ _ _ c.self.invariant _ c.self.view_is _ _ c.requires _ _
-    (c.count_refusal-refusal.ensures ∙ counts_alike _ _ _ _) c.unwrap.ensures)
-
-pub returns-then-not-is_recorded-clause-step : goal.returns-then-not-is_recorded-clause-step
-returns-then-not-is_recorded-clause-step c =
-    leaves_out _ _ _ (stands_as _ _ _ c.self.invariant _ c.self.view_is)
-    (unrefused _ _ _ c.self.invariant _ c.self.view_is _ _ c.requires _
-    c.is_refused_by_count.ensures c.if-is_refused_by_count.false)
-    _ (verdict_is _ _ _ c.self.invariant _ c.self.view_is _ _ c.requires)
-    (sym c.is_recorded.ensures ∙ c.if-not-is_recorded.true)
-
-pub returns-then-not-is_recorded-clause-reserved : goal.returns-then-not-is_recorded-clause-reserved
-returns-then-not-is_recorded-clause-reserved c =
-    λ _ _. left_out_step _ _ _ (stands_as _ _ _ c.self.invariant _ c.self.view_is)
-    (unrefused _ _ _ c.self.invariant _ c.self.view_is _ _ c.requires _
-    c.is_refused_by_count.ensures c.if-is_refused_by_count.false)
-    _ (verdict_is _ _ _ c.self.invariant _ c.self.view_is _ _ c.requires)
-    (sym c.is_recorded.ensures ∙ c.if-not-is_recorded.true)
-
 pub invariant_of-self : goal.invariant_of-self
 invariant_of-self c =
-    let free = unrefused _ _ _ c.self.invariant _ c.self.view_is _ _ c.requires _
-    c.is_refused_by_count.ensures c.if-is_refused_by_count.false in
-    let verdict = verdict_is _ _ _ c.self.invariant _ c.self.view_is _ _ c.requires in
-    let recorded = ap is_recorded (sym verdict) ∙ sym c.is_recorded.ensures
-    ∙ c.if-not-is_recorded.false in
-    let same = ruled _ _ _ c.self.invariant _ c.self.view_is _ _ c.requires in
-    kept_on _ _ _ _ c.self.invariant free recorded c.prepare.new.machine c.push.new.self
-    (rw same at c.in-Ok.ensures.state)
+    let stands = stands_as _ _ _ c.self.invariant _ c.self.view_is in
+    let recorded = ap (λ s. (step s (Events.plain c.args.event)).recorded) stands
+    ∙ c.requires.recorded in
+    kept_on _ _ _ _ c.self.invariant (recorded_unrefused _ _ recorded)
+    (recorded_verdict_of _ _ recorded) c.prepare.new.machine c.push.new.self
+    c.in-Ok.ensures.state
     (ap (λ (h : RecordParts). h.opening) c.push.ensures ∙ c.in-Ok.ensures.opening)
     (ap (λ (h : RecordParts). h.entries) c.push.ensures
-    ∙ ap₂ (λ es r. es ++ entry_by (Events.plain c.args.event) r ∷ []) c.in-Ok.ensures.entries same)
+    ∙ ap₂ (λ es o. es ++ cons_option o []) c.in-Ok.ensures.entries
+    (c.requires.told ∙ ap (λ s. Some (entry_of s (Events.plain c.args.event))) (sym stands)))
     (omega (arith, ap (λ (h : RecordParts). h.kept) c.push.ensures, c.in-Ok.ensures.places))
     c.is_of_an_accepted_configuration.ensures
 
-pub returns-in-Ok-clause-step : goal.returns-in-Ok-clause-step
-returns-in-Ok-clause-step c =
-    let free = unrefused _ _ _ c.self.invariant _ c.self.view_is _ _ c.requires _
-    c.is_refused_by_count.ensures c.if-is_refused_by_count.false in
-    let verdict = verdict_is _ _ _ c.self.invariant _ c.self.view_is _ _ c.requires in
-    let recorded = ap is_recorded (sym verdict) ∙ sym c.is_recorded.ensures
-    ∙ c.if-not-is_recorded.false in
-    let same = ruled _ _ _ c.self.invariant _ c.self.view_is _ _ c.requires in
-    records _ _ _ _ c.self.invariant free recorded c.prepare.new.machine c.push.new.self
-    (rw same at c.in-Ok.ensures.state)
+pub returns-in-Ok-clause-ok : goal.returns-in-Ok-clause-ok
+returns-in-Ok-clause-ok c =
+    let stands = stands_as _ _ _ c.self.invariant _ c.self.view_is in
+    let recorded = ap (λ s. (step s (Events.plain c.args.event)).recorded) stands
+    ∙ c.requires.recorded in
+    (records _ _ _ _ c.self.invariant (recorded_unrefused _ _ recorded)
+    (recorded_verdict_of _ _ recorded) c.prepare.new.machine c.push.new.self
+    c.in-Ok.ensures.state
     (ap (λ (h : RecordParts). h.opening) c.push.ensures ∙ c.in-Ok.ensures.opening)
     (ap (λ (h : RecordParts). h.entries) c.push.ensures
-    ∙ ap₂ (λ es r. es ++ entry_by (Events.plain c.args.event) r ∷ []) c.in-Ok.ensures.entries same)
-    _ _ _ c.self.view_is verdict
-    (ap₂ (λ n r. receipt_of n (entry_by (Events.plain c.args.event) r)) c.in-Ok.ensures.number same)
+    ∙ ap₂ (λ es o. es ++ cons_option o []) c.in-Ok.ensures.entries
+    (c.requires.told ∙ ap (λ s. Some (entry_of s (Events.plain c.args.event))) (sym stands)))
+    _ _ _ c.self.view_is refl refl).new_is
 
-pub returns-in-Err-clause-step : goal.returns-in-Err-clause-step
-returns-in-Err-clause-step c =
-    let free = unrefused _ _ _ c.self.invariant _ c.self.view_is _ _ c.requires _
-    c.is_refused_by_count.ensures c.if-is_refused_by_count.false in
-    let verdict = verdict_is _ _ _ c.self.invariant _ c.self.view_is _ _ c.requires in
-    let recorded = ap is_recorded (sym verdict) ∙ sym c.is_recorded.ensures
-    ∙ c.if-not-is_recorded.false in
-    let left = lacks_memory _ _ _ (stands_as _ _ _ c.self.invariant _ c.self.view_is) free _ _
-    recorded (sym c.no_memory_reply.ensures ∙ c.unwrap-in-Err.ensures)
+pub returns-in-Err-clause-err : goal.returns-in-Err-clause-err
+returns-in-Err-clause-err c =
+    let stands = stands_as _ _ _ c.self.invariant _ c.self.view_is in
+    let recorded = ap (λ s. (step s (Events.plain c.args.event)).recorded) stands
+    ∙ c.requires.recorded in
+    let left = lacks_memory _ _ _ stands (recorded_unrefused _ _ recorded) _ _
+    (recorded_verdict_of _ _ recorded) (sym c.no_memory_reply.ensures ∙ c.unwrap.ensures)
     (core_still c.self.inside.machine c.prepare.new.machine c.self.inside.history
     c.prepare.new.history c.self.inside.reserved c.in-Err.ensures.err.0 c.in-Err.ensures.err.1
     ∙ c.self.view_is) in
-    elim c.match-event-3.branch [
-      | in-Register-3 w ↦ rw w.self-is left
-      | in-Reload-3 w ↦ rw w.self-is left
-      | in-Unregister-3 w ↦ rw w.self-is left
+    elim c.match-event.branch [
+      | in-Register-1 w ↦ rw w.self-is left
+      | in-Reload-1 w ↦ rw w.self-is left
+      | in-Unregister-1 w ↦ rw w.self-is left
     ]
 
 pub returns-in-Err-clause-reserved : goal.returns-in-Err-clause-reserved
 returns-in-Err-clause-reserved c =
     λ was puts.
-    let light = ruled_light _ _ _ c.requires puts in
+    let light
+    : (takes_memory (ruling_of (state_of c.args.self.now) (Events.plain c.args.event)).effect ≡ false)
+    × (places_needed (ruling_of (state_of c.args.self.now) (Events.plain c.args.event)).effect ≡ 1) =
+    reload_is_light _ _ puts in
     let kept : c.places_reserved-reserved.result ≡ 1 =
     c.places_reserved-reserved.ensures
     ∙ ap places_reserved (ap (λ (core : CoreParts). core.reserved) c.self.view_is ∙ was) in
-    absurd (true≢false (sym (c.in-Err.ensures.unfailing light.0 (omega (arith, light.1, kept)))))
+    let enough : places_needed c.args.effect.now ≤ c.places_reserved-reserved.result =
+    omega (arith, ap places_needed c.requires.effect ∙ light.1, kept) in
+    absurd (true≢false (sym (c.in-Err.ensures.unfailing
+    (ap takes_memory c.requires.effect ∙ light.0) enough)))
