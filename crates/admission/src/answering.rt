@@ -26,7 +26,11 @@ use compiler::Plan;
 impl Core {
     /// Answers an event as `answer` does. An admission is planned by the tables in force, unless
     /// their plan for its digits is given.
-    pub(crate) fn answer_by(&mut self, planned: Option<&Plan>, event: Event) -> Result<(Reply, Receipt), Reply>
+    pub(crate) fn answer_by(
+        &mut self,
+        planned: Option<&Plan>,
+        event: Event,
+    ) -> Result<(Reply, Receipt), Reply>
         requires planned { IfSome (option_copied planned)
             (IsPlanOf (state_of self.old).commands (Events.plain event)) }
         ensures step { Steps self.old (Events.plain event) result self.new }
@@ -108,12 +112,7 @@ impl Core {
 
     /// Records an event in few bytes, and carries out the effect of the ruling on it. The refusal
     /// says that memory ran out.
-    fn enter_slot(
-        &mut self,
-        event: &Event,
-        effect: &Effect,
-        slot: &Slot,
-    ) -> Result<(), Reply>
+    fn enter_slot(&mut self, event: &Event, effect: &Effect, slot: &Slot) -> Result<(), Reply>
         requires effect { effect.now
             ≡ (ruling_of (state_of self.old) (Events.plain event.now)).effect }
         requires slot { entry_meant [] [] [] slot.now

@@ -13,7 +13,6 @@ ghost use Rattle.std.specs.Arc.{arc_value};
 ghost use Rattle.admission.specs.History.{plain_entry, entry_of_number, Stands, in_force};
 
 pub use crate::entries::{Entry, EntryEvent, Receipt};
-
 use crate::entries::{WholeEntry, same_receipt};
 use crate::events::Event;
 use crate::reloads::{LastReload, Reloads};
