@@ -3,11 +3,12 @@
 ghost use Rattle.std.specs.Prelude.{◌≡◌, [], Some, true, false, IfErr, IfSome, OnOk, OnErr, IsOk, IsSome};
 ghost use Rattle.std.specs.Option.{option_copied};
 ghost use Rattle.admission.specs.Events as Events;
-ghost use Rattle.admission.specs.Events.{put_in_force};
+ghost use Rattle.admission.specs.Events.{is_of_names_alone, put_in_force};
+ghost use Rattle.admission.specs.Founded.{IsFallible};
 ghost use Rattle.admission.specs.Lent.{IsPlanOf, ruling_meant};
 ghost use Rattle.admission.specs.Ruling.{ruling_of};
 ghost use Rattle.admission.specs.Slots.{entry_meant};
-ghost use Rattle.admission.specs.Step.{step};
+ghost use Rattle.admission.specs.Step.{no_memory_reply_of, step};
 ghost use Rattle.admission.specs.Told.{told_meant};
 ghost use Rattle.admission.specs.History.{entry_of, IsUnrecorded, MayReply, state_of, Steps, with_entry};
 ghost use Rattle.admission.specs.CoreInvariant.{places_reserved};
@@ -22,6 +23,7 @@ use crate::settling::prepare;
 use crate::slots::Slot;
 use crate::told::Told;
 use compiler::Plan;
+use std::alloc::AllocError;
 
 impl Core {
     /// Answers an event as `answer` does. An admission is planned by the tables in force, unless
@@ -65,24 +67,119 @@ impl Core {
             → (step (state_of self.old) (Events.plain event)).recorded ≡ true
             → self.new ≡ with_entry self.old (Events.plain event) }
     {
-        let ruling = &self.machine().ruling(self.tables(), planned, &event);
-        if !self.is_recorded(&event, ruling) {
-            return self.unrecorded(planned, &event);
+        if event.is_of_names_alone() {
+            self.reply_lent(planned, &event)
+        } else {
+            self.reply_owned(event)
         }
-        let verdict = &ruling.verdict();
-        let effect = &ruling.effect();
-        match &Slot::of(&event, ruling) {
-            Some(slot) => match &self.enter_slot(&event, effect, slot) {
-                Ok(()) => *verdict,
-                Err(refusal) => *refusal,
-            },
-            None => {
-                let told = &Told::of(&event, ruling);
-                match &self.enter(event, verdict, effect, told) {
-                    Ok(()) => *verdict,
-                    Err(refusal) => *refusal,
+    }
+
+    /// The same of an event of names and numbers alone. It is lent, since an event is large, and few
+    /// are registrations or reloads.
+    pub(crate) fn reply_lent(&mut self, planned: Option<&Plan>, event: &Event) -> Reply
+        requires planned { IfSome (option_copied planned)
+            (IsPlanOf (state_of self.old).commands (Events.plain event.now)) }
+        requires names { is_of_names_alone (Events.plain event.now) ≡ true }
+        ensures reply { MayReply self.old (Events.plain event.now) result self.new }
+        ensures reserved { self.old.reserved ≡ true
+            → IsSome (put_in_force (Events.plain event.now))
+            → (step (state_of self.old) (Events.plain event.now)).recorded ≡ true
+            → self.new ≡ with_entry self.old (Events.plain event.now) }
+    {
+        let ruling = &self.machine().ruling(self.tables(), planned, event);
+        let reply = &mut ruling.verdict();
+        if self.is_recorded(event, ruling) {
+            let effect = &ruling.effect();
+            match &Slot::of(event, ruling) {
+                Some(slot) => self.enter_lent(event, effect, slot, reply),
+                None => {
+                    let told = &Told::of(event, ruling);
+                    self.enter_copy(event, effect, told, reply);
                 }
             }
+        } else {
+            self.refuse(event, ruling, reply);
+        }
+        *reply
+    }
+
+    /// The same of an event that the record takes whole, as a registration or a reload. In a function
+    /// of its own, so that no other reply clears its places.
+    #[inline(never)]
+    pub(crate) fn reply_owned(&mut self, event: Event) -> Reply
+        ensures reply { MayReply self.old (Events.plain event) result self.new }
+        ensures reserved { self.old.reserved ≡ true → IsSome (put_in_force (Events.plain event))
+            → (step (state_of self.old) (Events.plain event)).recorded ≡ true
+            → self.new ≡ with_entry self.old (Events.plain event) }
+    {
+        let ruling = &self.machine().ruling(self.tables(), None, &event);
+        let reply = &mut ruling.verdict();
+        if self.is_recorded(&event, ruling) {
+            let effect = &ruling.effect();
+            let told = &Told::of(&event, ruling);
+            self.enter_whole(event, effect, told, reply);
+        } else {
+            self.refuse(&event, ruling, reply);
+        }
+        *reply
+    }
+
+    /// Records an event in few bytes, and carries out the effect of the ruling on it. If memory runs
+    /// out, the reply says so in place of the verdict.
+    fn enter_lent(&mut self, event: &Event, effect: &Effect, slot: &Slot, reply: &mut Reply)
+        requires verdict { reply.old
+            ≡ (ruling_of (state_of self.old) (Events.plain event.now)).verdict }
+        requires effect { effect.now
+            ≡ (ruling_of (state_of self.old) (Events.plain event.now)).effect }
+        requires slot { entry_meant [] [] [] slot.now
+            ≡ Some (entry_of (state_of self.old) (Events.plain event.now)) }
+        requires recorded { (step (state_of self.old) (Events.plain event.now)).recorded ≡ true }
+        ensures reply { MayReply self.old (Events.plain event.now) reply.new self.new }
+        ensures reserved { self.old.reserved ≡ true
+            → IsSome (put_in_force (Events.plain event.now))
+            → self.new ≡ with_entry self.old (Events.plain event.now) }
+    {
+        match self.enter_slot(event, effect, slot) {
+            Ok(()) => {}
+            Err(_) => lack_memory(event, reply),
+        }
+    }
+
+    /// The same of an event of names and numbers alone that has no slot in few bytes.
+    #[inline(never)]
+    fn enter_copy(&mut self, event: &Event, effect: &Effect, told: &Told, reply: &mut Reply)
+        requires names { is_of_names_alone (Events.plain event.now) ≡ true }
+        requires verdict { reply.old
+            ≡ (ruling_of (state_of self.old) (Events.plain event.now)).verdict }
+        requires effect { effect.now
+            ≡ (ruling_of (state_of self.old) (Events.plain event.now)).effect }
+        requires told { told_meant told.now (Events.plain event.now) reply.old
+            ≡ Some (entry_of (state_of self.old) (Events.plain event.now)) }
+        requires recorded { (step (state_of self.old) (Events.plain event.now)).recorded ≡ true }
+        ensures reply { MayReply self.old (Events.plain event.now) reply.new self.new }
+        ensures reserved { self.old.reserved ≡ true
+            → IsSome (put_in_force (Events.plain event.now))
+            → self.new ≡ with_entry self.old (Events.plain event.now) }
+    {
+        self.enter_whole(event.copy(), effect, told, reply);
+    }
+
+    /// The same of any event, which has no slot in few bytes.
+    fn enter_whole(&mut self, event: Event, effect: &Effect, told: &Told, reply: &mut Reply)
+        requires verdict { reply.old
+            ≡ (ruling_of (state_of self.old) (Events.plain event)).verdict }
+        requires effect { effect.now
+            ≡ (ruling_of (state_of self.old) (Events.plain event)).effect }
+        requires told { told_meant told.now (Events.plain event) reply.old
+            ≡ Some (entry_of (state_of self.old) (Events.plain event)) }
+        requires recorded { (step (state_of self.old) (Events.plain event)).recorded ≡ true }
+        ensures reply { MayReply self.old (Events.plain event) reply.new self.new }
+        ensures reserved { self.old.reserved ≡ true → IsSome (put_in_force (Events.plain event))
+            → self.new ≡ with_entry self.old (Events.plain event) }
+    {
+        match &self.enter(event, reply, effect, told) {
+            Ok(()) => {}
+            Err(refusal) => *reply = *refusal,
         }
     }
 
@@ -96,31 +193,34 @@ impl Core {
         ruling.is_recorded() && !self.machine().is_refused_by_count(event, ruling)
     }
 
-    /// The reply to an event that is not recorded. Few are, so the ruling is made again: one that
-    /// lends what it names cannot be kept beside a reply that is handed on.
-    fn unrecorded(&self, planned: Option<&Plan>, event: &Event) -> Reply
-        requires planned { IfSome (option_copied planned)
-            (IsPlanOf (state_of self.now).commands (Events.plain event.now)) }
-        ensures { result ≡ (step (state_of self.now) (Events.plain event.now)).reply }
+    /// Puts the refusal by a count in the place of the verdict on an event, if there is one. In a
+    /// function of its own, since few events are not recorded.
+    #[inline(never)]
+    fn refuse(&self, event: &Event, ruling: &LentRuling<'_>, reply: &mut Reply)
+        requires ruled { ruling_meant ruling.now
+            ≡ ruling_of (state_of self.now) (Events.plain event.now) }
+        requires verdict { reply.old ≡ (ruling_meant ruling.now).verdict }
+        ensures { reply.new ≡ (step (state_of self.now) (Events.plain event.now)).reply }
     {
-        let ruling = &self.machine().ruling(self.tables(), planned, event);
         match &self.machine().count_refusal(event, ruling) {
-            Some(refusal) => *refusal,
-            None => ruling.verdict(),
+            Some(refusal) => *reply = *refusal,
+            None => {}
         }
     }
 
-    /// Records an event in few bytes, and carries out the effect of the ruling on it. The refusal
-    /// says that memory ran out.
-    fn enter_slot(&mut self, event: &Event, effect: &Effect, slot: &Slot) -> Result<(), Reply>
+    /// Records an event in few bytes, and carries out the effect of the ruling on it, unless memory
+    /// runs out.
+    fn enter_slot(&mut self, event: &Event, effect: &Effect, slot: &Slot) -> Result<(), AllocError>
         requires effect { effect.now
             ≡ (ruling_of (state_of self.old) (Events.plain event.now)).effect }
         requires slot { entry_meant [] [] [] slot.now
             ≡ Some (entry_of (state_of self.old) (Events.plain event.now)) }
         requires recorded { (step (state_of self.old) (Events.plain event.now)).recorded ≡ true }
         ensures ok { OnOk result (self.new ≡ with_entry self.old (Events.plain event.now)) }
-        ensures err { IfErr result (λ refusal.
-            IsUnrecorded self.old (Events.plain event.now) refusal self.new) }
+        ensures fallible { OnErr result (IsFallible (Events.plain event.now)) }
+        ensures err { OnErr result ((refusal : _)
+            → no_memory_reply_of (Events.plain event.now) ≡ Some refusal
+            → IsUnrecorded self.old (Events.plain event.now) refusal self.new) }
         ensures reserved { self.old.reserved ≡ true
             → IsSome (put_in_force (Events.plain event.now)) → IsOk result }
     {
@@ -138,7 +238,7 @@ impl Core {
                 self.history.push_slot(slot);
                 Ok(())
             }
-            Err(_) => Err(event.no_memory_reply().unwrap()),
+            Err(error) => Err(error),
         }
     }
 
@@ -152,7 +252,8 @@ impl Core {
         told: &Told,
     ) -> Result<(), Reply>
         requires verdict { verdict.now ≡ (ruling_of (state_of self.old) (Events.plain event)).verdict }
-        requires effect { effect.now ≡ (ruling_of (state_of self.old) (Events.plain event)).effect }
+        requires effect { effect.now
+            ≡ (ruling_of (state_of self.old) (Events.plain event)).effect }
         requires told { told_meant told.now (Events.plain event) verdict.now
             ≡ Some (entry_of (state_of self.old) (Events.plain event)) }
         requires recorded { (step (state_of self.old) (Events.plain event)).recorded ≡ true }
@@ -176,9 +277,31 @@ impl Core {
                 self.history.push(event, verdict, told);
                 Ok(())
             }
-            Err(_) => Err(event.no_memory_reply().unwrap()),
+            Err(_) => Err(lacking_memory(&event)),
         }
     }
+}
+
+/// The reply to an event for which memory ran out. Few replies say so, so this is a function of its
+/// own, whose places no other reply clears.
+#[inline(never)]
+fn lacking_memory(event: &Event) -> Reply
+    requires { IsFallible (Events.plain event.now) }
+    ensures { no_memory_reply_of (Events.plain event.now) ≡ Some result }
+{
+    match &event.no_memory_reply() {
+        Some(reply) => *reply,
+        None => unreachable!(),
+    }
+}
+
+/// The same in place of a reply.
+#[inline(never)]
+fn lack_memory(event: &Event, reply: &mut Reply)
+    requires { IsFallible (Events.plain event.now) }
+    ensures { no_memory_reply_of (Events.plain event.now) ≡ Some reply.new }
+{
+    *reply = lacking_memory(event);
 }
 
 /// The places of the record that are kept for a reload.

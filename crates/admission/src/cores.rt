@@ -233,7 +233,12 @@ impl Core {
             → (step (state_of self.old) (Events.plain event)).recorded ≡ true
             → self.new ≡ with_entry self.old (Events.plain event) }
     {
-        self.reply_by(None, event)
+        // As `reply_by` does, which would have the event copied: an event is large.
+        if event.is_of_names_alone() {
+            self.reply_lent(None, &event)
+        } else {
+            self.reply_owned(event)
+        }
     }
 
     /// What the tables in force say of the digits.
@@ -282,16 +287,18 @@ impl Core {
         self.history.tables()
     }
 
-    /// The registered endpoints, in order of registration.
+    /// The registered endpoints, in order of registration, and how many there may be.
     pub fn registry(&self) -> &Registry
-        ensures { result.now.endpoints ≡ (state_of self.now).endpoints }
+        ensures endpoints { result.now.endpoints ≡ (state_of self.now).endpoints }
+        ensures most { result.now.most ≡ (state_of self.now).limits.endpoints }
     {
         self.machine().registry()
     }
 
-    /// The open calls, in order of number.
+    /// The open calls, in order of number, and how many there may be.
     pub fn calls(&self) -> &OpenCalls
-        ensures { result.now.calls ≡ (state_of self.now).calls }
+        ensures calls { result.now.calls ≡ (state_of self.now).calls }
+        ensures most { result.now.most ≡ (state_of self.now).limits.calls }
     {
         self.machine().calls()
     }

@@ -1,8 +1,8 @@
 //! Events: what a core is asked.
 
-ghost use Rattle.std.specs.Prelude.{◌≡◌, IfSome};
+ghost use Rattle.std.specs.Prelude.{◌≡◌, true, IfSome};
 ghost use Rattle.command_reader.specs.Accepted.{IsAccepted};
-ghost use Rattle.admission.specs.Events.{plain, kind_of, id_of, call_number_of, put_in_force};
+ghost use Rattle.admission.specs.Events.{plain, is_of_names_alone, kind_of, id_of, call_number_of, put_in_force};
 
 use compiler::Tables;
 use gk_terms::{Dialled, Name, Units};
@@ -75,6 +75,51 @@ impl Event {
     {
         if let Event::Reload(tables) = self {
             let _count = tables.commands().len();
+        }
+    }
+
+    /// Whether it holds names and numbers alone, neither an endpoint nor tables, so that it can be
+    /// copied.
+    pub(crate) fn is_of_names_alone(&self) -> bool
+        ensures { result ≡ is_of_names_alone (plain self.now) }
+    {
+        match self {
+            Event::Register(_) | Event::Reload(_) => false,
+            Event::Unregister { .. }
+            | Event::Admit { .. }
+            | Event::Change { .. }
+            | Event::Release { .. } => true,
+        }
+    }
+
+    /// The same event, if it holds names and numbers alone.
+    pub(crate) fn copy(&self) -> Event
+        requires { is_of_names_alone (plain self.now) ≡ true }
+        ensures { plain result ≡ plain self.now }
+    {
+        match self {
+            Event::Register(_) | Event::Reload(_) => unreachable!(),
+            Event::Unregister { id } => Event::Unregister { id: *id },
+            Event::Admit {
+                id,
+                call,
+                digits,
+                units,
+            } => Event::Admit {
+                id: *id,
+                call: *call,
+                digits: *digits,
+                units: *units,
+            },
+            Event::Change { id, call, units } => Event::Change {
+                id: *id,
+                call: *call,
+                units: *units,
+            },
+            Event::Release { id, call } => Event::Release {
+                id: *id,
+                call: *call,
+            },
         }
     }
 

@@ -22,7 +22,7 @@ pub enum LentRuling<'a> {
         id: &'a Name,
         zone: Name,
     },
-    /// It does not.
+    /// The endpoint may not register.
     RegisterRefused {
         id: &'a Name,
         reason: RegisterRefusal,
@@ -31,7 +31,7 @@ pub enum LentRuling<'a> {
     Unregistered {
         id: &'a Name,
     },
-    /// It does not.
+    /// The endpoint may not leave.
     UnregisterRefused {
         id: &'a Name,
         reason: UnregisterRefusal,
@@ -79,7 +79,7 @@ pub enum LentRuling<'a> {
         id: &'a Name,
         units: Units,
     },
-    /// It keeps that it has.
+    /// The call keeps the bandwidth that it has.
     ChangeRefused {
         call: u32,
         reason: ChangeRefusal,
@@ -89,7 +89,7 @@ pub enum LentRuling<'a> {
         call: u32,
         id: &'a Name,
     },
-    /// It is not.
+    /// The call stays as it is.
     ReleaseRefused {
         call: u32,
         reason: ReleaseRefusal,

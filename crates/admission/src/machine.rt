@@ -92,14 +92,16 @@ impl Machine {
 
     /// The registered endpoints.
     pub fn registry(&self) -> &Registry
-        ensures { result.now.endpoints ≡ self.now.endpoints }
+        ensures endpoints { result.now.endpoints ≡ self.now.endpoints }
+        ensures most { result.now.most ≡ self.now.limits.endpoints }
     {
         &self.registry
     }
 
     /// The open calls.
     pub fn calls(&self) -> &OpenCalls
-        ensures { result.now.calls ≡ self.now.calls }
+        ensures calls { result.now.calls ≡ self.now.calls }
+        ensures most { result.now.most ≡ self.now.limits.calls }
     {
         &self.calls
     }

@@ -11,7 +11,7 @@ use crate::slot_kinds::{
 };
 use crate::slot_places::{SlotPlace, slot_at};
 use crate::slots::{ShortOver, ShortReply, Slot};
-use pieces::Pieces;
+use pieces::{PIECE_ITEMS, Pieces};
 use std::alloc::{AllocError, Global};
 use std::marker::Model;
 use std::mem::size_of;
@@ -101,14 +101,16 @@ impl SlotList {
         if places <= self.room {
             return Ok(());
         }
+        // A piece at once, so that only one request of so many asks each list for room.
+        let ahead = self.room.saturating_add(PIECE_ITEMS);
         reserve_each(
             &mut self.places,
             &mut self.routed,
             &mut self.refused,
             &mut self.brief,
-            places,
+            ahead,
         )?;
-        self.room = places;
+        self.room = ahead;
         Ok(())
     }
 
@@ -271,6 +273,7 @@ impl SlotList {
 
 /// Makes room in each of the four lists for this many further items. If memory runs out, they hold
 /// what they did.
+#[inline(never)]
 fn reserve_each(
     slot_places: &mut Pieces<SlotPlace>,
     routed: &mut Pieces<HeldRouted>,

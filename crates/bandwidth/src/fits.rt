@@ -33,11 +33,11 @@ impl OpenCalls {
         self.fits_counted(tables, call).0
     }
 
-    /// The same, with the number of open calls that were read for it.
+    /// The same, with how often an open call was looked up for it: once.
     pub fn fits_counted(&self, tables: &Tables, call: &OpenCall) -> (Result<(), Over>, u32)
         ensures fits { result_err result.0
             ≡ over_of tables.now.commands self.now.calls call.now }
-        ensures reads { result.1 ≤ 1 }
+        ensures reads { result.1 ≡ 1 }
     {
         let mut reads = 0;
         let held = self.read(call.number, &mut reads);

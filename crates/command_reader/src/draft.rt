@@ -1,6 +1,6 @@
 //! A configuration as it is read, line by line.
 
-ghost use Rattle.std.specs.Prelude.{◌≡◌, true, ◌⊎◌, ◌+◌, ◌<◌, ◌≤◌, ◌==◌, ℕ, List, length, ◌∷◌, MatchResult, Ok, Err, Some, None, bytes_eq, is_some, option_map, slice_get};
+ghost use Rattle.std.specs.Prelude.{◌≡◌, true, ◌⊎◌, ◌+◌, ◌<◌, ◌≤◌, ◌==◌, ℕ, List, [], length, ◌∷◌, MatchResult, Ok, Err, Some, None, bytes_eq, is_some, option_map, slice_get};
 ghost use Rattle.std.specs.List.{list_any, position_or_len};
 ghost use Rattle.std.specs.List.Sorted.{IsPermutation};
 ghost use Rattle.std.specs.HashSet.{keys};
@@ -61,6 +61,21 @@ impl Draft {
             alloc,
             commands: Vec::new(alloc),
             numbers: Vec::new(alloc),
+            passed: 0,
+            declared: HashSet::new(alloc),
+        }
+    }
+
+    #[tactic(auto, using(crate::proofs::FileBack::none_printable))]
+    /// The same with room for so many commands, if there is memory for it: else the draft takes
+    /// memory as it is read, so that only a line that finds none is refused.
+    pub fn with_room(alloc: Global, commands: usize) -> Draft
+        ensures { result ≡ nothing_read }
+    {
+        Draft {
+            alloc,
+            commands: room_for(alloc, commands),
+            numbers: room_for(alloc, commands),
             passed: 0,
             declared: HashSet::new(alloc),
         }
@@ -204,6 +219,16 @@ impl Draft {
         self.commands.push(command)?;
         self.numbers.push(number)?;
         Ok(self)
+    }
+}
+
+/// No items, and room for so many if there is memory for it.
+fn room_for<T: Drop>(alloc: Global, items: usize) -> Vec<T>
+    ensures { result.items ≡ [] }
+{
+    match Vec::with_capacity(alloc, items) {
+        Ok(room) => room,
+        Err(_) => Vec::new(alloc),
     }
 }
 

@@ -65,6 +65,7 @@ fn named_command_at(
 }
 
 /// `arq` and what follows it.
+#[inline(never)]
 fn arq(words: &mut Words<'_>) -> Result<Command, FaultKind>
     ensures { result ≡ arq_at (words_of words.old) }
 {
@@ -78,6 +79,7 @@ fn arq(words: &mut Words<'_>) -> Result<Command, FaultKind>
 }
 
 /// A line that no command begins: it is passed over or at fault.
+#[inline(never)]
 fn passed_at(first: &[u8], words: &mut Words<'_>) -> Result<Option<Command>, FaultKind>
     ensures { result ≡ passed_at first.now (words_of words.old) }
 {

@@ -6,6 +6,7 @@ ghost use Rattle.command_reader.specs.Reading.{nothing_read, MayReadOn, MayRead}
 use crate::commands::Commands;
 use crate::draft::Draft;
 use crate::faults::LineFault;
+use gk_terms::limits::MOST_LINES;
 use gk_terms::text_lines::{RawLines, content};
 use std::alloc::Global;
 
@@ -26,11 +27,16 @@ pub fn read(alloc: Global, bytes: &[u8]) -> Result<Commands, LineFault>
     lines_in(alloc, bytes)?.finish()
 }
 
+/// About how many lines there are, or more: a line that declares a prefix has some 45 bytes.
+fn lines_expected(bytes: &[u8]) -> usize {
+    (bytes.len() / 32).min(MOST_LINES)
+}
+
 /// The lines, each looked at by itself.
 fn lines_in(alloc: Global, bytes: &[u8]) -> Result<Draft, LineFault>
     ensures { MayReadOn nothing_read (lines_of bytes.now) result }
 {
-    let mut draft = Draft::new(alloc);
+    let mut draft = Draft::with_room(alloc, lines_expected(bytes));
     for line in RawLines::of(bytes) {
         draft = draft.with_line(content(line))?;
     }

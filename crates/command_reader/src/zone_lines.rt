@@ -43,6 +43,7 @@ pub fn zone(alloc: Global, words: &mut Words<'_>) -> Result<Command, FaultKind>
 }
 
 /// `zone local NAME DOMAIN [IP [PORT]]`.
+#[inline(never)]
 fn zone_local(words: &mut Words<'_>) -> Result<Command, FaultKind>
     ensures { result ≡ zone_local_at (words_of words.old) }
 {
@@ -92,6 +93,7 @@ fn local_port(ip: [u8; 4], words: &mut Words<'_>) -> Result<Option<LocalAddress>
 }
 
 /// `zone remote NAME DOMAIN IP [PORT] [cost C [priority P]]`.
+#[inline(never)]
 fn zone_remote(words: &mut Words<'_>) -> Result<Command, FaultKind>
     ensures { result ≡ zone_remote_at (words_of words.old) }
 {

@@ -19,10 +19,9 @@ use Rattle.gk_protocol.specs.declared.requests.Request.TheVariants as request
 use Rattle.gk_protocol.specs.declared.requests.Asking.{Asking}
 use Rattle.gk_protocol.specs.declared.requests.Asking.TheVariants.{Reload}
 use Rattle.gk_protocol.specs.declared.answers.Answer.{Answer}
-use Rattle.gk_protocol.specs.declared.owned_lines.TakenLines.{TakenLines}
 use Rattle.gk_protocol.specs.declared.owned_lines.TakenLines.TheVariants as taken
 use Rattle.gk_protocol.specs.Requests.{asking_of, no_memory_answer_of, reload_without_memory}
-use Rattle.gk_protocol.specs.Session.{Asked, asked_by, asked_in, lines_owned, handed_on, with_its_lines}
+use Rattle.gk_protocol.specs.Session.{Asked, asked_by, asked_in, lines_owned, handed_on}
 use Rattle.gk_protocol.specs.OwnedLines.{TakesLines, HandsOn, GivesLines}
 use Rattle.gk_protocol.proofs.HandedLemmas.{kept_handed}
 
@@ -38,10 +37,10 @@ few_owned at_end zero (raw ∷ raws) few = absurd (omega (arith, few))
 few_owned at_end (suc count) (raw ∷ raws) few = few_owned at_end count raws (omega (arith, few))
 
 -- a reload, by whether its lines are all there
-reload_by : Bool → Bool → ℕ → List (List ℕ) → List Asked
-reload_by at_end all sequence raws =
+reload_by : Bool → Bool → ℕ → ℕ → List (List ℕ) → List Asked
+reload_by at_end all sequence count raws =
     cond all
-    ((record { request = Ok (request.Reload sequence (flat_map handed_on raws)); no_memory = Some (reload_without_memory sequence) }) ∷ [])
+    ((record { request = Ok (request.Reload sequence (flat_map handed_on raws)); no_memory = cond (count == 0) None (Some (reload_without_memory sequence)) }) ∷ [])
     (cond at_end ((record { request = Err CutShort; no_memory = None }) ∷ []) [])
 
 -- what a line asks with the lines after it
@@ -51,26 +50,26 @@ asks_with at_end no_memory raws asking = asked_by at_end no_memory raws asking +
 -- with all its lines
 pub reload_asks : (raw : List ℕ) (sequence count : ℕ) (raws : List (List ℕ)) → asking_of (content_of raw) ≡ Ok (Some (Reload sequence count)) → length raws ≡ count
     → (at_end : Bool) (more : List (List ℕ)) → asked_in at_end 0 ((raw ∷ raws) ++ more)
-    ≡ (record { request = Ok (request.Reload sequence (flat_map handed_on raws)); no_memory = Some (reload_without_memory sequence) }) ∷ asked_in at_end 0 more
+    ≡ (record { request = Ok (request.Reload sequence (flat_map handed_on raws)); no_memory = cond (length raws == 0) None (Some (reload_without_memory sequence)) }) ∷ asked_in at_end 0 more
 unfolding reload_by asks_with
 reload_asks raw sequence count raws asks counted at_end more =
     let size : ℕ = length raws in
     let asks_so : asking_of (content_of raw) ≡ Ok (Some (Reload sequence size)) = subst (λ (n : ℕ). asking_of (content_of raw) ≡ Ok (Some (Reload sequence n))) (sym counted) asks in
     let enough : nat_le size (length (raws ++ more)) ≡ true = le-leb size (length (raws ++ more)) (omega (arith, length-append raws more)) in
     ap (asks_with at_end (no_memory_answer_of (content_of raw)) (raws ++ more)) asks_so
-    ∙ ap (λ all. reload_by at_end all sequence (take size (raws ++ more)) ++ asked_in at_end size (raws ++ more)) enough
-    ∙ ap (λ texts. reload_by at_end true sequence texts ++ asked_in at_end size (raws ++ more)) (take-append_seam raws more)
-    ∙ ap (λ others. reload_by at_end true sequence raws ++ others) (owned_passed at_end raws more)
+    ∙ ap (λ all. reload_by at_end all sequence size (take size (raws ++ more)) ++ asked_in at_end size (raws ++ more)) enough
+    ∙ ap (λ texts. reload_by at_end true sequence size texts ++ asked_in at_end size (raws ++ more)) (take-append_seam raws more)
+    ∙ ap (λ others. reload_by at_end true sequence size raws ++ others) (owned_passed at_end raws more)
 
 -- with too few
 reload_lacks : (raw : List ℕ) (sequence count : ℕ) (raws : List (List ℕ)) → asking_of (content_of raw) ≡ Ok (Some (Reload sequence count)) → length raws < count
-    → (at_end : Bool) → asked_in at_end 0 (raw ∷ raws) ≡ reload_by at_end false sequence raws
+    → (at_end : Bool) → asked_in at_end 0 (raw ∷ raws) ≡ reload_by at_end false sequence count raws
 unfolding reload_by asks_with
 reload_lacks raw sequence count raws asks few at_end =
     ap (asks_with at_end (no_memory_answer_of (content_of raw)) raws) asks
-    ∙ ap (λ all. reload_by at_end all sequence (take count raws) ++ asked_in at_end count raws) (lt-leb count (length raws) few)
-    ∙ ap (λ others. reload_by at_end false sequence raws ++ others) (few_owned at_end count raws few)
-    ∙ append-nil (reload_by at_end false sequence raws)
+    ∙ ap (λ all. reload_by at_end all sequence count (take count raws) ++ asked_in at_end count raws) (lt-leb count (length raws) few)
+    ∙ ap (λ others. reload_by at_end false sequence count raws ++ others) (few_owned at_end count raws few)
+    ∙ append-nil (reload_by at_end false sequence count raws)
 
 -- at the end of the input it is cut short
 pub reload_cut : (raw : List ℕ) (sequence count : ℕ) (raws : List (List ℕ)) → asking_of (content_of raw) ≡ Ok (Some (Reload sequence count)) → length raws < count
@@ -144,9 +143,9 @@ still_taken ended mid_ended now_ended (raw ∷ raws) bytes mid rest l ends same 
     (l.0, l.1, l.2, l.3, l.4, l.5, still_taken l.3 mid_ended now_ended raws l.2 mid rest l.6 ends same)
 
 -- ---- the loop that takes them
--- what was handed on of the lines that were taken, unless memory ran out
+-- what was handed on of the lines that were taken, unless memory ran out for one of them
 abbrev pub IsTextOf : Option (List ℕ) → List (List ℕ) → Type 0
-IsTextOf None raws = Unit {0}
+IsTextOf None raws = 1 ≤ length raws
 IsTextOf (Some text) raws = text ≡ flat_map handed_on raws
 
 -- so many lines were taken
@@ -161,7 +160,7 @@ lines_begin None ended = tt
 lines_begin (Some bytes) ended = record { raws = []; takes = (λ still. still, refl); counted = refl; text = refl }
 
 text_with : (before after : Option (List ℕ)) (raws : List (List ℕ)) (raw kept : List ℕ) → IsTextOf before raws → HandsOn before kept after → handed_on kept ≡ handed_on raw → IsTextOf after (raws ++ raw ∷ [])
-text_with before None raws raw kept text hands same = tt
+text_with before None raws raw kept text hands same = omega (arith, length-append raws (raw ∷ []))
 text_with None (Some after) raws raw kept text hands same = absurd hands
 text_with (Some before) (Some after) raws raw kept text hands same =
     hands ∙ ap (λ t. t ++ handed_on kept) text ∙ ap (λ t. flat_map handed_on raws ++ t) (same ∙ sym (append-nil (handed_on raw)))
@@ -188,11 +187,11 @@ lines_whole None rest ended now_ended count text l = tt
 lines_whole (Some bytes) None ended now_ended count text l = absurd l
 lines_whole (Some bytes) (Some rest) ended now_ended count text l = (l.raws, l.takes, l.counted, l.text)
 
-pub lines_lost : (known rest : Option (List ℕ)) (ended now_ended : Bool) (count : ℕ) (owned : Option (List ℕ)) → KnownStep known rest (LinesUnderWay ended now_ended count owned)
+pub lines_lost : (known rest : Option (List ℕ)) (ended now_ended : Bool) (count : ℕ) → KnownStep known rest (LinesUnderWay ended now_ended count None)
     → KnownStep known rest (GivesLines ended now_ended count (Ok taken.NoMemory))
-lines_lost None rest ended now_ended count owned l = tt
-lines_lost (Some bytes) None ended now_ended count owned l = absurd l
-lines_lost (Some bytes) (Some rest) ended now_ended count owned l = (l.raws, l.takes, l.counted)
+lines_lost None rest ended now_ended count l = tt
+lines_lost (Some bytes) None ended now_ended count l = absurd l
+lines_lost (Some bytes) (Some rest) ended now_ended count l = (l.raws, l.takes, l.counted, omega (arith, l.text, l.counted))
 
 -- the input ends before that
 pub lines_cut : (known mid rest : Option (List ℕ)) (ended mid_ended now_ended : Bool) (before count : ℕ) (owned : Option (List ℕ)) → before < count

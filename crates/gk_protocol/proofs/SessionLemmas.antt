@@ -1,5 +1,5 @@
 -- A session, line by line.
-use Rattle.std.proofs.Common.{◌≡◌, ℕ, ◌+◌, Bool, true, false, cond, List, [], ◌∷◌, ◌++◌, length, append_assoc, append-nil, length-append, refl, sym, ap, subst, ◌∙◌, ⊎_elim, inl, inr, arith}
+use Rattle.std.proofs.Common.{◌≡◌, ℕ, ◌+◌, ◌≤◌, Bool, true, false, cond, List, [], ◌∷◌, ◌++◌, length, append_assoc, append-nil, length-append, refl, sym, ap, subst, ◌∙◌, ⊎_elim, inl, inr, arith, tests}
 use Rattle.std.specs.Prelude.{◌==◌, ◌⊎◌, Option, Some, None, Result, Ok, Err, option_map, filter, flat_map}
 use Rattle.std.specs.List.{list_any}
 use Rattle.std.specs.Io.KnownBytes.{Appends, Keeps, IsAtEnd, prepend_known}
@@ -24,12 +24,11 @@ use Rattle.gk_protocol.specs.declared.requests.Asking.{Asking}
 use Rattle.gk_protocol.specs.declared.requests.Asking.TheVariants.{Reload}
 use Rattle.gk_protocol.specs.declared.owned_lines.TakenLines.{TakenLines}
 use Rattle.gk_protocol.specs.declared.owned_lines.TakenLines.TheVariants as taken
-use Rattle.gk_protocol.specs.declared.sessions.Progress.{Progress}
 use Rattle.gk_protocol.specs.declared.sessions.Progress.TheVariants.{Blank, Answered, CutShort as Cut}
 use Rattle.gk_protocol.specs.Requests.{asking_of, asking_at, whole_of, registering_of, registering_by_word, no_memory_to, no_memory_answer_of, reload_without_memory}
-use Rattle.gk_protocol.specs.Session.{Asked, asked_by, asked_in, lines_owned, handed_on, requests_of, MayGet, Runs, IsWhole, IsStopped, IsCutShort, Ends, session_fault_of}
+use Rattle.gk_protocol.specs.Session.{Asked, asked_by, asked_in, lines_owned, handed_on, requests_of, MayGet, Runs, IsWhole, IsStopped, IsCutShort, IsReadAhead, Ends, session_fault_of}
 use Rattle.gk_protocol.specs.OwnedLines.{TakesLines, GivesLines}
-use Rattle.gk_protocol.specs.AnswersLine.{AnswersAlone, AnswersReload, AnswersByItself, AnswersLine}
+use Rattle.gk_protocol.specs.AnswersLine.{AnswersReload, AnswersLine}
 use Rattle.gk_protocol.proofs.OwnedLemmas.{reload_asks, reload_cut, reload_unended, taken_on, nothing_after, whole_on}
 use Rattle.gk_protocol.proofs.SessionUnderWay.{IsUnderWay, UnderWay}
 
@@ -99,6 +98,12 @@ module _ {S : Type 0} (MayAnswer : S → Request → Answer → S → Type 0) wh
     },
     appends_nothing before,
   )
+
+  -- memory may run out for some lines
+  some_owned : (count : ℕ) (answer : Option Answer) → 1 ≤ count → cond (count == 0) None answer ≡ answer
+  some_owned count answer some =
+      let e : (count == 0) ≡ false = search (arith, tests) in
+      ap (λ none. cond none None answer) e
 
   -- a reload is never blank
   never_blank : (lines : TakenLines) (reply : List ℕ) (now new : S) (sequence : ℕ) → AnswersReload MayAnswer now sequence lines Blank reply new → ⊥
@@ -233,7 +238,7 @@ module _ {S : Type 0} (MayAnswer : S → Request → Answer → S → Type 0) wh
       raws = t.raw ∷ gives.0;
       taken = group_taken gives.0 gives.1;
       whole = group_whole gives.0 gives.1;
-      one = record { request = Ok (request.Reload sequence (flat_map handed_on gives.0)); no_memory = Some (reload_without_memory sequence) };
+      one = record { request = Ok (request.Reload sequence (flat_map handed_on gives.0)); no_memory = cond (length gives.0 == 0) None (Some (reload_without_memory sequence)) };
       asks = reload_asks t.raw sequence owned gives.0 (group_asks (Ok (Some (Reload sequence owned))) asks) gives.2;
       answer = a.0;
       line = a.1;
@@ -243,11 +248,11 @@ module _ {S : Type 0} (MayAnswer : S → Request → Answer → S → Type 0) wh
       raws = t.raw ∷ gives.0;
       taken = group_taken gives.0 gives.1;
       whole = group_whole gives.0 gives.1;
-      one = record { request = Ok (request.Reload sequence (flat_map handed_on gives.0)); no_memory = Some (reload_without_memory sequence) };
+      one = record { request = Ok (request.Reload sequence (flat_map handed_on gives.0)); no_memory = cond (length gives.0 == 0) None (Some (reload_without_memory sequence)) };
       asks = reload_asks t.raw sequence owned gives.0 (group_asks (Ok (Some (Reload sequence owned))) asks) gives.2;
       answer = reload_without_memory sequence;
       line = a.0;
-      get = inr (refl, a.1);
+      get = inr (some_owned (length gives.0) (Some (reload_without_memory sequence)) (omega (arith, gives.2, gives.3)), a.1);
     }
     answered_reload reply new sequence owned asks taken.CutShort gives a = absurd a
 
@@ -477,13 +482,13 @@ module _ {S : Type 0} (MayAnswer : S → Request → Answer → S → Type 0) wh
     appends_more before after written u.0 w.1.0 u.2 w.1.2,
   )
 
-  -- a session over an input of which nothing was read ahead
+  -- a session over an input of which nothing was read ahead before
   pub with_ahead : (known remaining : Option (List ℕ)) (lines : LineReaderParts) (turns : ℕ) (ahead : List ℕ) (old now : S) (before after : Option (List ℕ)) (result : Result ℕ SessionFault)
-      → lines ≡ record { pending = []; turns = turns; ended = false }
+      → lines ≡ record { pending = []; turns = turns; ended = false } → IsReadAhead ahead
       → KnownStep (left_of lines known) remaining (λ bytes rest. (text : List ℕ) × Ends MayAnswer bytes ahead rest old now text result × Appends before after text)
-      → KnownStep known remaining (λ bytes rest. (ahead : List ℕ) × (text : List ℕ) × Ends MayAnswer bytes ahead rest old now text result × Appends before after text)
-  with_ahead None remaining lines turns ahead old now before after result fresh h = tt
-  with_ahead (Some bytes) None lines turns ahead old now before after result fresh h = absurd h
-  with_ahead (Some bytes) (Some rest) lines turns ahead old now before after result fresh h =
+      → KnownStep known remaining (λ bytes rest. (ahead : List ℕ) × (text : List ℕ) × IsReadAhead ahead × Ends MayAnswer bytes ahead rest old now text result × Appends before after text)
+  with_ahead None remaining lines turns ahead old now before after result fresh within h = tt
+  with_ahead (Some bytes) None lines turns ahead old now before after result fresh within h = absurd h
+  with_ahead (Some bytes) (Some rest) lines turns ahead old now before after result fresh within h =
       let bare : lines.pending ++ bytes ≡ bytes = ap (λ (l : LineReaderParts). l.pending ++ bytes) fresh in
-      (ahead, h.0, subst (λ (whole : List ℕ). Ends MayAnswer whole ahead rest old now h.0 result) bare h.1, h.2)
+      (ahead, h.0, within, subst (λ (whole : List ℕ). Ends MayAnswer whole ahead rest old now h.0 result) bare h.1, h.2)

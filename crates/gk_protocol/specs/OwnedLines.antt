@@ -1,5 +1,5 @@
 -- The lines that belong to a request, as they are taken off the input.
-use Rattle.std.specs.Prelude.{◌≡◌, ℕ, ◌<◌, Bool, false, List, [], ◌∷◌, ◌++◌, length, flat_map, Option, Some, None, Result, Ok, Err}
+use Rattle.std.specs.Prelude.{◌≡◌, ℕ, ◌<◌, ◌≤◌, Bool, false, List, [], ◌∷◌, ◌++◌, length, flat_map, Option, Some, None, Result, Ok, Err}
 use Rattle.gk_lines.specs.LineReader.{TakesLine, TakesPart}
 use Rattle.gk_lines.specs.declared.line_reader.ReadFault.{ReadFault}
 use Rattle.gk_protocol.specs.Session.{handed_on}
@@ -22,13 +22,15 @@ HandsOn None line (Some after) = ⊥
 HandsOn (Some before) line (Some after) = after ≡ before ++ handed_on line
 
 -- what becomes of the next so many lines. All were taken: they are handed on, or memory ran out for
--- them. Fewer were taken, and then the input ended, or a line whose end was not read was begun
+-- them, if there are some. Fewer were taken, and then the input ended, or a line whose end was not
+-- read was begun
 abbrev pub GivesLines : Bool → Bool → ℕ → Result TakenLines ReadFault → List ℕ → List ℕ → Type 0
 GivesLines ended now_ended count (Ok (Whole text)) bytes rest =
     (raws : List (List ℕ)) × TakesLines ended now_ended raws bytes rest × (length raws ≡ count)
     × (text ≡ flat_map handed_on raws)
 GivesLines ended now_ended count (Ok NoMemory) bytes rest =
     (raws : List (List ℕ)) × TakesLines ended now_ended raws bytes rest × (length raws ≡ count)
+    × (1 ≤ count)
 GivesLines ended now_ended count (Ok CutShort) bytes rest =
     (raws : List (List ℕ)) × TakesLines ended now_ended raws bytes rest × (length raws < count)
     × (rest ≡ [])

@@ -1,5 +1,5 @@
 -- What a session writes for the bytes that it reads, whoever answers.
-use Rattle.std.specs.Prelude.{◌≡◌, ◌⊎◌, ℕ, ◌+◌, Bool, true, false, nat_le, zero, suc, length, List, [], ◌∷◌, ◌++◌, take, replicate, flat_map, Option, Some, None, Result, Ok, Err, if◌then◌else◌}
+use Rattle.std.specs.Prelude.{◌≡◌, ◌⊎◌, ℕ, ◌+◌, ◌≤◌, ◌==◌, Bool, true, false, nat_le, zero, suc, length, List, [], ◌∷◌, ◌++◌, take, replicate, flat_map, Option, Some, None, Result, Ok, Err, if◌then◌else◌}
 use Rattle.gk_terms.specs.Text.{raw_lines_of, whole_lines_of, content_of, is_too_long}
 use Rattle.gk_terms.specs.declared.limits.TheConstants.{MOST_LINE_BYTES}
 use Rattle.gk_protocol.specs.declared.request_faults.RequestFault.{RequestFault}
@@ -10,6 +10,7 @@ use Rattle.gk_protocol.specs.declared.requests.Asking.{Asking}
 use Rattle.gk_protocol.specs.declared.requests.Asking.TheVariants.{Whole, Reload}
 use Rattle.gk_protocol.specs.declared.session_faults.SessionFault.{SessionFault}
 use Rattle.gk_protocol.specs.declared.session_faults.SessionFault.TheVariants.{ReadFault, WriteFault, NoMemory, TurnsSpent}
+use Rattle.gk_lines.specs.LineReader.{PIECE_BYTES}
 use Rattle.gk_lines.specs.declared.line_reader.ReadFault as read
 use Rattle.gk_lines.specs.declared.line_reader.ReadFault.TheVariants as line
 use Rattle.gk_protocol.specs.declared.answers.Answer.{Answer}
@@ -37,8 +38,8 @@ abbrev pub handed_on : List ℕ → List ℕ
 handed_on raw =
     if is_too_long (content_of raw) then replicate (MOST_LINE_BYTES + 1) 97 ++ 10 ∷ [] else raw
 
--- a request with the lines that belong to it. If they are cut short, it is a fault at the end of
--- the input, and not whole before
+-- a request with the lines that belong to it; memory may run out for them only if there are some.
+-- If they are cut short, it is a fault at the end of the input, and not whole before
 abbrev pub with_its_lines : Bool → Option Answer → ℕ → (List ℕ → Request) → List (List ℕ)
     → List Asked
 with_its_lines at_end no_memory count request raws =
@@ -46,7 +47,7 @@ with_its_lines at_end no_memory count request raws =
     then (record {
       request = Ok
           (request (flat_map handed_on (take count raws)));
-      no_memory = no_memory;
+      no_memory = if count == 0 then None else no_memory;
     }) ∷ []
     else (if at_end then (record { request = Err CutShort; no_memory = None }) ∷ [] else [])
 
@@ -79,6 +80,12 @@ requests_of bytes = asked_in true 0 (raw_lines_of bytes)
 -- the requests that stand whole in the whole lines of bytes
 abbrev pub whole_requests_of : List ℕ → List Asked
 whole_requests_of bytes = asked_in false 0 (whole_lines_of bytes)
+
+-- ---- what was read ahead
+-- bytes that were read and belong to no line that was taken: no more than one call of the reader
+-- gives
+abbrev pub IsReadAhead : List ℕ → Type 0
+IsReadAhead ahead = length ahead ≤ PIECE_BYTES
 
 -- ---- answers
 module _ {S : Type 0} (MayAnswer : S → Request → Answer → S → Type 0) where

@@ -23,4 +23,4 @@ pub use owned_lines::OwnedLines;
 pub use request_faults::{NoRequest, RequestFault};
 pub use requests::{Asking, Request};
 pub use session_faults::SessionFault;
-pub use sessions::{session, session_from};
+pub use sessions::{let_go, session, session_from};

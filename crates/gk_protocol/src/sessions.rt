@@ -7,7 +7,7 @@ ghost use Rattle.gk_lines.specs.LineReader.{left_of, work_left, AtEndIfEnded, Co
 ghost use Rattle.gk_terms.specs.Text.{content_of};
 ghost use Rattle.gk_protocol.specs.Answers.{line_of};
 ghost use Rattle.gk_protocol.specs.Requests.{answer_of_none};
-ghost use Rattle.gk_protocol.specs.Session.{Ends, is_read_fault, is_write_fault};
+ghost use Rattle.gk_protocol.specs.Session.{IsReadAhead, Ends, is_read_fault, is_write_fault};
 ghost use Rattle.gk_protocol.specs.AnswersLine.{AnswersLine, AnswersReload};
 
 use crate::answer_lines::show;
@@ -38,8 +38,9 @@ pub fn session<R: Source, W: Sink, A: Answerer>(
     turns: u32,
 ) -> Result<u64, SessionFault>
     // What was written, by how the session ended, however the reader cut the bytes into pieces.
+    // What was read ahead of the lines that were taken came in one call.
     ensures written { KnownStep (R.remaining reader.old) (R.remaining reader.new) (λ bytes rest.
-        (ahead : List ℕ) × (text : List ℕ)
+        (ahead : List ℕ) × (text : List ℕ) × IsReadAhead ahead
         × Ends A.may_answer bytes ahead rest answerer.old answerer.new text result
         × Appends (W.contents writer.old) (W.contents writer.new) text) }
     ensures end { OnOk result (IsAtEnd (R.remaining reader.new)) }
@@ -59,7 +60,9 @@ pub fn session<R: Source, W: Sink, A: Answerer>(
         → R.calls reader.old + turns < 2 ^ 64 → R.calls reader.new ≡ R.calls reader.old + turns) }
 {
     let mut lines = LineReader::new(turns);
-    session_from(alloc, &mut lines, reader, writer, answerer)
+    let result = session_from(alloc, &mut lines, reader, writer, answerer);
+    let_go(lines);
+    result
 }
 
 /// The same over an input of which some lines were taken: `lines` is what was read ahead of the
@@ -78,6 +81,7 @@ pub fn session_from<R: Source, W: Sink, A: Answerer>(
         × Ends A.may_answer bytes lines.new.pending rest answerer.old answerer.new text result
         × Appends (W.contents writer.old) (W.contents writer.new) text) }
     ensures end { OnOk result (IsAtEnd (R.remaining reader.new)) }
+    ensures ended { AtEndIfEnded lines.new (R.remaining reader.new) }
     ensures buffered { IfErr result (λ fault. fault ≢ SessionFault.NoMemory) }
     ensures reader_noted { NotesIf is_read_fault (R.has_failed reader.old)
         (R.has_failed reader.new) result }
@@ -108,6 +112,11 @@ pub fn session_from<R: Source, W: Sink, A: Answerer>(
     }
     Ok(replies)
 }
+
+/// Lets a reader of lines go. What it had read and not yet taken came in one call of its reader.
+pub fn let_go(lines: LineReader)
+    ensures { IsReadAhead lines.pending }
+{}
 
 /// How far a line takes the session. The answer itself is not in it, since a large value is copied
 /// each time that it is handed on: its line is made in the reply at once.

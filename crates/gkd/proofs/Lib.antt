@@ -1,3 +1,4 @@
+pub mod MemoryLemmas
 pub mod OutputLemmas
 pub mod Rows
 pub mod RunLemmas

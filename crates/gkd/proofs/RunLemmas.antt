@@ -2,26 +2,23 @@
 use Rattle.gk_lines.specs.LineReader.{CountsTurns}
 use Rattle.gk_lines.proofs.PendingLemmas.{turns_then}
 use Rattle.std.proofs.Common.{◌≡◌, ℕ, ◌+◌, ◌^◌, ◌<◌, ◌≤◌, Bool, true, false, cond, List, [], ◌++◌, refl, sym, ap, subst, ◌∙◌, inl, inr, arith}
-use Rattle.std.specs.Prelude.{◌⊎◌, Option, Some, None, Result, Ok, Err}
+use Rattle.std.specs.Prelude.{Option, Some, None, Result, Ok, Err}
 use Rattle.std.specs.Io.KnownBytes.{Appends}
 use Rattle.gk_lines.specs.Streams.{KnownStep}
 use Rattle.gk_lines.specs.LineReader.{LineReaderParts, left_of}
-use Rattle.gk_lines.specs.declared.line_reader.ReadFault.{ReadFault}
-use Rattle.gk_lines.specs.declared.line_reader.ReadFault.TheVariants as line
 use Rattle.gk_lines.proofs.StreamLemmas.{appends_nothing}
 use Rattle.command_reader.specs.Configuration.{Configuration}
-use Rattle.command_reader.specs.declared.faults.LineFault.{LineFault}
 use Rattle.gk_protocol.specs.declared.requests.Request.{Request}
 use Rattle.gk_protocol.specs.declared.answers.Answer.{Answer}
 use Rattle.gk_protocol.specs.declared.session_faults.SessionFault.{SessionFault}
-use Rattle.gk_protocol.specs.Session.{Ends, session_fault_of, is_write_fault}
+use Rattle.gk_protocol.specs.Session.{IsReadAhead, Ends}
 use Rattle.configuration_reader.specs.declared.configuration.Until.TheVariants.{EndLine}
 use Rattle.configuration_reader.specs.declared.configuration.ConfigurationFault.{ConfigurationFault}
 use Rattle.configuration_reader.specs.declared.configuration.ConfigurationFault.TheVariants.{Line, Read}
 use Rattle.gkd.specs.declared.run.RunFault.{RunFault}
-use Rattle.gkd.specs.declared.run.RunFault.TheVariants.{BadLimits, Config, Session, NoMemory}
-use Rattle.configuration_reader.specs.Configuration.{configuration_of, rest_of, IsUnended, MayGive, IfRead}
-use Rattle.gkd.specs.Run.{Serves, StopsBefore, RunEnds, ServesUnder, run_fault_of}
+use Rattle.gkd.specs.declared.run.RunFault.TheVariants.{BadLimits, Session, NoMemory}
+use Rattle.configuration_reader.specs.Configuration.{IsUnended, MayGive, IfRead}
+use Rattle.gkd.specs.Run.{Serves, RunEnds, ServesUnder, run_fault_of}
 
 -- the result of a session, as one of its run
 abbrev pub run_result_of : Result ℕ SessionFault → Result ℕ RunFault
@@ -42,13 +39,13 @@ module _ {S : Type 0} (MayAnswer : S → Request → Answer → S → Type 0) (O
       (configuration : Configuration) (first last : S) (ahead : List ℕ) (result : Result ℕ SessionFault)
       → fresh ≡ record { pending = []; turns = turns; ended = false }
       → KnownStep (left_of fresh known) (left_of lines mid) (λ bytes rest. MayGive EndLine bytes rest (Ok configuration))
-      → Opens configuration first
+      → Opens configuration first → IsReadAhead ahead
       → KnownStep (left_of lines mid) new (λ bytes rest. (text : List ℕ) × Ends MayAnswer bytes ahead rest first last text result × Appends before after text)
       → KnownStep known new (Wrote before after (run_result_of result))
-  run_serves None fresh lines turns mid new before after configuration first last ahead result is c o s = tt
-  run_serves (Some bytes) fresh lines turns None new before after configuration first last ahead result is c o s = absurd c
-  run_serves (Some bytes) fresh lines turns (Some rest) None before after configuration first last ahead result is c o s = absurd s
-  run_serves (Some bytes) fresh lines turns (Some rest) (Some next) before after configuration first last ahead result is c o s =
+  run_serves None fresh lines turns mid new before after configuration first last ahead result is c o within s = tt
+  run_serves (Some bytes) fresh lines turns None new before after configuration first last ahead result is c o within s = absurd c
+  run_serves (Some bytes) fresh lines turns (Some rest) None before after configuration first last ahead result is c o within s = absurd s
+  run_serves (Some bytes) fresh lines turns (Some rest) (Some next) before after configuration first last ahead result is c o within s =
       let bare : fresh.pending ++ bytes ≡ bytes = ap (λ (l : LineReaderParts). l.pending ++ bytes) is in
       let given : MayGive EndLine bytes (lines.pending ++ rest) (Ok configuration) = subst (λ (b : List ℕ). MayGive EndLine b (lines.pending ++ rest) (Ok configuration)) bare c in (
         s.0,
@@ -59,6 +56,7 @@ module _ {S : Type 0} (MayAnswer : S → Request → Answer → S → Type 0) (O
           opens = o;
           last = last;
           ahead = ahead;
+          in_one_call = within;
           ends = subst (λ (b : List ℕ). Ends MayAnswer b ahead next first last s.0 result) given.1 s.1;
         }),
         s.2,
@@ -111,20 +109,20 @@ module _ {S : Type 0} (MayAnswer : S → Request → Answer → S → Type 0) (O
 module _ {S : Type 0} (MayAnswer : S → Request → Answer → S → Type 0) where
   -- a session under a configuration that was read before
   pub under_fails : (known new before after : Option (List ℕ)) (first begun last : S) (fault : SessionFault) → first ≡ begun
-      → KnownStep known new (λ bytes rest. (ahead : List ℕ) × (text : List ℕ) × Ends MayAnswer bytes ahead rest first last text (Err fault) × Appends before after text)
+      → KnownStep known new (λ bytes rest. (ahead : List ℕ) × (text : List ℕ) × IsReadAhead ahead × Ends MayAnswer bytes ahead rest first last text (Err fault) × Appends before after text)
       → KnownStep known new (λ bytes rest. (text : List ℕ) × ServesUnder MayAnswer begun bytes rest text (Err (Session fault)) × Appends before after text)
   under_fails None new before after first begun last fault same s = tt
   under_fails (Some bytes) None before after first begun last fault same s = absurd s
   under_fails (Some bytes) (Some rest) before after first begun last fault same s =
-      (s.1, (last, s.0, subst (λ (b : S). Ends MayAnswer bytes s.0 rest b last s.1 (Err fault)) same s.2), s.3)
+      (s.1, (last, s.0, s.2, subst (λ (b : S). Ends MayAnswer bytes s.0 rest b last s.1 (Err fault)) same s.3), s.4)
 
   pub under_serves : (known new before after : Option (List ℕ)) (first begun last : S) (count : ℕ) → first ≡ begun
-      → KnownStep known new (λ bytes rest. (ahead : List ℕ) × (text : List ℕ) × Ends MayAnswer bytes ahead rest first last text (Ok count) × Appends before after text)
+      → KnownStep known new (λ bytes rest. (ahead : List ℕ) × (text : List ℕ) × IsReadAhead ahead × Ends MayAnswer bytes ahead rest first last text (Ok count) × Appends before after text)
       → KnownStep known new (λ bytes rest. (text : List ℕ) × ServesUnder MayAnswer begun bytes rest text (Ok count) × Appends before after text)
   under_serves None new before after first begun last count same s = tt
   under_serves (Some bytes) None before after first begun last count same s = absurd s
   under_serves (Some bytes) (Some rest) before after first begun last count same s =
-      (s.1, (last, s.0, subst (λ (b : S). Ends MayAnswer bytes s.0 rest b last s.1 (Ok count)) same s.2), s.3)
+      (s.1, (last, s.0, s.2, subst (λ (b : S). Ends MayAnswer bytes s.0 rest b last s.1 (Ok count)) same s.3), s.4)
 
 -- a note of the session is one of the run
 pub noted_then : (old mid new its : Bool) → mid ≡ old → new ≡ cond its true mid → new ≡ cond its true old

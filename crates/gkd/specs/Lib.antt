@@ -1,3 +1,4 @@
+pub mod Figures
 pub mod Output
 pub mod Rows
 pub mod Run

@@ -1,12 +1,12 @@
 -- What a run writes if memory lasts, computed.
-use Rattle.std.specs.Prelude.{◌≡◌, ℕ, List, [], ◌∷◌, ◌++◌, Result, Ok, Err, flat_map}
+use Rattle.std.specs.Prelude.{◌≡◌, ◌≢◌, ℕ, List, [], ◌∷◌, ◌++◌, Option, Some, Result, Ok, Err, option_map, flat_map}
 use Rattle.command_reader.specs.declared.faults.LineFault.{LineFault}
 use Rattle.command_reader.specs.Configuration.{Configuration}
 use Rattle.command_reader.specs.Reading.{reading_in}
 use Rattle.gk_terms.specs.Text.{lines_of}
 use Rattle.admission.specs.declared.limits.Limits.{Limits}
 use Rattle.admission.specs.Events.{PlainEvent, Registering, Unregistering, Admitting, Changing, Releasing, Reloading}
-use Rattle.admission.specs.Step.{step}
+use Rattle.admission.specs.Step.{step, no_memory_reply_of}
 use Rattle.admission.specs.History.{CoreParts, state_of, core_after}
 use Rattle.gk_protocol.specs.declared.request_faults.RequestFault.{RequestFault}
 use Rattle.gk_protocol.specs.declared.requests.Request.{Request}
@@ -14,6 +14,7 @@ use Rattle.gk_protocol.specs.declared.requests.Request.TheVariants.{Register, Un
 use Rattle.gk_protocol.specs.declared.answers.Answer.{Answer}
 use Rattle.gk_protocol.specs.declared.answers.Answer.TheVariants.{Reply, Misconfigured, Malformed}
 use Rattle.gk_protocol.specs.Answers.{line_of}
+use Rattle.gk_protocol.specs.Requests.{reload_without_memory}
 use Rattle.gk_protocol.specs.CoreAnswers.{MayAnswer}
 use Rattle.gk_protocol.specs.Session.{Asked, requests_of, Runs}
 use Rattle.configuration_reader.specs.declared.configuration.Until.TheVariants.{EndLine}
@@ -87,6 +88,54 @@ OutputIsRun =
     × ((last : CoreParts)
     × Runs MayAnswer (opened configuration limits)
     (requests_of (rest_of EndLine bytes)) text last)
+
+-- ---- if memory lasts
+-- the answer to a request that says that memory ran out for it, if there is one
+abbrev pub without_memory : Request → Option Answer
+without_memory (Register sequence endpoint) =
+    option_map (Reply sequence) (no_memory_reply_of (Registering endpoint))
+without_memory (Unregister sequence id) =
+    option_map (Reply sequence) (no_memory_reply_of (Unregistering id))
+without_memory (Admit sequence id call digits units) =
+    option_map (Reply sequence) (no_memory_reply_of (Admitting id call digits units))
+without_memory (Change sequence id call units) =
+    option_map (Reply sequence) (no_memory_reply_of (Changing id call units))
+without_memory (Release sequence id call) =
+    option_map (Reply sequence) (no_memory_reply_of (Releasing id call))
+without_memory (Reload sequence lines) = Some (reload_without_memory sequence)
+
+-- a core's answer to a request, which does not say that memory ran out for it; or the fault of a
+-- line that is none
+abbrev pub AnsweredInMemory : CoreParts → Result Request RequestFault → Answer → CoreParts → Type 0
+AnsweredInMemory old (Ok request) answer new =
+    MayAnswer old request answer new × (without_memory request ≢ Some answer)
+AnsweredInMemory old (Err fault) answer new = (answer ≡ Malformed fault) × (new ≡ old)
+
+-- these requests may get these lines as replies, one after another, and memory runs out for none
+abbrev pub RunsInMemory : CoreParts → List Asked → List ℕ → CoreParts → Type 0
+RunsInMemory old [] text new = (text ≡ []) × (new ≡ old)
+RunsInMemory old (asked ∷ others) text new =
+    (answer : Answer) × (rest : List ℕ) × (mid : CoreParts)
+    × AnsweredInMemory old asked.request answer mid × RunsInMemory mid others rest new
+    × (text ≡ line_of answer ++ rest)
+
+-- the requests after an accepted configuration may get just these replies then
+abbrev pub OutputIsRunInMemory : Type 0
+OutputIsRunInMemory =
+    (limits : Limits) (bytes text : List ℕ) → output_of limits bytes ≡ Ok text
+    → (configuration : Configuration)
+    × (reading_in (configuration_of EndLine bytes) ≡ Ok configuration)
+    × ((last : CoreParts)
+    × RunsInMemory (opened configuration limits)
+    (requests_of (rest_of EndLine bytes)) text last)
+
+-- and they may get no others
+abbrev pub OutputIsOnlyRun : Type 0
+OutputIsOnlyRun =
+    (limits : Limits) (bytes text : List ℕ) (configuration : Configuration) (last : CoreParts)
+    → reading_in (configuration_of EndLine bytes) ≡ Ok configuration
+    → RunsInMemory (opened configuration limits) (requests_of (rest_of EndLine bytes)) text last
+    → output_of limits bytes ≡ Ok text
 
 -- ---- worked rows
 -- lines as bytes, each with its line feed

@@ -11,7 +11,7 @@ use Rattle.gk_lines.specs.declared.line_reader.ReadFault.{ReadFault}
 use Rattle.gk_protocol.specs.declared.requests.Request.{Request}
 use Rattle.gk_protocol.specs.declared.answers.Answer.{Answer}
 use Rattle.gk_protocol.specs.declared.session_faults.SessionFault.{SessionFault}
-use Rattle.gk_protocol.specs.Session.{Ends, is_read_fault, is_write_fault, session_fault_of}
+use Rattle.gk_protocol.specs.Session.{IsReadAhead, Ends, is_read_fault, is_write_fault, session_fault_of}
 use Rattle.configuration_reader.specs.declared.configuration.Until.TheVariants.{EndLine}
 use Rattle.configuration_reader.specs.declared.configuration.ConfigurationFault.{ConfigurationFault}
 use Rattle.configuration_reader.specs.declared.configuration.ConfigurationFault.TheVariants.{Line, Read}
@@ -34,7 +34,8 @@ module _ {S : Type 0} (MayAnswer : S → Request → Answer → S → Type 0)
     (Opens : Configuration → S → Type 0) where
   -- the configuration at the front of these bytes was accepted, and the bytes after it were served
   -- as a session: it began in a state that the configuration opens, wrote this text, and ended with
-  -- this result. `ahead` are the bytes that were read and belong to no line that was taken
+  -- this result. `ahead` are the bytes that were read and belong to no line that was taken, which
+  -- came in one call of the reader
   pub record Serves (bytes rest : List ℕ) (text : List ℕ)
       (result : Result ℕ SessionFault) : Type 0 where
     pub configuration : Configuration
@@ -43,6 +44,7 @@ module _ {S : Type 0} (MayAnswer : S → Request → Answer → S → Type 0)
     pub opens : Opens configuration first
     pub last : S
     pub ahead : List ℕ
+    pub in_one_call : IsReadAhead ahead
     pub ends : Ends MayAnswer (rest_of EndLine bytes) ahead rest first last text result
 
   -- the reader failed, or its turns were spent, before the configuration was read to its end:
@@ -109,9 +111,11 @@ module _ {S : Type 0} (MayAnswer : S → Request → Answer → S → Type 0) wh
   -- or written
   abbrev pub ServesUnder : S → List ℕ → List ℕ → List ℕ → Result ℕ RunFault → Type 0
   ServesUnder first bytes rest text (Ok count) =
-      (last : S) × (ahead : List ℕ) × Ends MayAnswer bytes ahead rest first last text (Ok count)
+      (last : S) × (ahead : List ℕ) × IsReadAhead ahead
+      × Ends MayAnswer bytes ahead rest first last text (Ok count)
   ServesUnder first bytes rest text (Err (Session fault)) =
-      (last : S) × (ahead : List ℕ) × Ends MayAnswer bytes ahead rest first last text (Err fault)
+      (last : S) × (ahead : List ℕ) × IsReadAhead ahead
+      × Ends MayAnswer bytes ahead rest first last text (Err fault)
   ServesUnder first bytes rest text (Err BadLimits) = (text ≡ []) × (rest ≡ bytes)
   ServesUnder first bytes rest text (Err NoMemory) = (text ≡ []) × (rest ≡ bytes)
   ServesUnder first bytes rest text (Err (Config fault)) = ⊥

@@ -1,7 +1,9 @@
-//! Laws of the definitions: what they compute to, and that this is a run.
+//! Laws of the definitions: what they compute to, that this is a run, the only one if memory lasts,
+//! and with which figures.
 
 ghost use Rattle.std.specs.Prelude.{◌≡◌};
-ghost use Rattle.gkd.specs.Output.{OutputIsRun};
+ghost use Rattle.gkd.specs.Figures.{AreStated};
+ghost use Rattle.gkd.specs.Output.{OutputIsRun, OutputIsRunInMemory, OutputIsOnlyRun};
 ghost use Rattle.gkd.specs.Rows as Rows;
 
 use admission::STATED_LIMITS;
@@ -10,6 +12,18 @@ use admission::STATED_LIMITS;
 /// answer so.
 pub fn output_is_run()
     ensures { OutputIsRun }
+{}
+
+/// If memory runs out for no request, that is still a run, and no other output is.
+pub fn output_is_only_run()
+    ensures run { OutputIsRunInMemory }
+    ensures only { OutputIsOnlyRun }
+{}
+
+/// The figures of the definitions are those that the documents state; a definition takes each from
+/// the code, so that a wrong one there would be a wrong one here.
+pub fn figures_are_stated()
+    ensures { AreStated }
 {}
 
 /// Worked rows, computed on the definitions alone, from the bytes of configuration and requests to

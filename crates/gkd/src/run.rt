@@ -15,7 +15,7 @@ use configuration_reader::configuration::{
     ConfigurationFault, MOST_TURNS, Until, read_configuration,
 };
 use gk_lines::{LineReader, Sink, Source};
-use gk_protocol::{SessionFault, session, session_from};
+use gk_protocol::{SessionFault, let_go, session, session_from};
 use std::alloc::{AllocError, AllocFailed, Global};
 use std::sync::Arc;
 use thiserror::Error;
@@ -153,7 +153,9 @@ pub fn run_over<R: Source, W: Sink>(
     let mut lines = LineReader::new(MOST_TURNS);
     let commands = read_configuration(alloc, &mut lines, reader, Until::EndLine)?;
     let mut core = opened(alloc, commands, limits)?;
-    let replies = session_from(alloc, &mut lines, reader, writer, &mut core)?;
+    let result = session_from(alloc, &mut lines, reader, writer, &mut core);
+    let_go(lines);
+    let replies = result?;
     Ok(replies)
 }
 

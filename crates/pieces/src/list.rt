@@ -98,7 +98,8 @@ impl<T: Drop> Pieces<T> {
     }
 
     /// Adds an empty piece. `AllocError` if memory runs out, or there are `MOST_PIECES`; then
-    /// nothing changes.
+    /// nothing changes. In a function of its own, since few calls of `reserve` need it.
+    #[inline(never)]
     fn add_piece(&mut self) -> Result<(), AllocError>
         ensures ok { OnOk result (self.new ≡ record self.old { room = self.old.room + 1024 }) }
         ensures err { OnErr result (self.new ≡ self.old) }

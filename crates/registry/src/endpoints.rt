@@ -1,6 +1,6 @@
 //! Endpoints as they register.
 
-ghost use Rattle.std.specs.Prelude.{◌≡◌, ◌≤◌, [], length, IfOk};
+ghost use Rattle.std.specs.Prelude.{◌≡◌, ◌≤◌, [], true, length, IfOk, IsOk};
 ghost use Rattle.gk_terms.specs.Outcome.{ChangesUnlessMemory};
 ghost use Rattle.registry.specs.declared.faults.RegistryFault.TheVariants.{NoMemory};
 ghost use Rattle.registry.specs.Endpoint.{has_alias, has_technology, with_alias, with_technology};
@@ -98,12 +98,13 @@ impl Endpoint {
         })
     }
 
-    /// Adds an alias after the others. Nothing changes if the endpoint has it already. A
-    /// seventeenth is `TooMany`. If memory runs out it is `NoMemory`. After an error nothing has
-    /// changed.
+    /// Adds an alias after the others. Nothing changes if the endpoint has it already; that takes
+    /// no memory. A seventeenth is `TooMany`. If memory runs out it is `NoMemory`. After an error
+    /// nothing has changed.
     pub fn add_alias(&mut self, alias: Dialled) -> Result<(), RegistryFault>
-        ensures { ChangesUnlessMemory NoMemory self.old self.new (with_alias self.old alias)
-            result }
+        ensures changes { ChangesUnlessMemory NoMemory self.old self.new
+            (with_alias self.old alias) result }
+        ensures again { has_alias self.old alias ≡ true → IsOk result }
     {
         if self.has_alias(&alias) {
             return Ok(());
@@ -117,11 +118,13 @@ impl Endpoint {
         }
     }
 
-    /// Adds a technology prefix after the others. Nothing changes if the endpoint has it already. A
-    /// ninth is `TooMany`. If memory runs out it is `NoMemory`. After an error nothing has changed.
+    /// Adds a technology prefix after the others. Nothing changes if the endpoint has it already;
+    /// that takes no memory. A ninth is `TooMany`. If memory runs out it is `NoMemory`. After an
+    /// error nothing has changed.
     pub fn add_technology(&mut self, prefix: TechPrefix) -> Result<(), RegistryFault>
-        ensures { ChangesUnlessMemory NoMemory self.old self.new (with_technology self.old prefix)
-            result }
+        ensures changes { ChangesUnlessMemory NoMemory self.old self.new
+            (with_technology self.old prefix) result }
+        ensures again { has_technology self.old prefix ≡ true → IsOk result }
     {
         if self.has_technology(&prefix) {
             return Ok(());

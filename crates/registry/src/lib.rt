@@ -7,6 +7,7 @@ mod endpoint_number;
 pub mod endpoints;
 pub mod faults;
 mod gateway_numbers;
+mod held_endpoint;
 mod keeping;
 pub mod laws;
 mod listing;

@@ -12,6 +12,7 @@ ghost use Rattle.registry.specs.Roll.{IsNextFrom, IsNumberFor, IsPut, IsSetAt, I
 
 use crate::endpoint_number::EndpointNumber;
 use crate::endpoints::Endpoint;
+use crate::held_endpoint::{HeldEndpoint, endpoint_in};
 use crate::roll::Roll;
 use crate::served::Served;
 use gk_terms::{Name, TechPrefix};
@@ -117,7 +118,7 @@ impl Listing {
     }
 
     /// The endpoints, in order.
-    pub fn endpoints(&self) -> Values<'_, EndpointNumber, Endpoint>
+    pub fn endpoints(&self) -> Values<'_, EndpointNumber, HeldEndpoint>
         ensures value { result ≡ values_of self.now.entries }
         ensures fits { length self.now.entries < 2 ^ 63 }
     {
@@ -126,7 +127,7 @@ impl Listing {
 
     /// Puts the endpoint in the place of the one with its ID, which it gives, or else at the end.
     /// If memory runs out nothing has changed.
-    pub fn insert(&mut self, endpoint: Endpoint) -> Result<Option<Endpoint>, AllocError>
+    pub fn insert(&mut self, endpoint: Endpoint) -> Result<Option<HeldEndpoint>, AllocError>
         requires room { self.old.next + 1 < 2 ^ 32 }
         ensures ok { OnOk result
             (IsPut (by_id self.old.entries) (by_id self.new.entries) endpoint) }
@@ -143,8 +144,8 @@ impl Listing {
         }
         match self.roll.insert(number, endpoint) {
             Ok(replaced) => {
-                self.served
-                    .leave(number, replaced.as_ref(), self.roll.at_number(number));
+                let gone = endpoint_in(replaced.as_ref());
+                self.served.leave(number, gone, self.roll.at_number(number));
                 Ok(replaced)
             }
             Err(endpoint) => {
@@ -156,7 +157,7 @@ impl Listing {
     }
 
     /// Takes out the endpoint with this ID, if there is one. Takes no memory.
-    pub fn remove(&mut self, id: &Name) -> Option<Endpoint>
+    pub fn remove(&mut self, id: &Name) -> Option<HeldEndpoint>
         ensures removed { result ≡ kept_endpoint_of (by_id self.old.entries) id.now }
         ensures entries { IsTakenOut (by_id self.old.entries) (by_id self.new.entries) id.now }
         ensures numbered { (number : _) → IsNumberFor self.old id.now number
@@ -165,7 +166,8 @@ impl Listing {
     {
         let number = self.roll.number_for(id);
         let removed = self.roll.remove(id);
-        self.served.leave(number, removed.as_ref(), None);
+        self.served
+            .leave(number, endpoint_in(removed.as_ref()), None);
         removed
     }
 }

@@ -142,7 +142,7 @@ impl Registry {
         ensures given { IfOk result (λ e. endpoint_of self.old.endpoints id.now ≡ Some e) }
     {
         match self.shelf.remove(id) {
-            Some(endpoint) => Ok(endpoint),
+            Some(held) => Ok(held.into_endpoint()),
             None => Err(RegistryFault::NotRegistered),
         }
     }

@@ -11,6 +11,7 @@ ghost use Rattle.registry.specs.Roll.{IsNextFrom, IsNumberFor, IsPut, IsTakenOut
 
 use crate::endpoint_number::EndpointNumber;
 use crate::endpoints::Endpoint;
+use crate::held_endpoint::{HeldEndpoint, endpoint_in};
 use gk_terms::Name;
 use std::alloc::Global;
 use std::collections::btree_map::Values;
@@ -21,9 +22,10 @@ use std::marker::Model;
 /// long as its ID is there. A contract sees the endpoints by number, and the next number.
 #[derive(Drop)]
 pub struct Roll {
-    endpoints: BTreeMap<EndpointNumber, Endpoint>,
+    endpoints: BTreeMap<EndpointNumber, HeldEndpoint>,
     numbers: HashMap<Name, u32>,
     next: u32,
+    alloc: Global,
 }
 
 impl Model for Roll {
@@ -45,6 +47,7 @@ impl Roll {
             endpoints: BTreeMap::new(alloc),
             numbers: HashMap::new(alloc),
             next: 0,
+            alloc,
         }
     }
 
@@ -101,14 +104,14 @@ impl Roll {
         ensures { option_copied result ≡ kept_endpoint_of (by_id self.now.entries) id.now }
     {
         let number = *self.numbers.get(id)?;
-        self.endpoints.get(&EndpointNumber { number })
+        endpoint_in(self.endpoints.get(&EndpointNumber { number }))
     }
 
     /// The endpoint of this number.
     pub fn at_number(&self, number: u32) -> Option<&Endpoint>
         ensures { option_copied result ≡ at_number self.now.entries number }
     {
-        self.endpoints.get(&EndpointNumber { number })
+        endpoint_in(self.endpoints.get(&EndpointNumber { number }))
     }
 
     /// The endpoint of the least number from this one on, with that number.
@@ -120,12 +123,12 @@ impl Roll {
         // So it is known that no number in use is the greatest u32.
         let _next = self.next;
         let from = EndpointNumber { number: from };
-        let (number, endpoint) = self.endpoints.range(from..).next()?;
-        Some((number.number, endpoint))
+        let (number, held) = self.endpoints.range(from..).next()?;
+        Some((number.number, held.endpoint()))
     }
 
     /// The endpoints, in order.
-    pub fn endpoints(&self) -> Values<'_, EndpointNumber, Endpoint>
+    pub fn endpoints(&self) -> Values<'_, EndpointNumber, HeldEndpoint>
         ensures value { result ≡ values_of self.now.entries }
         ensures fits { length self.now.entries < 2 ^ 63 }
     {
@@ -134,7 +137,11 @@ impl Roll {
 
     /// Puts the endpoint under the number for its ID, in the place of the one that has that ID,
     /// which it gives. If memory runs out it gives the endpoint itself, and nothing has changed.
-    pub fn insert(&mut self, number: u32, endpoint: Endpoint) -> Result<Option<Endpoint>, Endpoint>
+    pub fn insert(
+        &mut self,
+        number: u32,
+        endpoint: Endpoint,
+    ) -> Result<Option<HeldEndpoint>, Endpoint>
         requires number { IsNumberFor self.old endpoint.id number }
         requires room { number + 1 < 2 ^ 32 }
         ensures ok { OnOk result
@@ -150,7 +157,8 @@ impl Roll {
         if self.numbers.reserve(1).is_err() {
             return Err(endpoint);
         }
-        match self.endpoints.insert(EndpointNumber { number }, endpoint) {
+        let held = HeldEndpoint::new(self.alloc, endpoint)?;
+        match self.endpoints.insert(EndpointNumber { number }, held) {
             Ok(replaced) => {
                 let numbered: Result<_, _> = self.numbers.insert(id, number);
                 let _ = numbered.unwrap();
@@ -159,12 +167,12 @@ impl Roll {
                 }
                 Ok(replaced)
             }
-            Err(failed) => Err(failed.value.1),
+            Err(failed) => Err(failed.value.1.into_endpoint()),
         }
     }
 
     /// Takes out the endpoint with this ID, if there is one. Takes no memory.
-    pub fn remove(&mut self, id: &Name) -> Option<Endpoint>
+    pub fn remove(&mut self, id: &Name) -> Option<HeldEndpoint>
         ensures removed { result ≡ kept_endpoint_of (by_id self.old.entries) id.now }
         ensures entries { IsTakenOut (by_id self.old.entries) (by_id self.new.entries) id.now }
         ensures numbered { (number : _) → IsNumberFor self.old id.now number

@@ -15,6 +15,7 @@ ghost use Rattle.registry.specs.Roll.{IsNextFrom, IsNumberFor, IsSetAt, NoneFrom
 
 use crate::choosing;
 use crate::endpoints::Endpoint;
+use crate::held_endpoint::{HeldEndpoint, endpoint_in};
 use crate::listing::Listing;
 use gk_terms::{Dialled, Name, TechPrefix};
 use indexmap::IndexMap;
@@ -72,7 +73,7 @@ impl Shelf {
     pub fn at(&self, place: usize) -> Option<&Endpoint>
         ensures { option_copied result ≡ slice_get (endpoints_of self.now) place }
     {
-        self.listing.endpoints().nth(place)
+        endpoint_in(self.listing.endpoints().nth(place))
     }
 
     /// The endpoint with this ID.
@@ -187,13 +188,13 @@ impl Shelf {
         self.owners.reserve(endpoint.aliases().len())?;
         let id = *endpoint.id();
         let replaced = self.listing.insert(endpoint)?;
-        forget_aliases_of(&mut self.owners, replaced.as_ref());
+        forget_aliases_of(&mut self.owners, endpoint_in(replaced.as_ref()));
         lead_aliases_of(&mut self.owners, self.listing.get(&id), &id);
         Ok(())
     }
 
     /// Takes out the endpoint with this ID, if there is one. Takes no memory.
-    pub fn remove(&mut self, id: &Name) -> Option<Endpoint>
+    pub fn remove(&mut self, id: &Name) -> Option<HeldEndpoint>
         ensures without { endpoints_of self.new
             ≡ without_endpoint (endpoints_of self.old) id.now }
         ensures removed { result ≡ endpoint_of (endpoints_of self.old) id.now }
@@ -202,7 +203,7 @@ impl Shelf {
         ensures next { self.new.next ≡ self.old.next }
     {
         let removed = self.listing.remove(id);
-        forget_aliases_of(&mut self.owners, removed.as_ref());
+        forget_aliases_of(&mut self.owners, endpoint_in(removed.as_ref()));
         removed
     }
 
@@ -212,8 +213,8 @@ impl Shelf {
         ensures { IfOk result (λ copy. endpoints_of copy ≡ endpoints_of self.now) }
     {
         let mut copy = Shelf::new(alloc);
-        for endpoint in self.listing.endpoints() {
-            copy.put_numbered(endpoint.copy()?)?;
+        for held in self.listing.endpoints() {
+            copy.put_numbered(held.endpoint().copy()?)?;
         }
         Ok(copy)
     }

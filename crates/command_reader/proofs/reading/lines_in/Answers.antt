@@ -6,7 +6,7 @@ use Rattle.command_reader.proofs.ReadOnLemmas.{one_line, refused_line, no_more_l
 use Rattle.command_reader.proofs.reading.lines_in.Goals as goal
 
 pub loop-line-init : goal.loop-line-init
-loop-line-init c = rw (c.into_iter-line-iterator.ensures.into_iter_gives, c.of-line-items.ensures, c.new-draft.ensures) (λ end said. said)
+loop-line-init c = rw (c.into_iter-line-iterator.ensures.into_iter_gives, c.of-line-items.ensures, c.with_room-draft.ensures) (λ end said. said)
 
 pub returns-in_err-draft : goal.returns-in_err-draft
 returns-in_err-draft c =

@@ -9,7 +9,7 @@ use Rattle.std.specs.Prelude.{Ok, Err}
 
 pub returns-clause-written : goal.returns-clause-written
 returns-clause-written g c =
-    run_serves MayAnswer (OpensWithin c.args.limits) _ c.new-lines.result c.read_configuration.new.lines _ _ _ _ _ _ _ _ _ (Ok c.in_ok-replies.replies) c.new-lines.ensures c.in_ok-commands.ensures.read c.in_ok-core.ensures.opened c.in_ok-replies.ensures.written
+    run_serves MayAnswer (OpensWithin c.args.limits) _ c.new-lines.result c.read_configuration.new.lines _ _ _ _ _ _ _ _ _ (Ok c.in_ok-replies.replies) c.new-lines.ensures c.in_ok-commands.ensures.read c.in_ok-core.ensures.opened c.let_go.ensures (rw c.in_ok-replies.was at c.session_from-result.ensures.written)
 
 pub returns-in_err-commands-clause-written : goal.returns-in_err-commands-clause-written
 returns-in_err-commands-clause-written g c =
@@ -27,7 +27,7 @@ pub returns-in_err-replies-clause-written : goal.returns-in_err-replies-clause-w
 returns-in_err-replies-clause-written g c =
     let p = err_from_is_err_and c.from_residual-in_err-replies.result c.from_residual-in_err-replies.ensures.1 in
     rw (p.1, p.2)
-    (run_serves MayAnswer (OpensWithin c.args.limits) _ c.new-lines.result c.read_configuration.new.lines _ _ _ _ _ _ _ _ _ (Err c.in_err-replies.field-0.0) c.new-lines.ensures c.in_ok-commands.ensures.read c.in_ok-core.ensures.opened c.in_err-replies.ensures.written)
+    (run_serves MayAnswer (OpensWithin c.args.limits) _ c.new-lines.result c.read_configuration.new.lines _ _ _ _ _ _ _ _ _ (Err c.in_err-replies.field-0.0) c.new-lines.ensures c.in_ok-commands.ensures.read c.in_ok-core.ensures.opened c.let_go.ensures (rw c.in_err-replies.was at c.session_from-result.ensures.written))
 
 pub returns-in_err-replies-clause-reader_noted : goal.returns-in_err-replies-clause-reader_noted
 returns-in_err-replies-clause-reader_noted g c =

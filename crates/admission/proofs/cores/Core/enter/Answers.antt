@@ -68,7 +68,7 @@ returns-in-Err-clause-err c =
     let recorded = ap (λ s. (step s (Events.plain c.args.event)).recorded) stands
     ∙ c.requires.recorded in
     let left = lacks_memory _ _ _ stands (recorded_unrefused _ _ recorded) _ _
-    (recorded_verdict_of _ _ recorded) (sym c.no_memory_reply.ensures ∙ c.unwrap.ensures)
+    (recorded_verdict_of _ _ recorded) c.lacking_memory.ensures
     (core_still c.self.inside.machine c.prepare.new.machine c.self.inside.history
     c.prepare.new.history c.self.inside.reserved c.in-Err.ensures.err.0 c.in-Err.ensures.err.1
     ∙ c.self.view_is) in

@@ -62,12 +62,12 @@ returns-in-Ok-clause-ok c =
     _ _ _ c.self.view_is refl refl).new_is
 
 pub returns-in-Err-clause-err : goal.returns-in-Err-clause-err
-returns-in-Err-clause-err c =
+returns-in-Err-clause-err c refusal is =
     let stands = stands_as _ _ _ c.self.invariant _ c.self.view_is in
     let recorded = ap (λ s. (step s (Events.plain c.args.event.now)).recorded) stands
     ∙ c.requires.recorded in
     lacks_memory _ _ _ stands (recorded_unrefused _ _ recorded) _ _
-    (recorded_verdict_of _ _ recorded) (sym c.no_memory_reply.ensures ∙ c.unwrap.ensures)
+    (recorded_verdict_of _ _ recorded) is
     (core_still c.self.inside.machine c.prepare.new.machine c.self.inside.history
     c.prepare.new.history c.self.inside.reserved c.in-Err.ensures.err.0 c.in-Err.ensures.err.1
     ∙ c.self.view_is)

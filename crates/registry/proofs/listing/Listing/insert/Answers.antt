@@ -27,7 +27,7 @@ invariant_of-self-in-Ok c =
     settled c.self.inside.served c.enter.new.self c.leave-in-Ok.new.self old new number e
     c.self.invariant entered c.in-Ok.ensures.placed
     (subst (λ gone. Leaves c.enter.new.self c.leave-in-Ok.new.self number gone (Some e))
-    (c.as_ref.ensures.value ∙ c.in-Ok.ensures.replaced)
+    (c.endpoint_in-gone.ensures ∙ c.as_ref.ensures.value ∙ c.in-Ok.ensures.replaced)
     (subst (Leaves c.enter.new.self c.leave-in-Ok.new.self number _)
     (c.at_number-in-Ok.ensures ∙ set_here old new number (Some e) c.in-Ok.ensures.placed)
     c.leave-in-Ok.ensures))

@@ -28,7 +28,7 @@ returns-clause-changes c =
     (elim c.match-remove.branch [
       | in-Some w ↦
           subst (Changes before after (unregistered_in before id)) (sym w.result-is)
-          (unregistered before id w.in-Some.endpoint (endpoints_of c.remove.new.self)
+          (unregistered before id w.in-Some.held (endpoints_of c.remove.new.self)
           (sym c.remove.ensures.removed ∙ w.in-Some.is) c.remove.ensures.without)
       | in-None w ↦
           subst (Changes before after (unregistered_in before id)) (sym w.result-is)

@@ -14,7 +14,7 @@ returns-in_err-number c =
 
 pub returns : goal.returns
 returns c =
-    c.get-2.ensures.value
+    c.endpoint_in.ensures ∙ c.get-2.ensures.value
     ∙ sym (kept_under c.self.inside.endpoints.entries c.self.inside.numbers.entries
     c.self.inside.next c.self.invariant c.args.id.now c.in_ok-number.field-0.now
     (sym c.in_ok-number.ensures.value))

@@ -1,6 +1,9 @@
-use Rattle.std.proofs.Common.{◌≡◌, ◌+◌, sym, ap, subst, arith}
+use Rattle.std.proofs.Common.{◌≡◌, ◌+◌, refl, sym, ap, subst, arith}
 use Rattle.std.proofs.lemmas.Result.{MatchResult-at_ok}
-use Rattle.registry.specs.Roll.{IsNumberFor, IsPut, by_id}
+use Rattle.std.specs.Prelude.{Some}
+use Rattle.std.specs.Ordering.{nat_cmp}
+use Rattle.std.specs.BTreeMap.{insert_entry}
+use Rattle.registry.specs.Roll.{IsNumberFor, IsPut, IsSetAt, by_id}
 use Rattle.registry.proofs.RollChanges.{roll_reordered, roll_put, put_among, less_than_next}
 use Rattle.registry.proofs.roll.Roll.insert.Goals as goal
 use Rattle.registry.proofs.roll.Roll.insert.Goals.{then-number-self, else-number-self}
@@ -11,11 +14,13 @@ invariant_of-self-then-number-self c =
     let last = c.if-number-self.true in
     let fits = subst (λ r. IsNumberFor r c.args.endpoint.id number) (sym c.self.view_is)
     c.requires.number in
+    let set = subst (λ e. IsSetAt c.self.inside.endpoints.entries c.insert.new.self.entries
+    c.args.number (Some e)) c.in_ok-held.ensures.held c.in-Ok.ensures.updates.0 in
     let numbered = MatchResult-at_ok _ _ _ c.unwrap.ensures c.insert-numbered.ensures.updates in
     roll_put c.self.inside.endpoints.entries c.insert.new.self.entries
     c.self.inside.numbers.entries c.reserve.new.self.entries c.self.inside.next c.self.invariant
     c.reserve.ensures.entries.2 c.insert-numbered.new.self.entries c.args.endpoint c.id-id.result.now
-    number c.id-id.ensures fits c.in-Ok.ensures.updates.0 numbered.0 c.insert.ensures.ordered
+    number c.id-id.ensures fits set numbered.0 c.insert.ensures.ordered
     (number + 1) (omega (arith, last)) (omega arith)
 
 pub invariant_of-self-else-number-self : goal.invariant_of-self-else-number-self
@@ -23,14 +28,22 @@ invariant_of-self-else-number-self c =
     let number = c.args.number in
     let fits = subst (λ r. IsNumberFor r c.args.endpoint.id number) (sym c.self.view_is)
     c.requires.number in
+    let set = subst (λ e. IsSetAt c.self.inside.endpoints.entries c.insert.new.self.entries
+    c.args.number (Some e)) c.in_ok-held.ensures.held c.in-Ok.ensures.updates.0 in
     let numbered = MatchResult-at_ok _ _ _ c.unwrap.ensures c.insert-numbered.ensures.updates in
     roll_put c.self.inside.endpoints.entries c.insert.new.self.entries
     c.self.inside.numbers.entries c.reserve.new.self.entries c.self.inside.next c.self.invariant
     c.reserve.ensures.entries.2 c.insert-numbered.new.self.entries c.args.endpoint c.id-id.result.now
-    number c.id-id.ensures fits c.in-Ok.ensures.updates.0 numbered.0 c.insert.ensures.ordered
+    number c.id-id.ensures fits set numbered.0 c.insert.ensures.ordered
     c.self.inside.next (omega arith)
     (less_than_next c.self.inside.endpoints.entries c.self.inside.numbers.entries
     c.self.inside.next c.self.invariant c.args.endpoint.id number fits c.if-number-self.false)
+
+pub invariant_of-self-in_err-held : goal.invariant_of-self-in_err-held
+invariant_of-self-in_err-held c =
+    roll_reordered c.self.inside.endpoints.entries c.self.inside.endpoints.entries
+    c.self.inside.numbers.entries c.reserve.new.self.entries c.self.inside.next c.self.invariant
+    c.reserve.ensures.entries.2 refl
 
 pub invariant_of-self-in-Err : goal.invariant_of-self-in-Err
 invariant_of-self-in-Err c =
@@ -44,12 +57,15 @@ returns-after-number-self-clause-ok c =
     let e = c.args.endpoint in
     let fits = subst (λ r. IsNumberFor r c.args.endpoint.id number) (sym c.self.view_is)
     c.requires.number in
+    let set = subst (λ e. IsSetAt c.self.inside.endpoints.entries c.insert.new.self.entries
+    c.args.number (Some e)) c.in_ok-held.ensures.held c.in-Ok.ensures.updates.0 in
     let numbered = MatchResult-at_ok _ _ _ c.unwrap.ensures c.insert-numbered.ensures.updates in
     let put = put_among c.self.inside.endpoints.entries c.insert.new.self.entries
     c.self.inside.numbers.entries c.reserve.new.self.entries c.self.inside.next c.self.invariant
     c.reserve.ensures.entries.2 c.insert-numbered.new.self.entries e c.id-id.result.now
-    number c.id-id.ensures fits c.in-Ok.ensures.updates.0 numbered.0 c.insert.ensures.ordered
-    c.in-Ok.ensures.entries in
+    number c.id-id.ensures fits set numbered.0 c.insert.ensures.ordered
+    (subst (λ e. c.insert.new.self.entries ≡ insert_entry nat_cmp c.self.inside.endpoints.entries
+    number e) c.in_ok-held.ensures.held c.in-Ok.ensures.entries) in
     let old = ap (λ r. r.entries) c.self.view_is in
     let new : c.if-number-self.self.entries ≡ c.insert.new.self.entries =
     elim c.if-number-self.branch [

@@ -6,7 +6,7 @@ use Rattle.registry.proofs.shelf.Shelf.at.Goals as goal
 
 pub returns : goal.returns
 returns c =
-    copied_map c.nth.result
+    c.endpoint_in.ensures ∙ copied_map c.nth.result
     ∙ nth_from_yields_List c.nth.result c.nth.new.self c.args.place c.nth.ensures.ran
     (YieldsList-from_rest (endpoints_of c.args.self.now)
     (c.endpoints.ensures.value ∙ ap endpoints_of c.self.view_is))

@@ -11,10 +11,10 @@ put_numbered-requires-clause-free c =
     let of_all = seen c.self.inside.listing c.args.self.now c.self.view_is in
     let entries = by_id c.self.inside.listing.entries in
     let owners = c.self.inside.owners.entries in
-    copy_free (endpoints_of c.args.self.now) (endpoints_of c.loop-endpoint.copy)
-    c.loop-endpoint.endpoint-iterator c.next.new.self c.in_ok-copy.field-0
-    c.loop-endpoint.copy.next c.loop-endpoint.invariant
-    (c.in-Some.ensures.steps ∙ ap (λ e. e ∷ c.next.new.self) (sym c.in_ok-copy.ensures))
+    copy_free (endpoints_of c.args.self.now) (endpoints_of c.loop-held.copy)
+    c.loop-held.held-iterator c.next.new.self c.in_ok-copy.field-0
+    c.loop-held.copy.next c.loop-held.invariant
+    (c.in-Some.ensures.steps ∙ ap (λ e. e ∷ c.next.new.self) (sym (c.in_ok-copy.ensures ∙ c.endpoint.ensures)))
     (subst HaveDifferentIds of_all (different_ids entries owners c.self.invariant))
     (subst ShareNoAlias of_all (no_shared_alias entries owners c.self.invariant))
 
@@ -23,23 +23,23 @@ put_numbered-requires-clause-room c =
     let of_all = seen c.self.inside.listing c.args.self.now c.self.view_is in
     let entries = by_id c.self.inside.listing.entries in
     let owners = c.self.inside.owners.entries in
-    copy_room (endpoints_of c.args.self.now) (endpoints_of c.loop-endpoint.copy)
-    c.loop-endpoint.endpoint-iterator c.next.new.self c.in_ok-copy.field-0
-    c.loop-endpoint.copy.next c.loop-endpoint.invariant
-    (c.in-Some.ensures.steps ∙ ap (λ e. e ∷ c.next.new.self) (sym c.in_ok-copy.ensures))
+    copy_room (endpoints_of c.args.self.now) (endpoints_of c.loop-held.copy)
+    c.loop-held.held-iterator c.next.new.self c.in_ok-copy.field-0
+    c.loop-held.copy.next c.loop-held.invariant
+    (c.in-Some.ensures.steps ∙ ap (λ e. e ∷ c.next.new.self) (sym (c.in_ok-copy.ensures ∙ c.endpoint.ensures)))
     (subst HaveDifferentIds of_all (different_ids entries owners c.self.invariant))
     (subst ShareNoAlias of_all (no_shared_alias entries owners c.self.invariant))
     c.requires.few
 
-pub loop-endpoint-preserved : goal.loop-endpoint-preserved
-loop-endpoint-preserved c =
+pub loop-held-preserved : goal.loop-held-preserved
+loop-held-preserved c =
     let of_all = seen c.self.inside.listing c.args.self.now c.self.view_is in
     let entries = by_id c.self.inside.listing.entries in
     let owners = c.self.inside.owners.entries in
-    copy_more (endpoints_of c.args.self.now) (endpoints_of c.loop-endpoint.copy)
-    c.loop-endpoint.endpoint-iterator c.next.new.self c.in_ok-copy.field-0
-    c.loop-endpoint.copy.next c.loop-endpoint.invariant
-    (c.in-Some.ensures.steps ∙ ap (λ e. e ∷ c.next.new.self) (sym c.in_ok-copy.ensures))
+    copy_more (endpoints_of c.args.self.now) (endpoints_of c.loop-held.copy)
+    c.loop-held.held-iterator c.next.new.self c.in_ok-copy.field-0
+    c.loop-held.copy.next c.loop-held.invariant
+    (c.in-Some.ensures.steps ∙ ap (λ e. e ∷ c.next.new.self) (sym (c.in_ok-copy.ensures ∙ c.endpoint.ensures)))
     (subst HaveDifferentIds of_all (different_ids entries owners c.self.invariant))
     (subst ShareNoAlias of_all (no_shared_alias entries owners c.self.invariant))
     (endpoints_of c.put_numbered.new.self) c.put_numbered.new.self.next

@@ -25,7 +25,7 @@ invariant_of-self-2 c =
     index_put old new e c.in_ok-replaced.ensures.ok owners rest all before
     (ap (λ r. alias_is_taken (endpoints_of r) e) c.self.view_is ∙ c.requires.free)
     (subst (λ found. Forgets owners rest (aliases_of found))
-    (c.as_ref.ensures.value ∙ c.in_ok-replaced.ensures.replaced)
+    (c.endpoint_in.ensures ∙ c.as_ref.ensures.value ∙ c.in_ok-replaced.ensures.replaced)
     c.forget_aliases_of.ensures.forgets)
     (subst (λ id. LeadTo rest all (aliases_of (kept_endpoint_of (by_id new) id)) id) c.id.ensures
     (subst (λ found. LeadTo rest all (aliases_of found) c.id.result.now) c.get.ensures

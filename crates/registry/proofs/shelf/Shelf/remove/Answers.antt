@@ -13,7 +13,7 @@ invariant_of-self c =
     index_left c.self.inside.listing.entries c.remove-removed.new.self.entries c.args.id.now
     c.remove-removed.ensures.entries owners rest c.self.invariant
     (subst (λ found. Forgets owners rest (aliases_of found))
-    (c.as_ref.ensures.value ∙ c.remove-removed.ensures.removed)
+    (c.endpoint_in.ensures ∙ c.as_ref.ensures.value ∙ c.remove-removed.ensures.removed)
     c.forget_aliases_of.ensures.forgets)
 
 pub returns-clause-without : goal.returns-clause-without
