@@ -279,8 +279,8 @@ fn a_refused_publication_leaves_the_list(rt: HostRuntime) -> Result<(), Fail> {
     Ok(())
 }
 
-/// That no publication is refused, which fails if the growth of the first one is refused: so the gate
-/// finds by it the allocation that it refuses to the test above (`.ci/refused_publication`).
+/// That no publication is refused, which fails if the growth of the first one is refused: so the
+/// gate finds by it the allocation that it refuses to the test above (`.ci/refused_publication`).
 #[test]
 fn no_publication_is_refused(rt: HostRuntime) -> Result<(), Fail> {
     let tables = both(&rt, rt.alloc())?;
@@ -295,8 +295,8 @@ fn no_publication_is_refused(rt: HostRuntime) -> Result<(), Fail> {
 /// The last version, none if the publisher was refused. If memory is refused at some growth, the
 /// next publication has the number that the refused one would have had, and a reader that is made
 /// after it reads what is in force. The last allocation is that of the first publication, the only
-/// one that grows, since the others find the room that it made; those before it are of the tables and
-/// of `new`. `rt try --test --fail-alloc N -- a_refused_publication` refuses the N-th.
+/// one that grows, since the others find the room that it made; those before it are of the tables
+/// and of `new`. `rt try --test --fail-alloc N -- a_refused_publication` refuses the N-th.
 fn four_published<J: Imprint, R: Wait + Abort>(
     rt: &R,
     alloc: Global,
