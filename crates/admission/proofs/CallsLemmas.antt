@@ -5,7 +5,7 @@ use Rattle.std.specs.Prelude.{ℕ, nat_lt}
 use Rattle.std.proofs.lemmas.List.Sums.{length-filter, count_by-le-length}
 use Rattle.bandwidth.specs.declared.open_call.OpenCall.{OpenCall}
 use Rattle.bandwidth.specs.Calls.{has_number, call_of, with_units, with_call, without_call, with_changed}
-use Rattle.admission.specs.Founded.{is_owned}
+use Rattle.rulings.specs.Founded.{is_owned}
 
 -- no call has both a smaller and a greater number
 parts_fit : (calls : List OpenCall) (number : ℕ)

@@ -1,24 +1,24 @@
 -- One event of a core, and its record.
 use Rattle.std.proofs.Common.{◌≡◌, ◌≤◌, ◌+◌, Bool, true, false, cond, List, [], ◌∷◌, ◌++◌, length, Option, Some, None, inl, inr, refl, sym, ap, ap₂, subst, ◌∙◌, arith}
-use Rattle.admission.specs.declared.limits.Limits.{Limits}
-use Rattle.admission.specs.State.{State, MachineParts, bare, opening_of, under}
-use Rattle.admission.specs.Founded.{IsUnder, takes_memory}
+use Rattle.rulings.specs.declared.limits.Limits.{Limits}
+use Rattle.rulings.specs.State.{State, MachineParts, bare, opening_of, under}
+use Rattle.rulings.specs.Founded.{IsUnder, takes_memory}
 use Rattle.std.specs.Prelude.{IfSome, IsSome, is_some}
 use Rattle.std.specs.List.{AllByRecursion}
 use Rattle.command_reader.specs.Accepted.{IsAccepted}
 use Rattle.command_reader.specs.declared.commands.Command.{Command}
-use Rattle.admission.specs.Events.{PlainEvent, Registering, Unregistering, Admitting, Changing, Releasing, Reloading, put_in_force}
-use Rattle.admission.specs.Ruling.{reload_ruling, ruling_of, verdict_of}
-use Rattle.admission.specs.declared.replies.Reply.TheVariants.{ReloadRefused}
-use Rattle.admission.specs.declared.replies.ReloadRefusal.TheVariants.{NoMemory}
-use Rattle.admission.specs.Step.{is_recorded, places_needed, reload_refusal, count_refusal, state_after, Outcome, outcome_of, step, no_memory_reply_of}
-use Rattle.admission.specs.History.{PlainEntry, entry_of, IsLegal, replay, CoreParts, RecordParts, in_force, in_force_of, generations_of, generations, state_of, with_entry, receipt_of, unrecorded_reply, IsRecorded, IsUnrecorded, MayReply, core_after}
+use Rattle.rulings.specs.Events.{PlainEvent, Registering, Unregistering, Admitting, Changing, Releasing, Reloading, put_in_force}
+use Rattle.rulings.specs.Ruling.{reload_ruling, ruling_of, verdict_of}
+use Rattle.rulings.specs.declared.replies.Reply.TheVariants.{ReloadRefused}
+use Rattle.rulings.specs.declared.replies.ReloadRefusal.TheVariants.{NoMemory}
+use Rattle.rulings.specs.Step.{is_recorded, places_needed, reload_refusal, count_refusal, state_after, Outcome, outcome_of, step, no_memory_reply_of}
+use Rattle.decision_record.specs.History.{PlainEntry, entry_of, IsLegal, replay, CoreParts, RecordParts, in_force, in_force_of, generations_of, generations, state_of, with_entry, receipt_of, unrecorded_reply, IsRecorded, IsUnrecorded, MayReply, core_after}
 use Rattle.admission.specs.CoreInvariant.{IsKept}
-use Rattle.admission.specs.Ruling.{Ruling}
-use Rattle.admission.specs.declared.replies.Reply.{Reply}
-use Rattle.admission.specs.declared.entries.Receipt.{Receipt}
+use Rattle.rulings.specs.Ruling.{Ruling}
+use Rattle.rulings.specs.declared.replies.Reply.{Reply}
+use Rattle.decision_record.specs.declared.entries.Receipt.{Receipt}
 use Rattle.admission.specs.HistoryLaws.{AreAccepted, IsWithinLimits, IsSound}
-use Rattle.admission.proofs.CarryingLemmas.{counts_alike}
+use Rattle.rulings.proofs.CarryingLemmas.{counts_alike}
 use Rattle.admission.proofs.VersionLemmas.{all_more, all_accepted}
 use Rattle.admission.proofs.HistoryLaws.{records_are_sound, replay_commands}
 use Rattle.admission.proofs.StepLemmas.{after_limits, step_records}

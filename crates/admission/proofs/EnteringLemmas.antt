@@ -2,16 +2,16 @@
 use Rattle.std.proofs.Common.{◌≡◌, ◌+◌, Bool, true, false, not, ◌&&◌, length, Option, Some, None, inl, inr, refl, sym, ap, ◌∙◌, arith}
 use Rattle.std.proofs.lemmas.List.{length_push}
 use Rattle.std.specs.Prelude.{is_some}
-use Rattle.admission.specs.State.{State, MachineParts, bare}
-use Rattle.admission.specs.Events.{PlainEvent, kind_of, id_of, call_number_of}
-use Rattle.admission.specs.Founded.{IsUnder}
-use Rattle.admission.specs.Ruling.{ruling_of}
-use Rattle.admission.specs.Ruling.{Ruling}
-use Rattle.admission.specs.declared.replies.Reply.{Reply}
-use Rattle.admission.specs.declared.entries.Receipt.{Receipt}
-use Rattle.admission.specs.Step.{is_recorded, count_refusal, outcome_of, step}
-use Rattle.admission.specs.History.{CoreParts, entry_of, state_of, with_entry, receipt_of, IsRecorded, IsUnrecorded, MayReply}
-use Rattle.admission.proofs.CarryingLemmas.{counts_alike}
+use Rattle.rulings.specs.State.{State, MachineParts, bare}
+use Rattle.rulings.specs.Events.{PlainEvent, kind_of, id_of, call_number_of}
+use Rattle.rulings.specs.Founded.{IsUnder}
+use Rattle.rulings.specs.Ruling.{ruling_of}
+use Rattle.rulings.specs.Ruling.{Ruling}
+use Rattle.rulings.specs.declared.replies.Reply.{Reply}
+use Rattle.decision_record.specs.declared.entries.Receipt.{Receipt}
+use Rattle.rulings.specs.Step.{is_recorded, count_refusal, outcome_of, step}
+use Rattle.decision_record.specs.History.{CoreParts, entry_of, state_of, with_entry, receipt_of, IsRecorded, IsUnrecorded, MayReply}
+use Rattle.rulings.proofs.CarryingLemmas.{counts_alike}
 
 -- ---- a step
 recorded_by : (s : State) (event : PlainEvent) (ruling : Ruling) (refusal : Option Reply)

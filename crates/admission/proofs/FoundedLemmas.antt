@@ -10,28 +10,28 @@ use Rattle.bandwidth.specs.declared.over.Over.{Over}
 use Rattle.bandwidth.specs.Calls.{call_of, is_open, owns, has_owner}
 use Rattle.bandwidth.specs.Fits.{over_of}
 use Rattle.compiler.specs.Plan.{plan_of}
-use Rattle.admission.specs.declared.replies.RegisterRefusal.{RegisterRefusal}
-use Rattle.admission.specs.declared.replies.ReleaseRefusal.{ReleaseRefusal}
-use Rattle.admission.specs.declared.replies.Reply.{Reply}
-use Rattle.admission.specs.declared.replies.Reply.TheVariants.{Unregistered, UnregisterRefused, ChangeRefused, Released, ReleaseRefused}
-use Rattle.admission.specs.declared.replies.UnregisterRefusal.TheVariants as unregister
-use Rattle.admission.specs.declared.replies.ChangeRefusal.TheVariants as change
-use Rattle.admission.specs.declared.replies.ReleaseRefusal.TheVariants as release
-use Rattle.admission.specs.declared.routes.Destination.{Destination}
-use Rattle.admission.specs.declared.routes.Route.{Route}
-use Rattle.admission.specs.declared.routes.Route.TheVariants.{To, Refused}
-use Rattle.admission.specs.declared.rulings.Effect.{Effect}
-use Rattle.admission.specs.declared.rulings.Effect.TheVariants.{Nothing, Put, Remove, Open, Resize, Close, PutInForce}
-use Rattle.admission.specs.Ruling.{Ruling}
-use Rattle.admission.specs.State.{State, free_places}
+use Rattle.rulings.specs.declared.replies.RegisterRefusal.{RegisterRefusal}
+use Rattle.rulings.specs.declared.replies.ReleaseRefusal.{ReleaseRefusal}
+use Rattle.rulings.specs.declared.replies.Reply.{Reply}
+use Rattle.rulings.specs.declared.replies.Reply.TheVariants.{Unregistered, UnregisterRefused, ChangeRefused, Released, ReleaseRefused}
+use Rattle.rulings.specs.declared.replies.UnregisterRefusal.TheVariants as unregister
+use Rattle.rulings.specs.declared.replies.ChangeRefusal.TheVariants as change
+use Rattle.rulings.specs.declared.replies.ReleaseRefusal.TheVariants as release
+use Rattle.rulings.specs.declared.routes.Destination.{Destination}
+use Rattle.rulings.specs.declared.routes.Route.{Route}
+use Rattle.rulings.specs.declared.routes.Route.TheVariants.{To, Refused}
+use Rattle.rulings.specs.declared.rulings.Effect.{Effect}
+use Rattle.rulings.specs.declared.rulings.Effect.TheVariants.{Nothing, Put, Remove, Open, Resize, Close, PutInForce}
+use Rattle.rulings.specs.Ruling.{Ruling}
+use Rattle.rulings.specs.State.{State, free_places}
 use Rattle.command_reader.specs.declared.commands.Command.{Command}
-use Rattle.admission.specs.Events.{PlainEvent, Registering, Unregistering, Admitting, Changing, Releasing, Reloading, endpoint_asking, put_in_force}
-use Rattle.admission.specs.Routing.{route_of}
-use Rattle.admission.specs.Ruling.{unrouted, register_refusal, registration_unless, unregistration_ruling, admitted_call, admission_unless, admission_to, call_open_ruling, admission_ruling, change_unless, change_ruling, release_refused, release_ruling, ruling_of}
-use Rattle.admission.specs.Step.{is_recorded, places_needed, record_full_reply_of, record_refusal, are_endpoints_full, are_calls_full, count_refusal, with_registered, with_commands, with_effect, no_memory_reply_of}
+use Rattle.rulings.specs.Events.{PlainEvent, Registering, Unregistering, Admitting, Changing, Releasing, Reloading, endpoint_asking, put_in_force}
+use Rattle.rulings.specs.Routing.{route_of}
+use Rattle.rulings.specs.Ruling.{unrouted, register_refusal, registration_unless, unregistration_ruling, admitted_call, admission_unless, admission_to, call_open_ruling, admission_ruling, change_unless, change_ruling, release_refused, release_ruling, ruling_of}
+use Rattle.rulings.specs.Step.{is_recorded, places_needed, record_full_reply_of, record_refusal, are_endpoints_full, are_calls_full, count_refusal, with_registered, with_commands, with_effect, no_memory_reply_of}
 use Rattle.admission.specs.HistoryLaws.{IsWithinLimits}
 use Rattle.admission.proofs.CallsLemmas.{length-with_call, length-with_changed, length-without_call}
-use Rattle.admission.specs.Founded.{is_owned, IsFounded}
+use Rattle.rulings.specs.Founded.{is_owned, IsFounded}
 
 -- ---- what no count refused
 pub not_full : (full : Bool) (refusal : Reply) (rest : Option Reply)

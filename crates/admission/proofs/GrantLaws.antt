@@ -10,16 +10,16 @@ use Rattle.bandwidth.specs.Fits.{over_of}
 use Rattle.bandwidth.specs.declared.over.Over.{Over}
 use Rattle.bandwidth.proofs.RefusalLaws.{refusal_names_a_sum}
 use Rattle.bandwidth.proofs.FitLaws.{opening_within, raise_within, raised_from_within}
-use Rattle.admission.specs.declared.limits.Limits.{Limits}
-use Rattle.admission.specs.declared.replies.Reply.{Reply}
-use Rattle.admission.specs.declared.replies.Reply.TheVariants.{Admitted, Changed}
-use Rattle.admission.specs.declared.rulings.Effect.{Effect}
-use Rattle.admission.specs.declared.rulings.Effect.TheVariants.{Open, Resize}
-use Rattle.admission.specs.State.{State, opening_of}
-use Rattle.admission.specs.Events.{PlainEvent}
-use Rattle.admission.specs.Ruling.{ruling_of, verdict_of}
-use Rattle.admission.specs.Step.{with_effect, with_count, state_after, step}
-use Rattle.admission.specs.History.{PlainEntry, IsLegal, replay}
+use Rattle.rulings.specs.declared.limits.Limits.{Limits}
+use Rattle.rulings.specs.declared.replies.Reply.{Reply}
+use Rattle.rulings.specs.declared.replies.Reply.TheVariants.{Admitted, Changed}
+use Rattle.rulings.specs.declared.rulings.Effect.{Effect}
+use Rattle.rulings.specs.declared.rulings.Effect.TheVariants.{Open, Resize}
+use Rattle.rulings.specs.State.{State, opening_of}
+use Rattle.rulings.specs.Events.{PlainEvent}
+use Rattle.rulings.specs.Ruling.{ruling_of, verdict_of}
+use Rattle.rulings.specs.Step.{with_effect, with_count, state_after, step}
+use Rattle.decision_record.specs.History.{PlainEntry, IsLegal, replay}
 use Rattle.admission.specs.HistoryLaws.{StandsAfter, IsGrant, ToOpen, ToRaise, IsWithin, sum_named, IsRefusedRightly, RecordedGrantsAreWithin, RecordedRaisesWereWithin, RecordedLimitsAreAbove}
 use Rattle.admission.proofs.StepLemmas.{step_state}
 use Rattle.admission.proofs.HistoryLaws.{verdict_there}

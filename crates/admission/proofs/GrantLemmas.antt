@@ -8,23 +8,23 @@ use Rattle.bandwidth.specs.declared.open_call.OpenCall.{OpenCall}
 use Rattle.bandwidth.specs.declared.over.Over.{Over}
 use Rattle.bandwidth.specs.Calls.{call_of, is_open, owns, has_owner}
 use Rattle.bandwidth.specs.Fits.{over_of}
-use Rattle.admission.specs.declared.replies.RegisterRefusal.{RegisterRefusal}
-use Rattle.admission.specs.declared.replies.ReleaseRefusal.{ReleaseRefusal}
-use Rattle.admission.specs.declared.replies.UnregisterRefusal.TheVariants as unregister
-use Rattle.admission.specs.declared.replies.ChangeRefusal.TheVariants as change
-use Rattle.admission.specs.declared.replies.ReleaseRefusal.TheVariants as release
-use Rattle.admission.specs.declared.replies.Reply.{Reply}
-use Rattle.admission.specs.declared.replies.Reply.TheVariants.{Registered, RegisterRefused, Unregistered, UnregisterRefused, Admitted, AdmitRefused, Changed, ChangeRefused, Released, ReleaseRefused, Reloaded, ReloadRefused}
-use Rattle.admission.specs.declared.routes.Destination.{Destination}
-use Rattle.admission.specs.declared.routes.Route.{Route}
-use Rattle.admission.specs.declared.routes.Route.TheVariants.{To, Refused}
-use Rattle.admission.specs.declared.rulings.Effect.TheVariants.{Nothing, Remove, Open, Resize, Close}
-use Rattle.admission.specs.Ruling.{Ruling}
-use Rattle.admission.specs.State.{State}
-use Rattle.admission.specs.Events.{PlainEvent, Registering, Unregistering, Admitting, Changing, Releasing, Reloading}
-use Rattle.admission.specs.Routing.{route_of}
+use Rattle.rulings.specs.declared.replies.RegisterRefusal.{RegisterRefusal}
+use Rattle.rulings.specs.declared.replies.ReleaseRefusal.{ReleaseRefusal}
+use Rattle.rulings.specs.declared.replies.UnregisterRefusal.TheVariants as unregister
+use Rattle.rulings.specs.declared.replies.ChangeRefusal.TheVariants as change
+use Rattle.rulings.specs.declared.replies.ReleaseRefusal.TheVariants as release
+use Rattle.rulings.specs.declared.replies.Reply.{Reply}
+use Rattle.rulings.specs.declared.replies.Reply.TheVariants.{Registered, RegisterRefused, Unregistered, UnregisterRefused, Admitted, AdmitRefused, Changed, ChangeRefused, Released, ReleaseRefused, Reloaded, ReloadRefused}
+use Rattle.rulings.specs.declared.routes.Destination.{Destination}
+use Rattle.rulings.specs.declared.routes.Route.{Route}
+use Rattle.rulings.specs.declared.routes.Route.TheVariants.{To, Refused}
+use Rattle.rulings.specs.declared.rulings.Effect.TheVariants.{Nothing, Remove, Open, Resize, Close}
+use Rattle.rulings.specs.Ruling.{Ruling}
+use Rattle.rulings.specs.State.{State}
+use Rattle.rulings.specs.Events.{PlainEvent, Registering, Unregistering, Admitting, Changing, Releasing, Reloading}
+use Rattle.rulings.specs.Routing.{route_of}
 use Rattle.admission.specs.HistoryLaws.{Asks, ToBeAdmitted, ToBeChanged, sum_named}
-use Rattle.admission.specs.Ruling.{unrouted, register_refusal, registration_unless, unregistration_ruling, admitted_call, admission_unless, admission_to, call_open_ruling, admission_ruling, change_unless, change_ruling, release_refused, release_ruling, ruling_of}
+use Rattle.rulings.specs.Ruling.{unrouted, register_refusal, registration_unless, unregistration_ruling, admitted_call, admission_unless, admission_to, call_open_ruling, admission_ruling, change_unless, change_ruling, release_refused, release_ruling, ruling_of}
 
 -- the replies that may grant bandwidth
 abbrev pub gives_bandwidth : Reply → Bool

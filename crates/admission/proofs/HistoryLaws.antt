@@ -8,22 +8,22 @@ use Rattle.std.proofs.lemmas.List.{length-take-le}
 use Rattle.std.proofs.lemmas.List.Sums.{prefix_len-le-length, length-filter, count_by-le-length}
 use Rattle.command_reader.specs.declared.commands.Command.{Command}
 use Rattle.compiler.specs.Last.{last_in}
-use Rattle.admission.specs.declared.replies.AdmitRefusal.TheVariants.{NoRoute}
-use Rattle.admission.specs.declared.replies.Reply.{Reply}
-use Rattle.admission.specs.declared.replies.Reply.TheVariants.{Admitted, AdmitRefused}
-use Rattle.admission.specs.declared.rulings.Effect.{Effect}
-use Rattle.admission.specs.declared.rulings.Effect.TheVariants.{Nothing, Put, Remove, Open, Resize, Close, PutInForce}
+use Rattle.rulings.specs.declared.replies.AdmitRefusal.TheVariants.{NoRoute}
+use Rattle.rulings.specs.declared.replies.Reply.{Reply}
+use Rattle.rulings.specs.declared.replies.Reply.TheVariants.{Admitted, AdmitRefused}
+use Rattle.rulings.specs.declared.rulings.Effect.{Effect}
+use Rattle.rulings.specs.declared.rulings.Effect.TheVariants.{Nothing, Put, Remove, Open, Resize, Close, PutInForce}
 use Rattle.registry.specs.Endpoint.{EndpointParts}
-use Rattle.admission.specs.State.{State, opening_of, free_places}
+use Rattle.rulings.specs.State.{State, opening_of, free_places}
 use Rattle.registry.specs.Registration.{has_id, is_registered, with_endpoint, without_endpoint, kept_zones}
 use Rattle.command_reader.specs.Zones.{is_local}
-use Rattle.admission.specs.declared.limits.Limits.{Limits}
-use Rattle.admission.specs.Events.{PlainEvent, Admitting, endpoint_asking, put_in_force}
-use Rattle.admission.specs.Ruling.{ruling_of, verdict_of}
-use Rattle.admission.specs.Step.{places_needed, count_refusal, is_recorded, with_registered, with_commands, with_effect, with_count, state_after, step}
-use Rattle.admission.specs.History.{PlainEntry, entry_of, IsLegal, replay, in_force_after, in_force_of, generations_of}
+use Rattle.rulings.specs.declared.limits.Limits.{Limits}
+use Rattle.rulings.specs.Events.{PlainEvent, Admitting, endpoint_asking, put_in_force}
+use Rattle.rulings.specs.Ruling.{ruling_of, verdict_of}
+use Rattle.rulings.specs.Step.{places_needed, count_refusal, is_recorded, with_registered, with_commands, with_effect, with_count, state_after, step}
+use Rattle.decision_record.specs.History.{PlainEntry, entry_of, IsLegal, replay, in_force_after, in_force_of, generations_of}
 use Rattle.admission.specs.HistoryLaws.{AreAccepted, StandsAfter, RecordedAdmissionsAreRouted, RecordedRefusalsAreUnrouted, IsWithinLimits, RecordsAreSound}
-use Rattle.admission.specs.Founded.{IsPlaceable, IsFounded}
+use Rattle.rulings.specs.Founded.{IsPlaceable, IsFounded}
 use Rattle.admission.proofs.CallsLemmas.{length-with_call, length-with_changed, length-without_call}
 use Rattle.admission.proofs.FoundedLemmas.{founded, places_are_free}
 use Rattle.admission.proofs.StepLemmas.{versions_made, step_commands, step_version, step_limits, step_records, step_not_refused, step_verdict_recorded, step_state}

@@ -1,6 +1,4 @@
-pub mod CallingLemmas
 pub mod CallsLemmas
-pub mod CarryingLemmas
 pub mod CoreLemmas
 pub mod EnteringLemmas
 pub mod FirstLaws
@@ -8,15 +6,8 @@ pub mod FoundedLemmas
 pub mod GrantLaws
 pub mod GrantLemmas
 pub mod HistoryLaws
-pub mod LimitLemmas
 pub mod OrderLemmas
-pub mod RecordLemmas
-pub mod ReloadLemmas
-pub mod RegisteringLemmas
 pub mod RouteLaws
-pub mod SlotListLemmas
 pub mod StepLemmas
-pub mod StoredLemmas
 pub mod TargetLaws
-pub mod ToldLemmas
 pub mod VersionLemmas

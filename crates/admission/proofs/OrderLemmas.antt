@@ -7,14 +7,14 @@ use Rattle.registry.specs.Endpoint.{EndpointParts}
 use Rattle.bandwidth.specs.declared.open_call.OpenCall.{OpenCall}
 use Rattle.bandwidth.specs.Calls.{AreInOrder, has_number, with_units, with_call, with_changed}
 use Rattle.bandwidth.proofs.CallLemmas.{Ascend, in_order}
-use Rattle.admission.specs.declared.rulings.Effect.{Effect}
-use Rattle.admission.specs.declared.rulings.Effect.TheVariants.{Nothing, Put, Remove, Open, Resize, Close, PutInForce}
-use Rattle.admission.specs.State.{State}
+use Rattle.rulings.specs.declared.rulings.Effect.{Effect}
+use Rattle.rulings.specs.declared.rulings.Effect.TheVariants.{Nothing, Put, Remove, Open, Resize, Close, PutInForce}
+use Rattle.rulings.specs.State.{State}
 use Rattle.command_reader.specs.declared.commands.Command.{Command}
-use Rattle.admission.specs.Events.{PlainEvent, endpoint_asking, put_in_force}
-use Rattle.admission.specs.Ruling.{ruling_of}
-use Rattle.admission.specs.Step.{with_registered, with_commands, with_effect, state_after, step}
-use Rattle.admission.specs.History.{PlainEntry, IsLegal, replay}
+use Rattle.rulings.specs.Events.{PlainEvent, endpoint_asking, put_in_force}
+use Rattle.rulings.specs.Ruling.{ruling_of}
+use Rattle.rulings.specs.Step.{with_registered, with_commands, with_effect, state_after, step}
+use Rattle.decision_record.specs.History.{PlainEntry, IsLegal, replay}
 use Rattle.admission.proofs.StepLemmas.{step_state}
 
 -- ---- parts of a list in order

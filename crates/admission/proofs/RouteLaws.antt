@@ -24,19 +24,19 @@ use Rattle.registry.specs.Endpoint.{EndpointParts, has_alias, has_technology}
 use Rattle.registry.specs.Registration.{endpoint_of, by_alias}
 use Rattle.registry.specs.Gateway.{is_gateway, serves, gateway_of, IsChosen}
 use Rattle.bandwidth.specs.Calls.{is_open}
-use Rattle.admission.specs.declared.routes.Destination.{Destination}
-use Rattle.admission.specs.declared.routes.Destination.TheVariants as destinations
-use Rattle.admission.specs.declared.routes.Route.{Route}
-use Rattle.admission.specs.declared.routes.Route.TheVariants.{To, Refused}
-use Rattle.admission.specs.declared.routes.RouteRefusal.{RouteRefusal}
-use Rattle.admission.specs.declared.routes.RouteRefusal.TheVariants as refusals
-use Rattle.admission.specs.declared.replies.AdmitRefusal.TheVariants.{CallerNotRegistered, CallOpen, NoRoute}
-use Rattle.admission.specs.declared.replies.Reply.{Reply}
-use Rattle.admission.specs.declared.replies.Reply.TheVariants.{Admitted, AdmitRefused}
-use Rattle.admission.specs.State.{State}
-use Rattle.admission.specs.Routing.{destination_of, to_gateway, by_default, by_alias_or_default, in_local_zone, route_of_target, route_of}
-use Rattle.admission.specs.Events.{Admitting}
-use Rattle.admission.specs.Ruling.{admitted_call, admission_unless, admission_to, call_open_ruling, admission_ruling, ruling_of, verdict_of}
+use Rattle.rulings.specs.declared.routes.Destination.{Destination}
+use Rattle.rulings.specs.declared.routes.Destination.TheVariants as destinations
+use Rattle.rulings.specs.declared.routes.Route.{Route}
+use Rattle.rulings.specs.declared.routes.Route.TheVariants.{To, Refused}
+use Rattle.rulings.specs.declared.routes.RouteRefusal.{RouteRefusal}
+use Rattle.rulings.specs.declared.routes.RouteRefusal.TheVariants as refusals
+use Rattle.rulings.specs.declared.replies.AdmitRefusal.TheVariants.{CallerNotRegistered, CallOpen, NoRoute}
+use Rattle.rulings.specs.declared.replies.Reply.{Reply}
+use Rattle.rulings.specs.declared.replies.Reply.TheVariants.{Admitted, AdmitRefused}
+use Rattle.rulings.specs.State.{State}
+use Rattle.rulings.specs.Routing.{destination_of, to_gateway, by_default, by_alias_or_default, in_local_zone, route_of_target, route_of}
+use Rattle.rulings.specs.Events.{Admitting}
+use Rattle.rulings.specs.Ruling.{admitted_call, admission_unless, admission_to, call_open_ruling, admission_ruling, ruling_of, verdict_of}
 use Rattle.bandwidth.specs.declared.open_call.OpenCall.{OpenCall}
 use Rattle.bandwidth.specs.declared.over.Over.{Over}
 use Rattle.bandwidth.specs.Fits.{over_of}

@@ -2,15 +2,15 @@
 use Rattle.std.proofs.Common.{◌≡◌, ℕ, ◌+◌, Bool, true, false, cond, List, Option, Some, None, refl, sym, ap, ◌∙◌, true≢false, arith}
 use Rattle.command_reader.specs.declared.commands.Command.{Command}
 use Rattle.registry.specs.Endpoint.{EndpointParts}
-use Rattle.admission.specs.State.{State}
-use Rattle.admission.specs.Events.{PlainEvent, Registering, Unregistering, Admitting, Changing, Releasing, Reloading, endpoint_asking, put_in_force}
-use Rattle.admission.specs.Ruling.{ruling_of, verdict_of}
-use Rattle.admission.specs.Step.{is_recorded, count_refusal, with_registered, with_commands, with_effect, state_after, outcome_of, step}
-use Rattle.admission.specs.History.{in_force_after}
-use Rattle.admission.specs.declared.replies.Reply.{Reply}
-use Rattle.admission.specs.declared.rulings.Effect.{Effect}
-use Rattle.admission.specs.declared.rulings.Effect.TheVariants.{Nothing, Put, Remove, Open, Resize, Close, PutInForce}
-use Rattle.admission.specs.Ruling.{Ruling}
+use Rattle.rulings.specs.State.{State}
+use Rattle.rulings.specs.Events.{PlainEvent, Registering, Unregistering, Admitting, Changing, Releasing, Reloading, endpoint_asking, put_in_force}
+use Rattle.rulings.specs.Ruling.{ruling_of, verdict_of}
+use Rattle.rulings.specs.Step.{is_recorded, count_refusal, with_registered, with_commands, with_effect, state_after, outcome_of, step}
+use Rattle.decision_record.specs.History.{in_force_after}
+use Rattle.rulings.specs.declared.replies.Reply.{Reply}
+use Rattle.rulings.specs.declared.rulings.Effect.{Effect}
+use Rattle.rulings.specs.declared.rulings.Effect.TheVariants.{Nothing, Put, Remove, Open, Resize, Close, PutInForce}
+use Rattle.rulings.specs.Ruling.{Ruling}
 
 -- ---- the state after a ruling
 -- two states are alike but for what an effect changes

@@ -10,17 +10,17 @@ use Rattle.command_reader.specs.Reading.{reading_of}
 use Rattle.command_reader.proofs.FileBack.{file_back}
 use Rattle.admission.specs.HistoryLaws.{AreAccepted}
 use Rattle.command_reader.specs.declared.commands.Command.{Command}
-use Rattle.admission.specs.State.{State, free_places}
-use Rattle.admission.specs.declared.rulings.Effect.TheVariants.{PutInForce}
-use Rattle.admission.specs.declared.replies.ReloadRefusal.{ReloadRefusal}
-use Rattle.admission.specs.declared.replies.ReloadRefusal.TheVariants.{ReloadsSpent, RecordFull, NoMemory}
-use Rattle.admission.specs.Events.{PlainEvent, Reloading, put_in_force}
-use Rattle.admission.specs.Ruling.{reload_ruling, ruling_of, verdict_of}
-use Rattle.admission.specs.Step.{places_needed, are_reloads_spent, count_refusal, outcome_of, step}
-use Rattle.admission.specs.History.{PlainEntry, CoreParts, entry_of, generations_of, generations, state_of, with_entry, Steps}
-use Rattle.admission.specs.declared.replies.Reply.{Reply}
-use Rattle.admission.specs.declared.replies.Reply.TheVariants.{Reloaded, ReloadRefused}
-use Rattle.admission.specs.declared.entries.Receipt.{Receipt}
+use Rattle.rulings.specs.State.{State, free_places}
+use Rattle.rulings.specs.declared.rulings.Effect.TheVariants.{PutInForce}
+use Rattle.rulings.specs.declared.replies.ReloadRefusal.{ReloadRefusal}
+use Rattle.rulings.specs.declared.replies.ReloadRefusal.TheVariants.{ReloadsSpent, RecordFull, NoMemory}
+use Rattle.rulings.specs.Events.{PlainEvent, Reloading, put_in_force}
+use Rattle.rulings.specs.Ruling.{reload_ruling, ruling_of, verdict_of}
+use Rattle.rulings.specs.Step.{places_needed, are_reloads_spent, count_refusal, outcome_of, step}
+use Rattle.decision_record.specs.History.{PlainEntry, CoreParts, entry_of, generations_of, generations, state_of, with_entry, Steps}
+use Rattle.rulings.specs.declared.replies.Reply.{Reply}
+use Rattle.rulings.specs.declared.replies.Reply.TheVariants.{Reloaded, ReloadRefused}
+use Rattle.decision_record.specs.declared.entries.Receipt.{Receipt}
 use Rattle.admission.proofs.StepLemmas.{step_reply}
 
 -- ---- generations

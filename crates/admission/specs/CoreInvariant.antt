@@ -2,8 +2,8 @@
 use Rattle.std.specs.Prelude.{◌≡◌, ◌≤◌, ℕ, ◌+◌, Bool, length, if◌then◌else◌}
 use Rattle.std.specs.List.{AllByRecursion}
 use Rattle.command_reader.specs.Accepted.{IsAccepted}
-use Rattle.admission.specs.State.{State}
-use Rattle.admission.specs.History.{RecordParts, IsLegal, replay, generations_of}
+use Rattle.rulings.specs.State.{State}
+use Rattle.decision_record.specs.History.{RecordParts, IsLegal, replay, generations_of}
 
 -- the places that are kept for a reload
 abbrev pub places_reserved : Bool → ℕ

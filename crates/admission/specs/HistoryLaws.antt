@@ -14,19 +14,19 @@ use Rattle.bandwidth.specs.declared.open_call.OpenCall.{OpenCall}
 use Rattle.bandwidth.specs.declared.over.Over.{Over}
 use Rattle.bandwidth.specs.Calls.{call_of, without_call}
 use Rattle.bandwidth.specs.FitLaws.{SumsAreWithin, IsAbove}
-use Rattle.admission.specs.declared.limits.Limits.{Limits}
-use Rattle.admission.specs.declared.routes.Destination.{Destination}
-use Rattle.admission.specs.declared.routes.RouteRefusal.{RouteRefusal}
-use Rattle.admission.specs.declared.replies.AdmitRefusal.{AdmitRefusal}
-use Rattle.admission.specs.declared.replies.AdmitRefusal.TheVariants as admit
-use Rattle.admission.specs.declared.replies.ChangeRefusal.{ChangeRefusal}
-use Rattle.admission.specs.declared.replies.ChangeRefusal.TheVariants as change
-use Rattle.admission.specs.declared.replies.Reply.{Reply}
-use Rattle.admission.specs.declared.replies.Reply.TheVariants.{Registered, RegisterRefused, Unregistered, UnregisterRefused, Admitted, AdmitRefused, Changed, ChangeRefused, Released, ReleaseRefused, Reloaded, ReloadRefused}
-use Rattle.admission.specs.State.{State, opening_of}
-use Rattle.admission.specs.Events.{PlainEvent, Admitting, Changing}
-use Rattle.admission.specs.Ruling.{admitted_call}
-use Rattle.admission.specs.History.{PlainEntry, IsLegal, replay, generations_of}
+use Rattle.rulings.specs.declared.limits.Limits.{Limits}
+use Rattle.rulings.specs.declared.routes.Destination.{Destination}
+use Rattle.rulings.specs.declared.routes.RouteRefusal.{RouteRefusal}
+use Rattle.rulings.specs.declared.replies.AdmitRefusal.{AdmitRefusal}
+use Rattle.rulings.specs.declared.replies.AdmitRefusal.TheVariants as admit
+use Rattle.rulings.specs.declared.replies.ChangeRefusal.{ChangeRefusal}
+use Rattle.rulings.specs.declared.replies.ChangeRefusal.TheVariants as change
+use Rattle.rulings.specs.declared.replies.Reply.{Reply}
+use Rattle.rulings.specs.declared.replies.Reply.TheVariants.{Registered, RegisterRefused, Unregistered, UnregisterRefused, Admitted, AdmitRefused, Changed, ChangeRefused, Released, ReleaseRefused, Reloaded, ReloadRefused}
+use Rattle.rulings.specs.State.{State, opening_of}
+use Rattle.rulings.specs.Events.{PlainEvent, Admitting, Changing}
+use Rattle.rulings.specs.Ruling.{admitted_call}
+use Rattle.decision_record.specs.History.{PlainEntry, IsLegal, replay, generations_of}
 use Rattle.admission.specs.RouteLaws.{IsRouted, IsUnrouted}
 
 -- ---- routes

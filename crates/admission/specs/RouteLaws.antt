@@ -19,16 +19,16 @@ use Rattle.registry.specs.Registration.{endpoint_of, is_registered}
 use Rattle.bandwidth.specs.Calls.{is_open}
 use Rattle.registry.specs.Gateway.{IsChosen}
 use Rattle.registry.specs.GatewayLaws.{HasNoCandidate}
-use Rattle.admission.specs.declared.routes.Destination.{Destination}
-use Rattle.admission.specs.declared.routes.Destination.TheVariants as destinations
-use Rattle.admission.specs.declared.routes.RouteRefusal.{RouteRefusal}
-use Rattle.admission.specs.declared.routes.RouteRefusal.TheVariants as refusals
-use Rattle.admission.specs.declared.replies.AdmitRefusal.TheVariants.{CallerNotRegistered, CallOpen, NoRoute}
-use Rattle.admission.specs.declared.replies.Reply.TheVariants.{Admitted, AdmitRefused}
-use Rattle.admission.specs.State.{State}
-use Rattle.admission.specs.Events.{Admitting}
-use Rattle.admission.specs.Routing.{destination_of}
-use Rattle.admission.specs.Ruling.{verdict_of}
+use Rattle.rulings.specs.declared.routes.Destination.{Destination}
+use Rattle.rulings.specs.declared.routes.Destination.TheVariants as destinations
+use Rattle.rulings.specs.declared.routes.RouteRefusal.{RouteRefusal}
+use Rattle.rulings.specs.declared.routes.RouteRefusal.TheVariants as refusals
+use Rattle.rulings.specs.declared.replies.AdmitRefusal.TheVariants.{CallerNotRegistered, CallOpen, NoRoute}
+use Rattle.rulings.specs.declared.replies.Reply.TheVariants.{Admitted, AdmitRefused}
+use Rattle.rulings.specs.State.{State}
+use Rattle.rulings.specs.Events.{Admitting}
+use Rattle.rulings.specs.Routing.{destination_of}
+use Rattle.rulings.specs.Ruling.{verdict_of}
 
 -- x is the first of the list that has the property
 pub record IsFirst {X : Type 0} (Has : X → Type 0) (xs : List X) (x : X) : Type 0 where

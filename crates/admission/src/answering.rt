@@ -2,27 +2,22 @@
 
 ghost use Rattle.std.specs.Prelude.{◌≡◌, [], Some, true, false, IfErr, IfSome, OnOk, OnErr, IsOk, IsSome};
 ghost use Rattle.std.specs.Option.{option_copied};
-ghost use Rattle.admission.specs.Events as Events;
-ghost use Rattle.admission.specs.Events.{is_of_names_alone, put_in_force};
-ghost use Rattle.admission.specs.Founded.{IsFallible};
-ghost use Rattle.admission.specs.Lent.{IsPlanOf, ruling_meant};
-ghost use Rattle.admission.specs.Ruling.{ruling_of};
-ghost use Rattle.admission.specs.Slots.{entry_meant};
-ghost use Rattle.admission.specs.Step.{no_memory_reply_of, step};
-ghost use Rattle.admission.specs.Told.{told_meant};
-ghost use Rattle.admission.specs.History.{entry_of, IsUnrecorded, MayReply, state_of, Steps, with_entry};
+ghost use Rattle.rulings.specs.Events as Events;
+ghost use Rattle.rulings.specs.Events.{is_of_names_alone, put_in_force};
+ghost use Rattle.rulings.specs.Founded.{IsFallible};
+ghost use Rattle.rulings.specs.Lent.{IsPlanOf, ruling_meant};
+ghost use Rattle.rulings.specs.Ruling.{ruling_of};
+ghost use Rattle.decision_record.specs.Slots.{entry_meant};
+ghost use Rattle.rulings.specs.Step.{no_memory_reply_of, step};
+ghost use Rattle.decision_record.specs.Told.{told_meant};
+ghost use Rattle.decision_record.specs.History.{entry_of, IsUnrecorded, MayReply, state_of, Steps, with_entry};
 ghost use Rattle.admission.specs.CoreInvariant.{places_reserved};
 
 use crate::cores::Core;
-use crate::entries::Receipt;
-use crate::events::Event;
-use crate::lent_rulings::LentRuling;
-use crate::replies::Reply;
-use crate::rulings::Effect;
 use crate::settling::prepare;
-use crate::slots::Slot;
-use crate::told::Told;
 use compiler::Plan;
+use decision_record::{Receipt, Slot, Told};
+use rulings::{Effect, Event, LentRuling, Reply};
 use std::alloc::AllocError;
 
 impl Core {

@@ -3,26 +3,23 @@
 ghost use Rattle.std.specs.Prelude.{◌≡◌, ◌≤◌, ◌↔◌, ◌++◌, ◌∷◌, [], length, Some, true, false, IfOk, IfErr, OnOk, OnErr, IsErrOf, IsSome, MatchResult};
 ghost use Rattle.std.specs.Arc.{arc_value};
 ghost use Rattle.compiler.specs.Last.{last_in};
-ghost use Rattle.admission.specs.Events as Events;
-ghost use Rattle.admission.specs.Events.{put_in_force};
-ghost use Rattle.admission.specs.State.{opening_of};
-ghost use Rattle.admission.specs.Limits.{are_limits};
+ghost use Rattle.rulings.specs.Events as Events;
+ghost use Rattle.rulings.specs.Events.{put_in_force};
+ghost use Rattle.rulings.specs.State.{opening_of};
+ghost use Rattle.rulings.specs.Limits.{are_limits};
 ghost use Rattle.compiler.specs.Plan.{plan_of, target_of};
-ghost use Rattle.admission.specs.Step.{step};
-ghost use Rattle.admission.specs.History.{generations, IsLegal, IsUnrecorded, MayReply, state_of, Steps, with_entry};
-ghost use Rattle.admission.specs.Founded.{IsUnder};
+ghost use Rattle.rulings.specs.Step.{step};
+ghost use Rattle.decision_record.specs.History.{generations, IsLegal, IsUnrecorded, MayReply, state_of, Steps, with_entry};
+ghost use Rattle.rulings.specs.Founded.{IsUnder};
 ghost use Rattle.admission.specs.HistoryLaws.{AreAccepted, IsSound};
 ghost use Rattle.std.specs.List.{AllByRecursion};
 
-use crate::events::Event;
-use crate::limits::Limits;
-use crate::machine::Machine;
-use crate::record::{Receipt, Record};
-use crate::replies::{ReloadRefusal, Reply};
 use bandwidth::OpenCalls;
 use compiler::{Plan, Routed, Tables};
+use decision_record::{Receipt, Record};
 use gk_terms::{Dialled, Name, Units, Version};
 use registry::{Endpoint, Registry};
+use rulings::{Event, Limits, Machine, ReloadRefusal, Reply};
 use std::alloc::Global;
 use std::marker::Model;
 use std::sync::Arc;
@@ -51,9 +48,9 @@ pub struct Core {
 }
 
 impl Model for Core {
-    ghost use Rattle.admission.specs.State.{opening_of, under};
+    ghost use Rattle.rulings.specs.State.{opening_of, under};
     ghost use Rattle.admission.specs.CoreInvariant.{IsKept};
-    ghost use Rattle.admission.specs.History.{CoreParts, in_force};
+    ghost use Rattle.decision_record.specs.History.{CoreParts, in_force};
 
     ghost Value = { CoreParts };
 

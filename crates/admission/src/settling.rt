@@ -1,21 +1,19 @@
 //! What is done for an event that no count refuses, before its entry is put: room and effect.
 
 ghost use Rattle.std.specs.Prelude.{◌≡◌, ◌≤◌, ◌<◌, ◌+◌, ◌^◌, true, false, None, length, OnOk, OnErr, IfOk, IsOk};
-ghost use Rattle.admission.specs.Events.{plain};
-ghost use Rattle.admission.specs.Ruling.{ruling_of};
-ghost use Rattle.admission.specs.State.{under};
-ghost use Rattle.admission.specs.Step.{count_refusal, is_recorded, state_after, places_needed};
-ghost use Rattle.admission.specs.History.{in_force};
+ghost use Rattle.rulings.specs.Events.{plain};
+ghost use Rattle.rulings.specs.Ruling.{ruling_of};
+ghost use Rattle.rulings.specs.State.{under};
+ghost use Rattle.rulings.specs.Step.{count_refusal, is_recorded, state_after, places_needed};
+ghost use Rattle.decision_record.specs.History.{in_force};
 ghost use Rattle.admission.specs.HistoryLaws.{IsWithinLimits};
-ghost use Rattle.admission.specs.Founded.{IsUnder, IsFallible, takes_memory};
+ghost use Rattle.rulings.specs.Founded.{IsUnder, IsFallible, takes_memory};
 
-use crate::events::Event;
-use crate::machine::Machine;
-use crate::record::Record;
-use crate::rulings::Effect;
+use decision_record::Record;
+use rulings::{Effect, Event, Machine};
 use std::alloc::AllocError;
 
-#[tactic(auto, unfolding(crate::specs::Step::state_after))]
+#[tactic(auto, unfolding(rulings::specs::Step::state_after))]
 /// Makes room in the record for the entry of an event that no count refuses, and carries out the
 /// effect of the ruling. The answer is the number of that entry, for which there is a place now. If
 /// memory runs out, nothing changes; it never does for a release, nor for a reload whose place is

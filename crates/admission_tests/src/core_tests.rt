@@ -4,14 +4,10 @@ use crate::test_cores::{
     BAD_LIMITS, admission, away, core_within, entry, five_events, opening, receipt_of,
     reply_of_unrecorded, terminal,
 };
-use admission::cores::{Core, OpeningFault};
-use admission::events::{Event, EventKind};
-use admission::limits::{Limits, STATED_LIMITS};
-use admission::replies::{
-    AdmitRefusal, ChangeRefusal, RegisterRefusal, ReleaseRefusal, Reply, UnregisterRefusal,
+use admission::{
+    AdmitRefusal, ChangeRefusal, Core, Destination, Event, EventKind, Limits, OpeningFault,
+    RegisterRefusal, ReleaseRefusal, Reply, Route, STATED_LIMITS, UnregisterRefusal, route,
 };
-use admission::routes::{Destination, Route};
-use admission::routing::route;
 use bandwidth::OpenCall;
 use compiler::{Plan, Routed, ZoneNo};
 use gk_terms::{Address, Dialled, Name, Units, Version};

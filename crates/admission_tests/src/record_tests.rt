@@ -1,12 +1,10 @@
 //! The record of a core: receipts, and what an entry keeps.
 
 use crate::test_cores::{admission, away, core_within, entry, five_events, receipt_of, terminal};
-use admission::cores::Core;
-use admission::events::{Event, EventKind};
-use admission::limits::STATED_LIMITS;
-use admission::record::{Entry, EntryEvent, Receipt, Record};
-use admission::replies::{AdmitRefusal, ChangeRefusal, RegisterRefusal, Reply, UnregisterRefusal};
-use admission::routes::Route;
+use admission::{
+    AdmitRefusal, ChangeRefusal, Core, Entry, EntryEvent, Event, EventKind, Receipt, Record,
+    RegisterRefusal, Reply, Route, STATED_LIMITS, UnregisterRefusal,
+};
 use gk_terms::{Dialled, Name, Units};
 use registry::{Duplicate, Endpoint};
 use std::alloc::Global;

@@ -3,11 +3,10 @@
 use crate::test_cores::{
     admission, away, core_within, entry, other_tables, receipt_of, tables, terminal,
 };
-use admission::cores::Core;
-use admission::events::{Event, EventKind};
-use admission::limits::{Limits, STATED_LIMITS};
-use admission::record::{EntryEvent, Receipt, Record};
-use admission::replies::{ReloadRefusal, Reply, UnregisterRefusal};
+use admission::{
+    Core, EntryEvent, Event, EventKind, Limits, Receipt, Record, ReloadRefusal, Reply,
+    STATED_LIMITS, UnregisterRefusal,
+};
 use compiler::Tables;
 use gk_terms::{Dialled, Name, Units, Version};
 use std::alloc::Global;

@@ -1,11 +1,8 @@
 //! What the tests over a core share.
 
-use admission::cores::{Core, OpeningFault};
-use admission::events::Event;
-use admission::limits::{Limits, STATED_LIMITS};
-use admission::record::{Entry, Receipt, Record};
-use admission::replies::Reply;
-use admission::routes::Destination;
+use admission::{
+    Core, Destination, Entry, Event, Limits, OpeningFault, Receipt, Record, Reply, STATED_LIMITS,
+};
 use command_reader::read;
 use compiler::Tables;
 use gk_terms::{Address, Dialled, Name, Units};

@@ -8,23 +8,23 @@ use Rattle.command_reader.specs.declared.faults.FaultKind.{FaultKind}
 use Rattle.command_reader.specs.declared.faults.FaultKind.TheVariants as kind
 use Rattle.bandwidth.specs.declared.over.Over.{Over}
 use Rattle.bandwidth.specs.declared.over.Over.TheVariants as overs
-use Rattle.admission.specs.Routes.{destination_words, route_refusal_word}
+use Rattle.rulings.specs.Routes.{destination_words, route_refusal_word}
 use Rattle.registry.specs.declared.faults.Duplicate.{Duplicate}
 use Rattle.registry.specs.declared.faults.Duplicate.TheVariants as duplicate
-use Rattle.admission.specs.declared.replies.RegisterRefusal.{RegisterRefusal}
-use Rattle.admission.specs.declared.replies.RegisterRefusal.TheVariants as register
-use Rattle.admission.specs.declared.replies.UnregisterRefusal.{UnregisterRefusal}
-use Rattle.admission.specs.declared.replies.UnregisterRefusal.TheVariants as unregister
-use Rattle.admission.specs.declared.replies.AdmitRefusal.{AdmitRefusal}
-use Rattle.admission.specs.declared.replies.AdmitRefusal.TheVariants as admit
-use Rattle.admission.specs.declared.replies.ChangeRefusal.{ChangeRefusal}
-use Rattle.admission.specs.declared.replies.ChangeRefusal.TheVariants as change
-use Rattle.admission.specs.declared.replies.ReleaseRefusal.{ReleaseRefusal}
-use Rattle.admission.specs.declared.replies.ReleaseRefusal.TheVariants as release
-use Rattle.admission.specs.declared.replies.ReloadRefusal.{ReloadRefusal}
-use Rattle.admission.specs.declared.replies.ReloadRefusal.TheVariants as reload
-use Rattle.admission.specs.declared.replies.Reply.{Reply as CoreReply}
-use Rattle.admission.specs.declared.replies.Reply.TheVariants as reply
+use Rattle.rulings.specs.declared.replies.RegisterRefusal.{RegisterRefusal}
+use Rattle.rulings.specs.declared.replies.RegisterRefusal.TheVariants as register
+use Rattle.rulings.specs.declared.replies.UnregisterRefusal.{UnregisterRefusal}
+use Rattle.rulings.specs.declared.replies.UnregisterRefusal.TheVariants as unregister
+use Rattle.rulings.specs.declared.replies.AdmitRefusal.{AdmitRefusal}
+use Rattle.rulings.specs.declared.replies.AdmitRefusal.TheVariants as admit
+use Rattle.rulings.specs.declared.replies.ChangeRefusal.{ChangeRefusal}
+use Rattle.rulings.specs.declared.replies.ChangeRefusal.TheVariants as change
+use Rattle.rulings.specs.declared.replies.ReleaseRefusal.{ReleaseRefusal}
+use Rattle.rulings.specs.declared.replies.ReleaseRefusal.TheVariants as release
+use Rattle.rulings.specs.declared.replies.ReloadRefusal.{ReloadRefusal}
+use Rattle.rulings.specs.declared.replies.ReloadRefusal.TheVariants as reload
+use Rattle.rulings.specs.declared.replies.Reply.{Reply as CoreReply}
+use Rattle.rulings.specs.declared.replies.Reply.TheVariants as reply
 use Rattle.gk_protocol.specs.declared.request_faults.RequestFault.{RequestFault}
 use Rattle.gk_protocol.specs.declared.request_faults.RequestFault.TheVariants as fault
 use Rattle.gk_protocol.specs.declared.answers.Answer.{Answer}

@@ -5,9 +5,9 @@ use Rattle.command_reader.specs.declared.faults.LineFault.{LineFault}
 use Rattle.command_reader.specs.declared.faults.FaultKind.TheVariants as fault_kind
 use Rattle.command_reader.specs.Configuration.{Configuration}
 use Rattle.command_reader.specs.Reading.{reading_in, MayRead}
-use Rattle.admission.specs.Events.{PlainEvent, Registering, Unregistering, Admitting, Changing, Releasing, Reloading}
-use Rattle.admission.specs.History.{CoreParts, MayReply}
-use Rattle.admission.specs.declared.replies.Reply.{Reply as CoreReply}
+use Rattle.rulings.specs.Events.{PlainEvent, Registering, Unregistering, Admitting, Changing, Releasing, Reloading}
+use Rattle.decision_record.specs.History.{CoreParts, MayReply}
+use Rattle.rulings.specs.declared.replies.Reply.{Reply as CoreReply}
 use Rattle.gk_protocol.specs.declared.requests.Request.{Request}
 use Rattle.gk_protocol.specs.declared.requests.Request.TheVariants.{Register, Unregister, Admit, Change, Release, Reload}
 use Rattle.gk_protocol.specs.declared.answers.Answer.{Answer}

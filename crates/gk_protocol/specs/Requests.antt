@@ -14,9 +14,9 @@ use Rattle.registry.specs.Endpoint.{EndpointParts, with_alias, with_technology}
 use Rattle.registry.specs.declared.faults.RegistryFault.{RegistryFault}
 use Rattle.registry.specs.declared.endpoints.EndpointKind.{EndpointKind}
 use Rattle.registry.specs.declared.endpoints.EndpointKind.TheVariants.{Gateway, Terminal}
-use Rattle.admission.specs.declared.replies.RegisterRefusal.TheVariants as register
-use Rattle.admission.specs.declared.replies.ReloadRefusal.TheVariants as reload
-use Rattle.admission.specs.declared.replies.Reply.TheVariants.{RegisterRefused, ReloadRefused}
+use Rattle.rulings.specs.declared.replies.RegisterRefusal.TheVariants as register
+use Rattle.rulings.specs.declared.replies.ReloadRefusal.TheVariants as reload
+use Rattle.rulings.specs.declared.replies.Reply.TheVariants.{RegisterRefused, ReloadRefused}
 use Rattle.gk_protocol.specs.declared.answers.Answer.{Answer}
 use Rattle.gk_protocol.specs.declared.answers.Answer.TheVariants.{Reply, Malformed}
 use Rattle.gk_protocol.specs.declared.request_faults.RequestFault.{RequestFault}

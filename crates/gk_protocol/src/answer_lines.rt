@@ -3,7 +3,7 @@
 ghost use Rattle.std.specs.Prelude.{◌≡◌, ◌<◌, ◌∷◌, ◌++◌, [], codes, decimal};
 ghost use Rattle.gk_terms.specs.Address.{address_text};
 ghost use Rattle.gk_lines.specs.LineBuffer.{ROOM_BYTES, with_words, line_of_words, room_of};
-ghost use Rattle.admission.specs.Routes as RouteSpec;
+ghost use Rattle.rulings.specs.Routes as RouteSpec;
 ghost use Rattle.gk_protocol.specs.Answers as Spec;
 
 use crate::answers::Answer;

@@ -1,7 +1,7 @@
 //! Who answers requests.
 
 ghost use Rattle.std.specs.Prelude.{◌≡◌, true};
-ghost use Rattle.admission.specs.Events.{plain, Unregistering, Admitting, Changing, Releasing};
+ghost use Rattle.rulings.specs.Events.{plain, Unregistering, Admitting, Changing, Releasing};
 ghost use Rattle.gk_protocol.specs.CoreAnswers.{MayAnswer, Replies, is_registration};
 
 use crate::answers::Answer;

@@ -4,7 +4,7 @@
 //! each name apart and puts it together again.
 
 ghost use Rattle.std.specs.Prelude.{◌≡◌};
-ghost use Rattle.admission.specs.Events.{plain, Unregistering, Admitting, Changing, Releasing};
+ghost use Rattle.rulings.specs.Events.{plain, Unregistering, Admitting, Changing, Releasing};
 
 use admission::Event;
 use gk_terms::{Dialled, Name, Units};

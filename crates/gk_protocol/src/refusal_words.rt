@@ -4,7 +4,7 @@ ghost use Rattle.std.specs.Prelude.{◌≡◌, ◌≤◌, ◌<◌, ◌∷◌, []
 ghost use Rattle.gk_terms.specs.Reason.{word_of};
 ghost use Rattle.gk_lines.specs.LineBuffer.{with_words, room_of};
 ghost use Rattle.command_reader.specs.Printing as Limits;
-ghost use Rattle.admission.specs.Routes as RouteSpec;
+ghost use Rattle.rulings.specs.Routes as RouteSpec;
 ghost use Rattle.gk_protocol.specs.Answers as Spec;
 
 use admission::{

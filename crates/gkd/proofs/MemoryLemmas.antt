@@ -9,23 +9,23 @@ use Rattle.bandwidth.specs.declared.open_call.OpenCall.{OpenCall}
 use Rattle.bandwidth.specs.declared.over.Over.{Over}
 use Rattle.bandwidth.specs.Calls.{call_of}
 use Rattle.bandwidth.specs.Fits.{over_of}
-use Rattle.admission.specs.declared.routes.Destination.{Destination}
-use Rattle.admission.specs.declared.routes.Route.{Route}
-use Rattle.admission.specs.declared.routes.Route.TheVariants.{To, Refused}
-use Rattle.admission.specs.declared.replies.RegisterRefusal.{RegisterRefusal}
-use Rattle.admission.specs.declared.replies.RegisterRefusal.TheVariants as register
-use Rattle.admission.specs.declared.replies.UnregisterRefusal.TheVariants as unregister
-use Rattle.admission.specs.declared.replies.AdmitRefusal.TheVariants as admit
-use Rattle.admission.specs.declared.replies.ChangeRefusal.TheVariants as change
-use Rattle.admission.specs.declared.replies.ReloadRefusal.TheVariants as reload
-use Rattle.admission.specs.declared.replies.Reply.{Reply}
-use Rattle.admission.specs.declared.replies.Reply.TheVariants.{RegisterRefused, Unregistered, UnregisterRefused, AdmitRefused, ChangeRefused, ReloadRefused}
-use Rattle.admission.specs.declared.rulings.Effect.TheVariants.{Nothing, Remove}
-use Rattle.admission.specs.State.{State}
-use Rattle.admission.specs.Events.{PlainEvent, Registering, Unregistering, Admitting, Changing, Releasing, Reloading}
-use Rattle.admission.specs.Routing.{route_of}
-use Rattle.admission.specs.Ruling.{Ruling, register_refusal, registration_unless, admitted_call, admission_unless, admission_to, admission_ruling, call_open_ruling, change_unless, change_ruling, unrouted, ruling_of}
-use Rattle.admission.specs.Step.{count_refusal, outcome_of, step, no_memory_reply_of}
+use Rattle.rulings.specs.declared.routes.Destination.{Destination}
+use Rattle.rulings.specs.declared.routes.Route.{Route}
+use Rattle.rulings.specs.declared.routes.Route.TheVariants.{To, Refused}
+use Rattle.rulings.specs.declared.replies.RegisterRefusal.{RegisterRefusal}
+use Rattle.rulings.specs.declared.replies.RegisterRefusal.TheVariants as register
+use Rattle.rulings.specs.declared.replies.UnregisterRefusal.TheVariants as unregister
+use Rattle.rulings.specs.declared.replies.AdmitRefusal.TheVariants as admit
+use Rattle.rulings.specs.declared.replies.ChangeRefusal.TheVariants as change
+use Rattle.rulings.specs.declared.replies.ReloadRefusal.TheVariants as reload
+use Rattle.rulings.specs.declared.replies.Reply.{Reply}
+use Rattle.rulings.specs.declared.replies.Reply.TheVariants.{RegisterRefused, Unregistered, UnregisterRefused, AdmitRefused, ChangeRefused, ReloadRefused}
+use Rattle.rulings.specs.declared.rulings.Effect.TheVariants.{Nothing, Remove}
+use Rattle.rulings.specs.State.{State}
+use Rattle.rulings.specs.Events.{PlainEvent, Registering, Unregistering, Admitting, Changing, Releasing, Reloading}
+use Rattle.rulings.specs.Routing.{route_of}
+use Rattle.rulings.specs.Ruling.{Ruling, register_refusal, registration_unless, admitted_call, admission_unless, admission_to, admission_ruling, call_open_ruling, change_unless, change_ruling, unrouted, ruling_of}
+use Rattle.rulings.specs.Step.{count_refusal, outcome_of, step, no_memory_reply_of}
 
 -- what holds of both
 either : {X : Type 0} (P : X → Type 0) (t : Bool) (x y : X) → P x → P y → P (cond t x y)

@@ -5,11 +5,11 @@ use Rattle.command_reader.specs.declared.faults.LineFault.{LineFault}
 use Rattle.command_reader.specs.Configuration.{Configuration}
 use Rattle.command_reader.specs.Reading.{reading_in}
 use Rattle.gk_terms.specs.Text.{lines_of}
-use Rattle.admission.specs.declared.limits.Limits.{Limits}
-use Rattle.admission.specs.Events.{PlainEvent, Registering, Unregistering, Admitting, Changing, Releasing, Reloading}
-use Rattle.admission.specs.Step.{step, no_memory_reply_of}
-use Rattle.admission.specs.History.{CoreParts, MayReply, state_of, with_entry, core_after}
-use Rattle.admission.specs.declared.replies.Reply.{Reply as CoreReply}
+use Rattle.rulings.specs.declared.limits.Limits.{Limits}
+use Rattle.rulings.specs.Events.{PlainEvent, Registering, Unregistering, Admitting, Changing, Releasing, Reloading}
+use Rattle.rulings.specs.Step.{step, no_memory_reply_of}
+use Rattle.decision_record.specs.History.{CoreParts, MayReply, state_of, with_entry, core_after}
+use Rattle.rulings.specs.declared.replies.Reply.{Reply as CoreReply}
 use Rattle.admission.proofs.CoreLemmas.{answers_as_the_machine}
 use Rattle.gk_protocol.specs.declared.request_faults.RequestFault.{RequestFault}
 use Rattle.gk_protocol.specs.declared.requests.Request.{Request}

@@ -4,11 +4,11 @@ use Rattle.std.specs.Fmt.{digits}
 use Rattle.compiler.specs.Plan.{plan_of}
 use Rattle.command_reader.specs.Line.{line_of}
 use Rattle.command_reader.specs.Reading.{line_after}
-use Rattle.admission.specs.Routing.{route_of}
+use Rattle.rulings.specs.Routing.{route_of}
 use Rattle.bandwidth.specs.Fits.{over_of}
-use Rattle.admission.specs.Ruling.{ruling_of}
-use Rattle.admission.specs.Step.{count_refusal, state_after, step}
-use Rattle.admission.specs.History.{state_of}
+use Rattle.rulings.specs.Ruling.{ruling_of}
+use Rattle.rulings.specs.Step.{count_refusal, state_after, step}
+use Rattle.decision_record.specs.History.{state_of}
 use Rattle.gk_protocol.specs.Requests.{asking_of, registering_of}
 use Rattle.gkd.specs.Output.{output_of}
 use Rattle.gkd.specs.Rows.{FirstRun, OpenCall, FullRecord, Stranger, Faults, ByPatternCostAndHopoff, PrefixAlone, GreatestPriority, PriorityZero, UnknownPrefix, AliasOrDefault, NoDefault, OtherAliases, LongDigits, FullTotal, SessionBeforeTotal, BetweenZones, ToRemoteZones, RaisedAndLowered, CountedInTargetZone, ByOwnerAlone, RoutedByNewLines, LimitedByNewLines, WithoutSecondZone, FaultyReloads, SmallestLimits}

@@ -1,6 +1,6 @@
 -- Worked rows: what a run over these lines writes, by the definitions alone.
 use Rattle.std.specs.Prelude.{ℕ, List, [], ◌∷◌, ◌++◌, codes, replicate}
-use Rattle.admission.specs.declared.limits.Limits.{Limits}
+use Rattle.rulings.specs.declared.limits.Limits.{Limits}
 use Rattle.gkd.specs.Output.{Writes}
 
 -- the stated limits

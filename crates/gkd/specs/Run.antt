@@ -2,11 +2,11 @@
 use Rattle.std.specs.Prelude.{◌≡◌, ◌⊎◌, ℕ, Bool, true, false, List, [], ◌++◌, Result, Ok, Err}
 use Rattle.command_reader.specs.Configuration.{Configuration}
 use Rattle.command_reader.specs.Reading.{reading_in, MayRead}
-use Rattle.admission.specs.declared.limits.Limits.{Limits}
+use Rattle.rulings.specs.declared.limits.Limits.{Limits}
 use Rattle.admission.specs.declared.cores.OpeningFault.{OpeningFault}
 use Rattle.admission.specs.declared.cores.OpeningFault.TheVariants as opening
-use Rattle.admission.specs.State.{opening_of}
-use Rattle.admission.specs.History.{CoreParts}
+use Rattle.rulings.specs.State.{opening_of}
+use Rattle.decision_record.specs.History.{CoreParts}
 use Rattle.gk_lines.specs.declared.line_reader.ReadFault.{ReadFault}
 use Rattle.gk_protocol.specs.declared.requests.Request.{Request}
 use Rattle.gk_protocol.specs.declared.answers.Answer.{Answer}

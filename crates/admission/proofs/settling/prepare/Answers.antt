@@ -1,11 +1,11 @@
 use Rattle.std.proofs.Common.{refl, sym, ap, ◌∙◌, ◌-◌, arith}
 use Rattle.std.specs.Prelude.{◌≤◌, length}
-use Rattle.admission.specs.Ruling.{ruling_of}
-use Rattle.admission.specs.Events.{plain}
-use Rattle.admission.specs.Step.{places_needed, with_count, with_effect}
+use Rattle.rulings.specs.Ruling.{ruling_of}
+use Rattle.rulings.specs.Events.{plain}
+use Rattle.rulings.specs.Step.{places_needed, with_count, with_effect}
 use Rattle.command_reader.proofs.PrintingLemmas.{OnErr-from}
-use Rattle.admission.specs.State.{State, under}
-use Rattle.admission.specs.History.{RecordParts, in_force}
+use Rattle.rulings.specs.State.{State, under}
+use Rattle.decision_record.specs.History.{RecordParts, in_force}
 use Rattle.admission.proofs.FoundedLemmas.{ruled_founded, ruled_lacks, ruled_fits, ruled_one, ruled_enough}
 use Rattle.admission.proofs.settling.prepare.Goals as goal
 

@@ -1,5 +1,5 @@
 use Rattle.std.proofs.Common.{length, refl, sym, ap, ◌∙◌}
-use Rattle.admission.specs.History.{CoreParts}
+use Rattle.decision_record.specs.History.{CoreParts}
 use Rattle.admission.proofs.CoreLemmas.{counts}
 use Rattle.admission.proofs.EnteringLemmas.{as_long_unrecorded, was_entered}
 use Rattle.admission.proofs.cores.Core.answer_by.Goals as goal

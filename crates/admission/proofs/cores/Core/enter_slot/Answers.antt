@@ -1,11 +1,11 @@
 use Rattle.std.proofs.Common.{◌≡◌, ◌≤◌, ◌++◌, [], Some, false, refl, sym, ap, ap₂, ◌∙◌, true≢false, arith}
 use Rattle.std.specs.List.{cons_option}
-use Rattle.admission.specs.Events as Events
-use Rattle.admission.specs.History.{CoreParts, RecordParts, entry_of, state_of}
+use Rattle.rulings.specs.Events as Events
+use Rattle.decision_record.specs.History.{CoreParts, RecordParts, entry_of, state_of}
 use Rattle.admission.specs.CoreInvariant.{places_reserved}
-use Rattle.admission.specs.Ruling.{ruling_of}
-use Rattle.admission.specs.Founded.{takes_memory}
-use Rattle.admission.specs.Step.{places_needed, step}
+use Rattle.rulings.specs.Ruling.{ruling_of}
+use Rattle.rulings.specs.Founded.{takes_memory}
+use Rattle.rulings.specs.Step.{places_needed, step}
 use Rattle.admission.proofs.EnteringLemmas.{recorded_unrefused, recorded_verdict_of}
 use Rattle.admission.proofs.CoreLemmas.{stands_as, counts, is_within, lacks_memory, kept_on, records, core_still, reload_is_light}
 use Rattle.admission.proofs.cores.Core.enter_slot.Goals as goal

@@ -1,7 +1,7 @@
 use Rattle.std.proofs.Common.{subst}
 use Rattle.std.specs.Prelude.{◌≡◌, OnOk}
-use Rattle.admission.specs.Events.{plain}
-use Rattle.admission.specs.History.{with_entry}
+use Rattle.rulings.specs.Events.{plain}
+use Rattle.decision_record.specs.History.{with_entry}
 use Rattle.admission.proofs.EnteringLemmas.{verdict_may}
 use Rattle.admission.proofs.cores.Core.enter_whole.Goals as goal
 

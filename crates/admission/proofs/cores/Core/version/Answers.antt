@@ -1,5 +1,5 @@
 use Rattle.std.proofs.Common.{ap, ◌∙◌}
-use Rattle.admission.specs.State.{State}
+use Rattle.rulings.specs.State.{State}
 use Rattle.admission.proofs.CoreLemmas.{stands_as, is_sound}
 use Rattle.admission.proofs.cores.Core.version.Goals as goal
 

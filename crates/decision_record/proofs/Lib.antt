@@ -1,0 +1,5 @@
+pub mod RecordLemmas
+pub mod ReloadLemmas
+pub mod SlotListLemmas
+pub mod StoredLemmas
+pub mod ToldLemmas

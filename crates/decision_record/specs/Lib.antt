@@ -1,0 +1,6 @@
+pub mod History
+pub mod RecordIndex
+pub mod Reloads
+pub mod SlotList
+pub mod Slots
+pub mod Told

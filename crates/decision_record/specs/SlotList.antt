@@ -1,0 +1,87 @@
+-- How the slots of a record are held. A reader of the contracts need not know it.
+use Rattle.std.specs.Prelude.{◌≡◌, ◌≤◌, ℕ, List, length, map, filter_map, slice_get, Option, Some}
+use Rattle.std.specs.Option.{option_map}
+use Rattle.command_reader.specs.declared.commands.LimitKind.TheVariants as kind
+use Rattle.pieces.specs.Pieces.{PiecesParts}
+use Rattle.decision_record.specs.declared.slots.Slot.{Slot}
+use Rattle.decision_record.specs.declared.slots.Slot.TheVariants as slot
+use Rattle.decision_record.specs.declared.slots.ShortOver.{ShortOver}
+use Rattle.decision_record.specs.declared.slots.ShortOver.TheVariants as limit
+use Rattle.decision_record.specs.declared.slots.ShortReply.TheVariants as short_reply
+use Rattle.decision_record.specs.declared.slot_kinds.BriefSlot.{BriefSlot}
+use Rattle.decision_record.specs.declared.slot_kinds.BriefSlot.TheVariants as brief_of
+use Rattle.decision_record.specs.declared.slot_kinds.RefusedAdmission.{RefusedAdmission}
+use Rattle.decision_record.specs.declared.slot_kinds.RoutedAdmission.{RoutedAdmission}
+use Rattle.decision_record.specs.declared.slot_places.SlotPlace.{SlotPlace}
+use Rattle.decision_record.specs.declared.slot_places.SlotPlace.TheVariants as place_of
+
+-- the slot of an admission that leads to a destination and is granted
+abbrev pub admitted_slot : RoutedAdmission → Slot
+admitted_slot a = slot.Admitted a.call a.units a.id a.digits a.zone a.destination a.address
+
+-- or is refused for a limit
+abbrev pub over_slot : ShortOver → RoutedAdmission → Slot
+over_slot over a =
+    slot.OverLimit a.call a.units a.id a.digits a.zone a.destination a.address over
+
+-- the slot of an admission that leads to none
+abbrev pub refused_slot : RefusedAdmission → Slot
+refused_slot a = slot.Refused a.call a.units a.id a.digits a.cause
+
+-- the slot that takes few bytes
+abbrev pub brief_slot : BriefSlot → Slot
+brief_slot (brief_of.Change id call units) = slot.Change id call units
+brief_slot (brief_of.Release id call) = slot.Release id call
+brief_slot (brief_of.Unregistration id) = slot.Unregistration id
+brief_slot (brief_of.Registration place replied) = slot.Registration place replied
+
+-- the slot that is meant by a place, beside the three lists
+abbrev pub place_meant
+    : List RoutedAdmission → List RefusedAdmission → List BriefSlot → SlotPlace → Option Slot
+place_meant routed refused brief (place_of.Admitted place) =
+    option_map admitted_slot (slice_get routed place)
+place_meant routed refused brief (place_of.OverSession place) =
+    option_map (over_slot (limit.OwnZone kind.Session)) (slice_get routed place)
+place_meant routed refused brief (place_of.OverTotal place) =
+    option_map (over_slot (limit.OwnZone kind.Total)) (slice_get routed place)
+place_meant routed refused brief (place_of.OverInterzone place) =
+    option_map (over_slot (limit.OwnZone kind.Interzone)) (slice_get routed place)
+place_meant routed refused brief (place_of.OverRemote place) =
+    option_map (over_slot limit.Remote) (slice_get routed place)
+place_meant routed refused brief (place_of.Refused place) =
+    option_map refused_slot (slice_get refused place)
+place_meant routed refused brief (place_of.Brief place) =
+    option_map brief_slot (slice_get brief place)
+place_meant routed refused brief (place_of.Registered place) =
+    Some (slot.Registration place short_reply.Granted)
+place_meant routed refused brief (place_of.Aside place) = Some (slot.Aside place)
+place_meant routed refused brief (place_of.Reload place) = Some (slot.Reload place)
+
+-- the place of an admission that is refused for a limit
+abbrev pub over_place : ShortOver → ℕ → SlotPlace
+over_place (limit.OwnZone kind.Session) place = place_of.OverSession place
+over_place (limit.OwnZone kind.Total) place = place_of.OverTotal place
+over_place (limit.OwnZone kind.Interzone) place = place_of.OverInterzone place
+over_place limit.Remote place = place_of.OverRemote place
+
+-- the slots, in order
+abbrev pub slots_told
+    : PiecesParts SlotPlace → PiecesParts RoutedAdmission → PiecesParts RefusedAdmission
+    → PiecesParts BriefSlot → List Slot
+slots_told places routed refused brief =
+    filter_map (place_meant routed.items refused.items brief.items) places.items
+
+-- the places mean these slots, no other list is longer than them, and all four have this room
+pub record AreHeld
+    (places : PiecesParts SlotPlace) (routed : PiecesParts RoutedAdmission)
+    (refused : PiecesParts RefusedAdmission) (brief : PiecesParts BriefSlot) (slots : List Slot)
+    (room : ℕ)
+    : Type 0 where
+  pub meant : map (place_meant routed.items refused.items brief.items) places.items ≡ map Some slots
+  pub few_routed : length routed.items ≤ length slots
+  pub few_refused : length refused.items ≤ length slots
+  pub few_brief : length brief.items ≤ length slots
+  pub room_places : room ≤ places.room
+  pub room_routed : room ≤ routed.room
+  pub room_refused : room ≤ refused.room
+  pub room_brief : room ≤ brief.room

@@ -1,0 +1,137 @@
+//! Entries of the record, and their receipts.
+
+ghost use Rattle.std.specs.Prelude.{◌≡◌, ◌↔◌, true};
+ghost use Rattle.rulings.specs.Events.{plain};
+ghost use Rattle.decision_record.specs.Slots.{other_entry};
+ghost use Rattle.decision_record.specs.RecordIndex.{plain_whole};
+ghost use Rattle.decision_record.specs.History.{plain_entry, receipt_of};
+
+use command_reader::Commands;
+use gk_terms::Name;
+use rulings::{Event, EventKind, Reply, Route};
+use std::borrow::Cow;
+
+/// What was asked, as the record keeps it.
+#[derive(Drop)]
+pub enum EntryEvent<'a> {
+    /// An event other than a reload.
+    Asked(Cow<'a, Event>),
+    /// A reload of these commands. Their tables are let go as others are put in force, and a replay
+    /// compiles them again.
+    Reload(&'a Commands),
+}
+
+/// One recorded event with its reply.
+#[derive(Drop)]
+pub struct Entry<'a> {
+    /// What was asked.
+    pub event: EntryEvent<'a>,
+    /// What was replied.
+    pub reply: Reply,
+    /// Of an admission: the zone of the caller, if it was registered.
+    pub zone: Option<Name>,
+    /// Of an admission: where the digits lead, if that was looked for.
+    pub route: Option<Route>,
+}
+
+impl Entry<'_> {
+    /// The receipt of this entry, if it has this number.
+    pub fn receipt(&self, number: u32) -> Receipt
+        ensures { result ≡ receipt_of number (plain_entry self.now) }
+    {
+        match &self.event {
+            EntryEvent::Asked(event) => Receipt::of(number, event, self.reply),
+            EntryEvent::Reload(_) => Receipt {
+                number,
+                kind: EventKind::Reload,
+                id: None,
+                call: None,
+                reply: self.reply,
+            },
+        }
+    }
+}
+
+/// An entry as the record keeps it whole.
+#[derive(Drop)]
+pub struct WholeEntry {
+    pub event: Event,
+    pub reply: Reply,
+    pub zone: Option<Name>,
+    pub route: Option<Route>,
+}
+
+impl WholeEntry {
+    /// The entry, with the event lent.
+    pub fn lent(&self) -> Entry<'_>
+        ensures { plain_entry result ≡ plain_whole self.now }
+    {
+        let WholeEntry {
+            event,
+            reply,
+            zone,
+            route,
+        } = self;
+        Entry {
+            event: EntryEvent::Asked(Cow::Borrowed(event)),
+            reply: *reply,
+            zone: *zone,
+            route: *route,
+        }
+    }
+}
+
+/// What whoever asked may keep of an entry, to find it in the record again.
+#[derive(Clone, Copy, Debug, PartialEq, Eq)]
+pub struct Receipt {
+    /// The number of the entry, from 1.
+    pub number: u32,
+    /// What kind of event it was.
+    pub kind: EventKind,
+    /// The ID of the endpoint that asked; nothing for a reload.
+    pub id: Option<Name>,
+    /// The number of the call that it was about, if it was about one.
+    pub call: Option<u32>,
+    /// What was replied.
+    pub reply: Reply,
+}
+
+impl Receipt {
+    /// The receipt of an event with its reply, if its entry has this number.
+    fn of(number: u32, event: &Event, reply: Reply) -> Receipt
+        ensures { result ≡ receipt_of number (other_entry (plain event.now) reply) }
+    {
+        Receipt {
+            number,
+            kind: event.kind(),
+            id: event.id(),
+            call: event.call(),
+            reply,
+        }
+    }
+}
+
+/// Whether two receipts are the same.
+pub fn same_receipt(a: &Receipt, b: &Receipt) -> bool
+    ensures { (result ≡ true) ↔ (a.now ≡ b.now) }
+{
+    a.number == b.number
+        && a.kind == b.kind
+        && same_id(&a.id, &b.id)
+        && a.call == b.call
+        && same_reply(&a.reply, &b.reply)
+}
+
+/// Whether two IDs are the same, or both are absent.
+fn same_id(a: &Option<Name>, b: &Option<Name>) -> bool
+    ensures { (result ≡ true) ↔ (a.now ≡ b.now) }
+{
+    *a == *b
+}
+
+/// Whether two replies are the same.
+fn same_reply(a: &Reply, b: &Reply) -> bool
+    ensures { (result ≡ true) ↔ (a.now ≡ b.now) }
+{
+    *a == *b
+}

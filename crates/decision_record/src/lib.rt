@@ -1,0 +1,18 @@
+//! The record of decisions: what was asked, and what was replied.
+#![tactic(auto)]
+
+mod entries;
+mod packing;
+mod record;
+mod reloads;
+mod slot_entries;
+mod slot_kinds;
+mod slot_list;
+mod slot_places;
+mod slots;
+mod told;
+
+pub use entries::{Entry, EntryEvent, Receipt};
+pub use record::Record;
+pub use slots::Slot;
+pub use told::Told;

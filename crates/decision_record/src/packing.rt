@@ -1,0 +1,242 @@
+//! What was ruled on an event, put into few bytes.
+
+ghost use Rattle.std.specs.Prelude.{◌≡◌, ◌≢◌, ◌↔◌, [], Some, None, IfSome, IfNone};
+ghost use Rattle.rulings.specs.Events.{plain, Registering, Unregistering, Admitting, Changing, Releasing};
+ghost use Rattle.decision_record.specs.History.{entry_by};
+ghost use Rattle.rulings.specs.Lent.{destination_meant, ruling_meant};
+ghost use Rattle.decision_record.specs.Slots as Spec;
+
+use crate::slots::{ShortDestination, ShortOver, ShortReply, Slot, Unrouted};
+use bandwidth::Over;
+use gk_terms::{Dialled, Name, Units};
+use registry::Endpoint;
+use rulings::{DestinationKind, Event, LentRuling};
+use short_texts::{PackedDigits, ShortName};
+
+impl Slot {
+    /// What was ruled on the event, in few bytes if it can be.
+    #[inline(never)]
+    pub fn of(event: &Event, ruling: &LentRuling<'_>) -> Option<Slot>
+        ensures { IfSome result (λ slot. Spec.entry_meant [] [] [] slot
+            ≡ Some (entry_by (plain event.now) (ruling_meant ruling.now))) }
+    {
+        match event {
+            Event::Register(_) | Event::Reload(_) => None,
+            Event::Unregister { id } => unregistration(id, ruling),
+            Event::Admit {
+                id,
+                call,
+                digits,
+                units,
+            } => admission(id, *call, digits, *units, ruling),
+            Event::Change { id, call, units } => change(id, *call, *units, ruling),
+            Event::Release { id, call } => release(id, *call, ruling),
+        }
+    }
+}
+
+impl ShortReply {
+    /// The reply to the event, if it is a registration and the names in the reply are those of the
+    /// endpoint that asked: nothing only if no short reply tells the entry.
+    pub fn of(event: &Event, ruling: &LentRuling<'_>) -> Option<ShortReply>
+        ensures told { IfSome result (λ replied. Spec.registration_meant replied (plain event.now)
+            ≡ Some (entry_by (plain event.now) (ruling_meant ruling.now))) }
+        ensures none { IfNone result ((replied : _) → Spec.registration_meant replied
+            (plain event.now) ≢ Some (entry_by (plain event.now) (ruling_meant ruling.now))) }
+    {
+        match event {
+            Event::Register(endpoint) => registration(endpoint, ruling),
+            Event::Unregister { .. }
+            | Event::Admit { .. }
+            | Event::Change { .. }
+            | Event::Release { .. }
+            | Event::Reload(_) => None,
+        }
+    }
+}
+
+/// The reply to a registration, if the names in it are those of the endpoint that asked.
+fn registration(endpoint: &Endpoint, ruling: &LentRuling<'_>) -> Option<ShortReply>
+    ensures told { IfSome result (λ replied. Spec.register_entry replied endpoint.now
+        ≡ entry_by (Registering endpoint.now) (ruling_meant ruling.now)) }
+    ensures none { IfNone result ((replied : _) → Spec.register_entry replied endpoint.now
+        ≢ entry_by (Registering endpoint.now) (ruling_meant ruling.now)) }
+{
+    match ruling {
+        LentRuling::Registered { id, zone }
+            if **id == *endpoint.id() && *zone == *endpoint.zone() => { Some(ShortReply::Granted) }
+        LentRuling::RegisterRefused { id, reason } if **id == *endpoint.id() => {
+            Some(ShortReply::Refused { reason: *reason })
+        }
+        _ => None,
+    }
+}
+
+/// The slot of a granted unregistration.
+fn unregistration(id: &Name, ruling: &LentRuling<'_>) -> Option<Slot>
+    ensures { IfSome result (λ slot. Spec.entry_meant [] [] [] slot
+        ≡ Some (entry_by (Unregistering id.now) (ruling_meant ruling.now))) }
+{
+    match ruling {
+        LentRuling::Unregistered { id: left } if **left == *id => {
+            let id = ShortName::of(id)?;
+            Some(Slot::Unregistration { id })
+        }
+        _ => None,
+    }
+}
+
+/// The slot of a granted bandwidth change.
+fn change(id: &Name, call: u32, units: Units, ruling: &LentRuling<'_>) -> Option<Slot>
+    ensures { IfSome result (λ slot. Spec.entry_meant [] [] [] slot
+        ≡ Some (entry_by (Changing id.now call units) (ruling_meant ruling.now))) }
+{
+    match ruling {
+        LentRuling::Changed {
+            call: changed,
+            units: given,
+            ..
+        } if *changed == call && *given == units => {
+            let id = ShortName::of(id)?;
+            Some(Slot::Change { id, call, units })
+        }
+        _ => None,
+    }
+}
+
+/// The slot of a granted release.
+fn release(id: &Name, call: u32, ruling: &LentRuling<'_>) -> Option<Slot>
+    ensures { IfSome result (λ slot. Spec.entry_meant [] [] [] slot
+        ≡ Some (entry_by (Releasing id.now call) (ruling_meant ruling.now))) }
+{
+    match ruling {
+        LentRuling::Released { call: released, .. } if *released == call => {
+            let id = ShortName::of(id)?;
+            Some(Slot::Release { id, call })
+        }
+        _ => None,
+    }
+}
+
+/// The slot of an admission.
+fn admission(
+    id: &Name,
+    call: u32,
+    digits: &Dialled,
+    units: Units,
+    ruling: &LentRuling<'_>,
+) -> Option<Slot>
+    ensures { IfSome result (λ slot. Spec.entry_meant [] [] [] slot
+        ≡ Some (entry_by (Admitting id.now call digits.now units) (ruling_meant ruling.now))) }
+{
+    let id = ShortName::of(id)?;
+    let digits = PackedDigits::of(digits);
+    match ruling {
+        LentRuling::Admitted {
+            call: number,
+            source,
+            units: granted,
+            kind,
+            name,
+            address,
+            ..
+        } if *number == call && *granted == units => Some(Slot::Admitted {
+            call,
+            units,
+            id,
+            digits,
+            zone: ShortName::of(source)?,
+            destination: ShortDestination::of(*kind, ShortName::of(name)?),
+            address: *address,
+        }),
+        LentRuling::OverLimit {
+            call: number,
+            source,
+            kind,
+            name,
+            address,
+            over,
+        } if *number == call => {
+            let zone = ShortName::of(source)?;
+            Some(Slot::OverLimit {
+                call,
+                units,
+                id,
+                digits,
+                zone,
+                destination: ShortDestination::of(*kind, ShortName::of(name)?),
+                address: *address,
+                over: short_over(over, &zone)?,
+            })
+        }
+        LentRuling::CallerNotRegistered { call: number } if *number == call => {
+            let cause = Unrouted::CallerNotRegistered;
+            Some(Slot::Refused {
+                call,
+                units,
+                id,
+                digits,
+                cause,
+            })
+        }
+        LentRuling::CallOpen {
+            call: number,
+            source,
+        } if *number == call => {
+            let zone = ShortName::of(source)?;
+            let cause = Unrouted::CallOpen { zone };
+            Some(Slot::Refused {
+                call,
+                units,
+                id,
+                digits,
+                cause,
+            })
+        }
+        LentRuling::NoRoute {
+            call: number,
+            source,
+            refusal,
+        } if *number == call => {
+            let zone = ShortName::of(source)?;
+            let refusal = *refusal;
+            let cause = Unrouted::NoRoute { zone, refusal };
+            Some(Slot::Refused {
+                call,
+                units,
+                id,
+                digits,
+                cause,
+            })
+        }
+        _ => None,
+    }
+}
+
+impl ShortDestination {
+    /// The destination of this kind and of this name, except for the address.
+    fn of(kind: DestinationKind, name: ShortName) -> ShortDestination
+        ensures { (address : _) → Spec.destination_meant result address
+            ≡ destination_meant kind name address }
+    {
+        match kind {
+            DestinationKind::Gateway => ShortDestination::Gateway { id: name },
+            DestinationKind::Terminal => ShortDestination::Terminal { id: name },
+            DestinationKind::Zone => ShortDestination::Zone { name },
+        }
+    }
+}
+
+/// What would be above its limit, in few bytes if it is a sum of the caller's zone or that of all
+/// calls to zones of other gatekeepers.
+fn short_over(over: &Over, zone: &ShortName) -> Option<ShortOver>
+    ensures { IfSome result (λ short. Spec.over_meant short zone.now ≡ over.now) }
+{
+    match over {
+        Over::Zone { kind, zone: full } if zone.is(full) => {
+            Some(ShortOver::OwnZone { kind: *kind })
+        }
+        Over::Zone { .. } => None,
+        Over::Remote => Some(ShortOver::Remote),
+    }
+}

@@ -1,0 +1,219 @@
+//! The reloads of a record.
+
+ghost use Rattle.std.specs.Prelude.{◌≡◌, ◌≤◌, ◌+◌, ◌++◌, ◌∷◌, [], Some, None, length, slice_get, option_map, OnOk};
+ghost use Rattle.std.specs.Arc.{arc_value};
+ghost use Rattle.pieces.specs.declared.list.TheConstants.{PIECE_ITEMS};
+ghost use Rattle.decision_record.specs.History.{plain_entry};
+ghost use Rattle.decision_record.specs.Reloads.{commands_past, commands_last, plain_past, plain_last};
+
+use crate::entries::{Entry, EntryEvent};
+use command_reader::Commands;
+use compiler::Tables;
+use gk_terms::Name;
+use pieces::Pieces;
+use rulings::{Reply, Route};
+use std::alloc::{AllocError, Global};
+use std::marker::Model;
+use std::mem;
+use std::sync::Arc;
+
+/// A configuration that was in force: its commands, from which a replay compiles it again; or its
+/// tables, if somebody else still had them as another one was put in force.
+#[derive(Drop)]
+pub enum PastConfiguration {
+    Commands(Commands),
+    Tables(Arc<Tables>),
+}
+
+/// The entry of a reload that another one followed.
+#[derive(Drop)]
+pub struct PastReload {
+    configuration: PastConfiguration,
+    reply: Reply,
+    zone: Option<Name>,
+    route: Option<Route>,
+}
+
+/// The entry of the last reload, whose tables are in force.
+#[derive(Drop)]
+pub struct LastReload {
+    pub tables: Arc<Tables>,
+    pub reply: Reply,
+    pub zone: Option<Name>,
+    pub route: Option<Route>,
+}
+
+/// The entries of reloads in order. A contract sees their values, the commands that the last one put
+/// in force, and for how many further ones there is at least room without memory.
+///
+/// `last` is the last one, and `past` are those before it. As one more follows, the tables of the
+/// last one are let go and its commands stay, so that the record of a long run holds the tables in
+/// force alone.
+#[derive(Drop)]
+pub struct Reloads {
+    past: Pieces<PastReload>,
+    last: Option<LastReload>,
+}
+
+impl Model for Reloads {
+    ghost use Rattle.std.specs.Prelude.{option_map};
+    ghost use Rattle.decision_record.specs.Reloads.{ReloadsParts, reloads_told, commands_last};
+
+    ghost Value = { ReloadsParts };
+
+    ghost view = { λ r. record {
+      entries = reloads_told r.past.items r.last;
+      last = option_map commands_last r.last;
+      room = r.past.room;
+    } };
+}
+
+impl PastConfiguration {
+    /// That of these tables.
+    fn of(tables: Arc<Tables>) -> PastConfiguration
+        ensures { commands_past result ≡ (arc_value tables).commands }
+    {
+        match Arc::try_unwrap(tables) {
+            Ok(tables) => PastConfiguration::Commands(tables.into_commands()),
+            Err(tables) => PastConfiguration::Tables(tables),
+        }
+    }
+
+    /// Its commands.
+    fn commands(&self) -> &Commands
+        ensures { result.now.commands ≡ commands_past self.now }
+    {
+        match self {
+            PastConfiguration::Commands(commands) => commands,
+            PastConfiguration::Tables(tables) => tables.commands(),
+        }
+    }
+}
+
+impl PastReload {
+    /// The entry, with its commands lent.
+    fn lent(&self) -> Entry<'_>
+        ensures { plain_entry result ≡ plain_past self.now }
+    {
+        Entry {
+            event: EntryEvent::Reload(self.configuration.commands()),
+            reply: self.reply,
+            zone: self.zone,
+            route: self.route,
+        }
+    }
+}
+
+impl LastReload {
+    /// The entry, with its commands lent.
+    fn lent(&self) -> Entry<'_>
+        ensures { plain_entry result ≡ plain_last self.now }
+    {
+        Entry {
+            event: EntryEvent::Reload(self.tables.commands()),
+            reply: self.reply,
+            zone: self.zone,
+            route: self.route,
+        }
+    }
+
+    /// The same after another reload.
+    fn past(self) -> PastReload
+        ensures { plain_past result ≡ plain_last self }
+    {
+        let LastReload {
+            tables,
+            reply,
+            zone,
+            route,
+        } = self;
+        PastReload {
+            configuration: PastConfiguration::of(tables),
+            reply,
+            zone,
+            route,
+        }
+    }
+}
+
+impl Reloads {
+    /// No reloads, and no room. It takes no memory.
+    pub fn new(alloc: Global) -> Reloads
+        ensures { result ≡ record { entries = []; last = None; room = 0 } }
+    {
+        Reloads {
+            past: Pieces::new(alloc),
+            last: None,
+        }
+    }
+
+    /// How many reloads there are.
+    pub fn len(&self) -> usize
+        ensures { result ≡ length self.now.entries }
+    {
+        match &self.last {
+            Some(_) => self.past.len() + 1,
+            None => self.past.len(),
+        }
+    }
+
+    /// The entry of the reload at this place, from 0, if there is one.
+    pub fn get(&self, place: usize) -> Option<Entry<'_>>
+        ensures { option_map plain_entry result ≡ slice_get self.now.entries place }
+    {
+        if place < self.past.len() {
+            return past_at(&self.past, place);
+        }
+        if place > self.past.len() {
+            return None;
+        }
+        match &self.last {
+            Some(reload) => Some(reload.lent()),
+            None => None,
+        }
+    }
+
+    /// The tables that the last reload put in force.
+    pub fn tables(&self) -> Option<&Tables>
+        ensures { option_map (λ tables. tables.now.commands) result ≡ self.now.last }
+    {
+        match &self.last {
+            Some(reload) => Some(&reload.tables),
+            None => None,
+        }
+    }
+
+    /// Makes room for this many further reloads. If memory runs out, nothing changes.
+    pub fn reserve(&mut self, places: usize) -> Result<(), AllocError>
+        requires near { places ≤ self.old.room + PIECE_ITEMS }
+        ensures entries { self.new.entries ≡ self.old.entries }
+        ensures last { self.new.last ≡ self.old.last }
+        ensures room { self.old.room ≤ self.new.room }
+        ensures ok { OnOk result (places ≤ self.new.room) }
+    {
+        self.past.reserve(places)
+    }
+
+    /// Puts a reload at the end, in room that was reserved: the last one. It takes no memory.
+    pub fn push(&mut self, reload: LastReload)
+        requires { 1 ≤ self.old.room }
+        ensures entries { self.new.entries ≡ self.old.entries ++ plain_last reload ∷ [] }
+        ensures last { self.new.last ≡ Some (commands_last reload) }
+        ensures room { self.old.room ≤ self.new.room + 1 }
+    {
+        if let Some(before) = mem::replace(&mut self.last, Some(reload)) {
+            self.past.push(before.past());
+        }
+    }
+}
+
+/// The entry of the past reload at this place.
+fn past_at(past: &Pieces<PastReload>, place: usize) -> Option<Entry<'_>>
+    ensures { option_map plain_entry result ≡ option_map plain_past
+        (slice_get past.now.items place) }
+{
+    match past.get(place) {
+        Some(reload) => Some(reload.lent()),
+        None => None,
+    }
+}

@@ -1,0 +1,298 @@
+//! The slots of a record, each in the bytes that its kind needs.
+
+ghost use Rattle.std.specs.Prelude.{◌≡◌, ◌<◌, ◌≤◌, ◌+◌, ◌-◌, ◌^◌, ◌++◌, ◌∷◌, [], length, slice_get, IsSome, OnOk};
+ghost use Rattle.std.specs.List.{cons_option};
+ghost use Rattle.pieces.specs.declared.list.TheConstants.{PIECE_ITEMS};
+ghost use Rattle.decision_record.specs.RecordIndex.{IsRoomier};
+ghost use Rattle.decision_record.specs.SlotList.{admitted_slot, over_slot, refused_slot, brief_slot, place_meant};
+
+use crate::slot_kinds::{
+    BriefSlot, HeldBrief, HeldRefused, HeldRouted, RefusedAdmission, RoutedAdmission,
+};
+use crate::slot_places::{SlotPlace, slot_at};
+use crate::slots::{ShortOver, ShortReply, Slot};
+use pieces::{PIECE_ITEMS, Pieces};
+use std::alloc::{AllocError, Global};
+use std::marker::Model;
+use std::mem::size_of;
+
+/// The slots of a record in order. A contract sees them, and for how many further ones there is
+/// room without memory: the same as of one list of slots.
+///
+/// `places` has a place of 8 bytes for each slot. That of a granted registration, of a reload or of
+/// an entry that stands whole is the slot itself; any other says where it stands: in `routed` if it is
+/// that of an admission that leads to a destination, and the place tells the verdict; in `refused`
+/// if the admission leads to none; and in `brief` if it is that of a granted change, release or
+/// unregistration, or of a refused registration. Each of the four lists has room for `room` further
+/// items, since it is not known of which kind the next slots are.
+#[derive(Drop)]
+pub struct SlotList {
+    places: Pieces<SlotPlace>,
+    routed: Pieces<HeldRouted>,
+    refused: Pieces<HeldRefused>,
+    brief: Pieces<HeldBrief>,
+    room: usize,
+}
+
+impl Model for SlotList {
+    ghost use Rattle.pieces.specs.Pieces.{PiecesParts};
+    ghost use Rattle.decision_record.specs.SlotList.{slots_told, AreHeld};
+    ghost use Rattle.decision_record.specs.declared.slots.Slot.{Slot};
+
+    ghost Value = { PiecesParts Slot };
+
+    ghost view = { λ l. record {
+      items = slots_told l.places l.routed l.refused l.brief;
+      room = l.room;
+    } };
+
+    ghost invariant = { λ l. AreHeld l.places l.routed l.refused l.brief
+        (slots_told l.places l.routed l.refused l.brief) l.room };
+}
+
+impl SlotList {
+    /// No slots, and no room. It takes no memory.
+    pub fn new(alloc: Global) -> SlotList
+        ensures { result ≡ record { items = []; room = 0 } }
+    {
+        SlotList {
+            places: Pieces::new(alloc),
+            routed: Pieces::new(alloc),
+            refused: Pieces::new(alloc),
+            brief: Pieces::new(alloc),
+            room: 0,
+        }
+    }
+
+    /// How many bytes the slot of an admission that leads to a destination takes, with its place.
+    /// No other slot takes more.
+    pub fn routed_bytes() -> usize {
+        size_of::<SlotPlace>() + size_of::<HeldRouted>()
+    }
+
+    /// How many slots there are. With those that there is room for they are fewer than 2^63.
+    pub fn len(&self) -> usize
+        ensures value { result ≡ length self.now.items }
+        ensures bounded { result + self.now.room < 2 ^ 63 }
+    {
+        self.places.len()
+    }
+
+    /// The slot at this place, from 0, if there is one.
+    pub fn get(&self, place: usize) -> Option<Slot>
+        ensures { result ≡ slice_get self.now.items place }
+    {
+        slot_at(
+            &self.places,
+            &self.routed,
+            &self.refused,
+            &self.brief,
+            place,
+        )
+    }
+
+    /// Makes room for this many further slots, of whatever kinds. If memory runs out, nothing
+    /// changes.
+    pub fn reserve(&mut self, places: usize) -> Result<(), AllocError>
+        requires near { places ≤ self.old.room + PIECE_ITEMS }
+        ensures slots { IsRoomier self.old self.new }
+        ensures ok { OnOk result (places ≤ self.new.room) }
+    {
+        if places <= self.room {
+            return Ok(());
+        }
+        // A piece at once, so that only one request of so many asks each list for room.
+        let ahead = self.room.saturating_add(PIECE_ITEMS);
+        reserve_each(
+            &mut self.places,
+            &mut self.routed,
+            &mut self.refused,
+            &mut self.brief,
+            ahead,
+        )?;
+        self.room = ahead;
+        Ok(())
+    }
+
+    /// Puts a slot at the end, in room that was reserved. It takes no memory.
+    pub fn push(&mut self, slot: &Slot)
+        requires room { 1 ≤ self.old.room }
+        requires few { length self.old.items < 2 ^ 32 }
+        ensures { self.new ≡ record {
+          items = self.old.items ++ slot.now ∷ [];
+          room = self.old.room - 1;
+        } }
+    {
+        match slot {
+            Slot::Admitted {
+                call,
+                units,
+                id,
+                digits,
+                zone,
+                destination,
+                address,
+            } => self.push_admitted(RoutedAdmission {
+                call: *call,
+                units: *units,
+                id: *id,
+                digits: *digits,
+                zone: *zone,
+                destination: *destination,
+                address: *address,
+            }),
+            Slot::OverLimit {
+                call,
+                units,
+                id,
+                digits,
+                zone,
+                destination,
+                address,
+                over,
+            } => {
+                let routed = RoutedAdmission {
+                    call: *call,
+                    units: *units,
+                    id: *id,
+                    digits: *digits,
+                    zone: *zone,
+                    destination: *destination,
+                    address: *address,
+                };
+                self.push_over(routed, over);
+            }
+            Slot::Refused {
+                call,
+                units,
+                id,
+                digits,
+                cause,
+            } => self.push_refused(RefusedAdmission {
+                call: *call,
+                units: *units,
+                id: *id,
+                digits: *digits,
+                cause: *cause,
+            }),
+            Slot::Change { id, call, units } => self.push_brief(BriefSlot::Change {
+                id: *id,
+                call: *call,
+                units: *units,
+            }),
+            Slot::Release { id, call } => self.push_brief(BriefSlot::Release {
+                id: *id,
+                call: *call,
+            }),
+            Slot::Unregistration { id } => self.push_brief(BriefSlot::Unregistration { id: *id }),
+            Slot::Registration { place, replied } => match replied {
+                ShortReply::Granted => self.push_place(SlotPlace::Registered { place: *place }),
+                ShortReply::Refused { .. } => self.push_brief(BriefSlot::Registration {
+                    place: *place,
+                    replied: *replied,
+                }),
+            },
+            Slot::Aside { place } => self.push_place(SlotPlace::Aside { place: *place }),
+            Slot::Reload { place } => self.push_place(SlotPlace::Reload { place: *place }),
+        }
+    }
+
+    /// Puts the slot of a granted admission at the end.
+    fn push_admitted(&mut self, admission: RoutedAdmission)
+        requires room { 1 ≤ self.old.room }
+        requires few { length self.old.items < 2 ^ 32 }
+        ensures { self.new ≡ record {
+          items = self.old.items ++ admitted_slot admission ∷ [];
+          room = self.old.room - 1;
+        } }
+    {
+        let place = self.routed.len() as u32;
+        self.routed.push(HeldRouted::new(admission));
+        self.places.push(SlotPlace::Admitted { place });
+        self.room -= 1;
+    }
+
+    /// Puts the slot of an admission at the end that was refused for this limit.
+    fn push_over(&mut self, admission: RoutedAdmission, over: &ShortOver)
+        requires room { 1 ≤ self.old.room }
+        requires few { length self.old.items < 2 ^ 32 }
+        ensures { self.new ≡ record {
+          items = self.old.items ++ over_slot over.now admission ∷ [];
+          room = self.old.room - 1;
+        } }
+    {
+        let place = self.routed.len() as u32;
+        self.routed.push(HeldRouted::new(admission));
+        self.places.push(SlotPlace::of_refused_for(over, place));
+        self.room -= 1;
+    }
+
+    /// Puts the slot of an admission without a destination at the end.
+    fn push_refused(&mut self, admission: RefusedAdmission)
+        requires room { 1 ≤ self.old.room }
+        requires few { length self.old.items < 2 ^ 32 }
+        ensures { self.new ≡ record {
+          items = self.old.items ++ refused_slot admission ∷ [];
+          room = self.old.room - 1;
+        } }
+    {
+        let place = self.refused.len() as u32;
+        self.refused.push(HeldRefused::new(admission));
+        self.places.push(SlotPlace::Refused { place });
+        self.room -= 1;
+    }
+
+    /// Puts a brief slot at the end.
+    fn push_brief(&mut self, brief: BriefSlot)
+        requires room { 1 ≤ self.old.room }
+        requires few { length self.old.items < 2 ^ 32 }
+        ensures { self.new ≡ record {
+          items = self.old.items ++ brief_slot brief ∷ [];
+          room = self.old.room - 1;
+        } }
+    {
+        let place = self.brief.len() as u32;
+        self.brief.push(HeldBrief::new(brief));
+        self.places.push(SlotPlace::Brief { place });
+        self.room -= 1;
+    }
+
+    /// Puts the slot at the end that has this place alone.
+    fn push_place(&mut self, place: SlotPlace)
+        requires room { 1 ≤ self.old.room }
+        requires meant { IsSome (place_meant [] [] [] place) }
+        ensures { self.new ≡ record {
+          items = self.old.items ++ cons_option (place_meant [] [] [] place) [];
+          room = self.old.room - 1;
+        } }
+    {
+        self.places.push(place);
+        self.room -= 1;
+    }
+}
+
+/// Makes room in each of the four lists for this many further items. If memory runs out, they hold
+/// what they did.
+#[inline(never)]
+fn reserve_each(
+    slot_places: &mut Pieces<SlotPlace>,
+    routed: &mut Pieces<HeldRouted>,
+    refused: &mut Pieces<HeldRefused>,
+    brief: &mut Pieces<HeldBrief>,
+    places: usize,
+) -> Result<(), AllocError>
+    requires { (places ≤ slot_places.old.room + PIECE_ITEMS)
+        × (places ≤ routed.old.room + PIECE_ITEMS) × (places ≤ refused.old.room + PIECE_ITEMS)
+        × (places ≤ brief.old.room + PIECE_ITEMS) }
+    ensures slot_places { IsRoomier slot_places.old slot_places.new }
+    ensures routed { IsRoomier routed.old routed.new }
+    ensures refused { IsRoomier refused.old refused.new }
+    ensures brief { IsRoomier brief.old brief.new }
+    ensures ok { OnOk result ((places ≤ slot_places.new.room) × (places ≤ routed.new.room)
+        × (places ≤ refused.new.room) × (places ≤ brief.new.room)) }
+{
+    slot_places.reserve(places)?;
+    routed.reserve(places)?;
+    refused.reserve(places)?;
+    brief.reserve(places)
+}

@@ -1,0 +1,146 @@
+//! Where the slots of a record stand.
+
+ghost use Rattle.std.specs.Prelude.{◌≡◌, slice_get, option_map};
+ghost use Rattle.std.specs.Option.{option_and_then};
+ghost use Rattle.decision_record.specs.SlotList.{admitted_slot, over_slot, refused_slot, brief_slot, over_place, place_meant};
+
+use crate::slot_kinds::{HeldBrief, HeldRefused, HeldRouted};
+use crate::slots::{ShortOver, ShortReply, Slot};
+use command_reader::LimitKind;
+use pieces::Pieces;
+
+/// Where a slot stands: its place, from 0, in the list of its kind; or the slot itself, if it has
+/// a place alone. Of an admission that is refused for a limit it says for which one.
+#[derive(Clone, Copy)]
+pub enum SlotPlace {
+    /// In the list of admissions with a destination, granted.
+    Admitted { place: u32 },
+    /// In the same list, above a limit of the caller's zone.
+    OverSession { place: u32 },
+    OverTotal { place: u32 },
+    OverInterzone { place: u32 },
+    /// In the same list, above the limit of all calls to zones of other gatekeepers.
+    OverRemote { place: u32 },
+    /// In the list of admissions without a destination.
+    Refused { place: u32 },
+    /// In that of brief slots.
+    Brief { place: u32 },
+    /// It is that of a granted registration, whose event has this place among the registrations.
+    Registered { place: u32 },
+    /// It is that of an entry that stands whole at this place.
+    Aside { place: u32 },
+    /// It is that of the reload at this place.
+    Reload { place: u32 },
+}
+
+impl SlotPlace {
+    /// That of an admission that was refused for this limit.
+    pub fn of_refused_for(over: &ShortOver, place: u32) -> SlotPlace
+        ensures { result ≡ over_place over.now place }
+    {
+        match over {
+            ShortOver::OwnZone { kind } => match kind {
+                LimitKind::Session => SlotPlace::OverSession { place },
+                LimitKind::Total => SlotPlace::OverTotal { place },
+                LimitKind::Interzone => SlotPlace::OverInterzone { place },
+            },
+            ShortOver::Remote => SlotPlace::OverRemote { place },
+        }
+    }
+
+    /// The slot that stands there.
+    fn slot(
+        &self,
+        routed: &Pieces<HeldRouted>,
+        refused: &Pieces<HeldRefused>,
+        brief: &Pieces<HeldBrief>,
+    ) -> Option<Slot>
+        ensures { result
+            ≡ place_meant routed.now.items refused.now.items brief.now.items self.now }
+    {
+        match self {
+            SlotPlace::Admitted { place } => admitted_at(routed, *place as usize),
+            SlotPlace::OverSession { place } => {
+                let kind = LimitKind::Session;
+                over_at(routed, *place as usize, &ShortOver::OwnZone { kind })
+            }
+            SlotPlace::OverTotal { place } => {
+                let kind = LimitKind::Total;
+                over_at(routed, *place as usize, &ShortOver::OwnZone { kind })
+            }
+            SlotPlace::OverInterzone { place } => {
+                let kind = LimitKind::Interzone;
+                over_at(routed, *place as usize, &ShortOver::OwnZone { kind })
+            }
+            SlotPlace::OverRemote { place } => {
+                over_at(routed, *place as usize, &ShortOver::Remote)
+            }
+            SlotPlace::Refused { place } => refused_at(refused, *place as usize),
+            SlotPlace::Brief { place } => brief_at(brief, *place as usize),
+            SlotPlace::Registered { place } => Some(Slot::Registration {
+                place: *place,
+                replied: ShortReply::Granted,
+            }),
+            SlotPlace::Aside { place } => Some(Slot::Aside { place: *place }),
+            SlotPlace::Reload { place } => Some(Slot::Reload { place: *place }),
+        }
+    }
+}
+
+/// The slot at this place.
+pub fn slot_at(
+    slot_places: &Pieces<SlotPlace>,
+    routed: &Pieces<HeldRouted>,
+    refused: &Pieces<HeldRefused>,
+    brief: &Pieces<HeldBrief>,
+    place: usize,
+) -> Option<Slot>
+    ensures { result
+        ≡ option_and_then (place_meant routed.now.items refused.now.items brief.now.items)
+        (slice_get slot_places.now.items place) }
+{
+    match slot_places.get(place) {
+        None => None,
+        Some(at) => at.slot(routed, refused, brief),
+    }
+}
+
+/// The slot of the granted admission at this place.
+fn admitted_at(routed: &Pieces<HeldRouted>, place: usize) -> Option<Slot>
+    ensures { result ≡ option_map admitted_slot (slice_get routed.now.items place) }
+{
+    match routed.get(place) {
+        None => None,
+        Some(held) => Some(held.admission().admitted()),
+    }
+}
+
+/// The slot of the admission at this place, that was refused for this limit.
+fn over_at(routed: &Pieces<HeldRouted>, place: usize, over: &ShortOver) -> Option<Slot>
+    ensures { result ≡ option_map (over_slot over.now) (slice_get routed.now.items place) }
+{
+    match routed.get(place) {
+        None => None,
+        Some(held) => Some(held.admission().over_limit(over)),
+    }
+}
+
+/// The slot of the admission without a destination at this place.
+fn refused_at(refused: &Pieces<HeldRefused>, place: usize) -> Option<Slot>
+    ensures { result ≡ option_map refused_slot (slice_get refused.now.items place) }
+{
+    match refused.get(place) {
+        None => None,
+        Some(held) => Some(held.admission().slot()),
+    }
+}
+
+/// The brief slot at this place.
+fn brief_at(brief: &Pieces<HeldBrief>, place: usize) -> Option<Slot>
+    ensures { result ≡ option_map brief_slot (slice_get brief.now.items place) }
+{
+    match brief.get(place) {
+        None => None,
+        Some(held) => Some(held.brief().slot()),
+    }
+}

@@ -1,0 +1,38 @@
+//! What an entry tells beside its event and its reply.
+
+ghost use Rattle.std.specs.Prelude.{◌≡◌, Some};
+ghost use Rattle.rulings.specs.Events.{plain};
+ghost use Rattle.decision_record.specs.History.{entry_by};
+ghost use Rattle.rulings.specs.Lent.{ruling_meant};
+ghost use Rattle.decision_record.specs.Told.{told_meant};
+
+use crate::slots::ShortReply;
+use gk_terms::Name;
+use rulings::{Event, LentRuling, Route};
+
+/// How the entry of an event is recorded that has no slot in few bytes: by its event, a registration,
+/// and a short reply, if it has one; else whole, with what it tells of an admission.
+#[derive(Clone, Copy)]
+pub struct Told {
+    /// The reply to a registration.
+    pub replied: Option<ShortReply>,
+    /// The zone of the caller, if it is registered.
+    pub zone: Option<Name>,
+    /// Where the digits lead, if that was looked for.
+    pub route: Option<Route>,
+}
+
+impl Told {
+    /// How the entry of the event on which this was ruled is recorded.
+    #[inline(never)]
+    pub fn of(event: &Event, ruling: &LentRuling<'_>) -> Told
+        ensures { told_meant result (plain event.now) (ruling_meant ruling.now).verdict
+            ≡ Some (entry_by (plain event.now) (ruling_meant ruling.now)) }
+    {
+        Told {
+            replied: ShortReply::of(event, ruling),
+            zone: ruling.zone(),
+            route: ruling.route(),
+        }
+    }
+}

@@ -1,0 +1,4 @@
+pub mod CallingLemmas
+pub mod CarryingLemmas
+pub mod LimitLemmas
+pub mod RegisteringLemmas

@@ -1,0 +1,86 @@
+-- Events as plain values: what a core is asked, and what an entry and a receipt name of it.
+use Rattle.std.specs.Prelude.{ℕ, List, Option, Some, None, Bool, true, false}
+use Rattle.std.specs.Arc.{arc_value}
+use Rattle.command_reader.specs.declared.commands.Command.{Command}
+use Rattle.registry.specs.Endpoint.{EndpointParts}
+use Rattle.rulings.specs.declared.events.Event.{Event}
+use Rattle.rulings.specs.declared.events.Event.TheVariants as events
+use Rattle.rulings.specs.declared.events.EventKind.{EventKind}
+use Rattle.rulings.specs.declared.events.EventKind.TheVariants.{Registration, Unregistration, Admission, BandwidthChange, Release, Reload}
+
+-- an event by its values alone
+pub data PlainEvent : Type 0 where
+  -- an endpoint asks to be registered, in the zone that it names
+  Registering : EndpointParts → PlainEvent
+  -- the endpoint of this ID asks to be unregistered
+  Unregistering : (id : List ℕ) → PlainEvent
+  -- it asks to be admitted to a call to these digits, with this bandwidth
+  Admitting : (id : List ℕ) (call : ℕ) (digits : List ℕ) (units : ℕ) → PlainEvent
+  -- it asks for another bandwidth for the call
+  Changing : (id : List ℕ) (call units : ℕ) → PlainEvent
+  -- it asks to be released from the call
+  Releasing : (id : List ℕ) (call : ℕ) → PlainEvent
+  -- another configuration is put in force, whole: these are its commands
+  Reloading : (commands : List Command) → PlainEvent
+
+-- the values of an event
+abbrev pub plain : Event → PlainEvent
+plain (events.Register endpoint) = Registering endpoint
+plain (events.Unregister id) = Unregistering id
+plain (events.Admit id call digits units) = Admitting id call digits units
+plain (events.Change id call units) = Changing id call units
+plain (events.Release id call) = Releasing id call
+plain (events.Reload tables) = Reloading (arc_value tables).commands
+
+-- whether it holds names and numbers alone, neither an endpoint nor commands
+abbrev pub is_of_names_alone : PlainEvent → Bool
+is_of_names_alone (Registering endpoint) = false
+is_of_names_alone (Unregistering id) = true
+is_of_names_alone (Admitting id call digits units) = true
+is_of_names_alone (Changing id call units) = true
+is_of_names_alone (Releasing id call) = true
+is_of_names_alone (Reloading commands) = false
+
+abbrev pub kind_of : PlainEvent → EventKind
+kind_of (Registering endpoint) = Registration
+kind_of (Unregistering id) = Unregistration
+kind_of (Admitting id call digits units) = Admission
+kind_of (Changing id call units) = BandwidthChange
+kind_of (Releasing id call) = Release
+kind_of (Reloading commands) = Reload
+
+-- the ID of the endpoint that asks; an operator has none
+abbrev pub id_of : PlainEvent → Option (List ℕ)
+id_of (Registering endpoint) = Some endpoint.id
+id_of (Unregistering id) = Some id
+id_of (Admitting id call digits units) = Some id
+id_of (Changing id call units) = Some id
+id_of (Releasing id call) = Some id
+id_of (Reloading commands) = None
+
+-- the number of the call that it is about
+abbrev pub call_number_of : PlainEvent → Option ℕ
+call_number_of (Registering endpoint) = None
+call_number_of (Unregistering id) = None
+call_number_of (Admitting id call digits units) = Some call
+call_number_of (Changing id call units) = Some call
+call_number_of (Releasing id call) = Some call
+call_number_of (Reloading commands) = None
+
+-- the endpoint that asks to be registered
+abbrev pub endpoint_asking : PlainEvent → Option EndpointParts
+endpoint_asking (Registering endpoint) = Some endpoint
+endpoint_asking (Unregistering id) = None
+endpoint_asking (Admitting id call digits units) = None
+endpoint_asking (Changing id call units) = None
+endpoint_asking (Releasing id call) = None
+endpoint_asking (Reloading commands) = None
+
+-- the commands that an event puts in force
+abbrev pub put_in_force : PlainEvent → Option (List Command)
+put_in_force (Registering endpoint) = None
+put_in_force (Unregistering id) = None
+put_in_force (Admitting id call digits units) = None
+put_in_force (Changing id call units) = None
+put_in_force (Releasing id call) = None
+put_in_force (Reloading commands) = Some commands

@@ -1,0 +1,10 @@
+pub mod Events
+pub mod Founded
+pub mod Lent
+pub mod Limits
+pub mod Refusals
+pub mod Routes
+pub mod Routing
+pub mod Ruling
+pub mod State
+pub mod Step

@@ -1,0 +1,177 @@
+-- One event is one step: its ruling, then the refusals by a count, then what the ruling changes.
+use Rattle.std.specs.Prelude.{ℕ, ◌+◌, Bool, true, false, not, ◌&&◌, nat_lt, nat_le, List, length, Option, Some, None, if◌then◌else◌}
+use Rattle.registry.specs.Endpoint.{EndpointParts}
+use Rattle.command_reader.specs.declared.commands.Command.{Command}
+use Rattle.registry.specs.Registration.{with_endpoint, without_endpoint, is_registered, kept_zones}
+use Rattle.bandwidth.specs.Calls.{with_call, without_call, with_changed}
+use Rattle.rulings.specs.declared.replies.RegisterRefusal.TheVariants as register
+use Rattle.rulings.specs.declared.replies.UnregisterRefusal.TheVariants as unregister
+use Rattle.rulings.specs.declared.replies.AdmitRefusal.TheVariants as admit
+use Rattle.rulings.specs.declared.replies.ChangeRefusal.TheVariants as change
+use Rattle.rulings.specs.declared.replies.ReloadRefusal.TheVariants as reload
+use Rattle.rulings.specs.declared.replies.Reply.{Reply}
+use Rattle.rulings.specs.declared.replies.Reply.TheVariants.{Registered, RegisterRefused, Unregistered, UnregisterRefused, Admitted, AdmitRefused, Changed, ChangeRefused, Released, ReleaseRefused, Reloaded, ReloadRefused}
+use Rattle.rulings.specs.declared.rulings.Effect.{Effect}
+use Rattle.rulings.specs.declared.rulings.Effect.TheVariants.{Nothing, Put, Remove, Open, Resize, Close, PutInForce}
+use Rattle.rulings.specs.Ruling.{Ruling}
+use Rattle.rulings.specs.State.{State, free_places}
+use Rattle.rulings.specs.Events.{PlainEvent, Registering, Unregistering, Admitting, Changing, Releasing, Reloading, endpoint_asking, put_in_force}
+use Rattle.rulings.specs.Ruling.{ruling_of}
+
+-- ---- verdicts
+abbrev pub is_granted : Reply → Bool
+is_granted (Registered id zone) = true
+is_granted (RegisterRefused id reason) = false
+is_granted (Unregistered id) = true
+is_granted (UnregisterRefused id reason) = false
+is_granted (Admitted call destination units) = true
+is_granted (AdmitRefused call reason) = false
+is_granted (Changed call units) = true
+is_granted (ChangeRefused call reason) = false
+is_granted (Released call) = true
+is_granted (ReleaseRefused call reason) = false
+is_granted (Reloaded version) = true
+is_granted (ReloadRefused reason) = false
+
+-- every verdict is recorded but a refused release
+abbrev pub is_recorded : Reply → Bool
+is_recorded (Registered id zone) = true
+is_recorded (RegisterRefused id reason) = true
+is_recorded (Unregistered id) = true
+is_recorded (UnregisterRefused id reason) = true
+is_recorded (Admitted call destination units) = true
+is_recorded (AdmitRefused call reason) = true
+is_recorded (Changed call units) = true
+is_recorded (ChangeRefused call reason) = true
+is_recorded (Released call) = true
+is_recorded (ReleaseRefused call reason) = false
+is_recorded (Reloaded version) = true
+is_recorded (ReloadRefused reason) = true
+
+-- ---- what replaces a verdict
+-- the free places of the record that are needed: to open a call, one more than for other entries,
+-- for the entry of its release, which then needs none
+abbrev pub places_needed : Effect → ℕ
+places_needed Nothing = 1
+places_needed (Put zone) = 1
+places_needed (Remove id) = 1
+places_needed (Open call) = 2
+places_needed (Resize call id units) = 1
+places_needed (Close call id) = 0
+places_needed PutInForce = 1
+
+-- the refusal for a full record; a release is never refused for it
+abbrev pub record_full_reply_of : PlainEvent → Option Reply
+record_full_reply_of (Registering e) = Some (RegisterRefused e.id register.RecordFull)
+record_full_reply_of (Unregistering id) = Some (UnregisterRefused id unregister.RecordFull)
+record_full_reply_of (Admitting id call digits units) = Some (AdmitRefused call admit.RecordFull)
+record_full_reply_of (Changing id call units) = Some (ChangeRefused call change.RecordFull)
+record_full_reply_of (Releasing id call) = None
+record_full_reply_of (Reloading commands) = Some (ReloadRefused reload.RecordFull)
+
+-- it comes if the record lacks the places
+abbrev pub record_refusal : State → PlainEvent → Effect → Option Reply
+record_refusal s event effect =
+    if nat_lt (free_places s) (places_needed effect) then record_full_reply_of event else None
+
+-- a new endpoint would be registered, and there are as many as the limit allows
+abbrev pub are_endpoints_full : State → EndpointParts → Reply → Bool
+are_endpoints_full s e verdict =
+    is_granted verdict && not (is_registered s.endpoints e.id)
+    && nat_le s.limits.endpoints (length s.endpoints)
+
+-- a call would be opened, and as many are open as the limit allows
+abbrev pub are_calls_full : State → Reply → Bool
+are_calls_full s verdict = is_granted verdict && nat_le s.limits.calls (length s.calls)
+
+-- the configuration was replaced as often as the limit allows
+abbrev pub are_reloads_spent : State → Bool
+are_reloads_spent s = nat_lt s.limits.reloads s.version
+
+-- the refusal of a reload by a count
+abbrev pub reload_refusal : State → Effect → Option Reply
+reload_refusal s effect =
+    if are_reloads_spent s then Some (ReloadRefused reload.ReloadsSpent)
+    else (if nat_lt (free_places s) (places_needed effect)
+    then Some (ReloadRefused reload.RecordFull) else None)
+
+-- the first refusal by a count: endpoints-full, calls-full, reloads-spent, record-full
+unfoldable pub count_refusal : State → PlainEvent → Ruling → Option Reply
+count_refusal s (Registering e) ruling =
+    if are_endpoints_full s e ruling.verdict
+    then Some (RegisterRefused e.id register.EndpointsFull)
+    else record_refusal s (Registering e) ruling.effect
+count_refusal s (Unregistering id) ruling = record_refusal s (Unregistering id) ruling.effect
+count_refusal s (Admitting id call digits units) ruling =
+    if are_calls_full s ruling.verdict then Some (AdmitRefused call admit.CallsFull)
+    else record_refusal s (Admitting id call digits units) ruling.effect
+count_refusal s (Changing id call units) ruling =
+    record_refusal s (Changing id call units) ruling.effect
+count_refusal s (Releasing id call) ruling = record_refusal s (Releasing id call) ruling.effect
+count_refusal s (Reloading commands) ruling = reload_refusal s ruling.effect
+
+-- ---- what a ruling changes
+-- the endpoint registered in the zone
+abbrev pub with_registered : State → List ℕ → Option EndpointParts → State
+with_registered s zone None = s
+with_registered s zone (Some e) =
+    record s { endpoints = with_endpoint s.endpoints (record e { zone = zone }) }
+
+-- the commands in force as the next version, with those endpoints alone whose zone is local in
+-- them; open calls stay as they are
+abbrev pub with_commands : State → Option (List Command) → State
+with_commands s None = s
+with_commands s (Some commands) = record s {
+  commands = commands;
+  version = s.version + 1;
+  endpoints = kept_zones commands s.endpoints;
+}
+
+abbrev pub with_effect : State → PlainEvent → Effect → State
+with_effect s event Nothing = s
+with_effect s event (Put zone) = with_registered s zone (endpoint_asking event)
+with_effect s event (Remove id) = record s { endpoints = without_endpoint s.endpoints id }
+with_effect s event (Open call) = record s { calls = with_call s.calls call }
+with_effect s event (Resize call id units) =
+    record s { calls = with_changed s.calls call units }
+with_effect s event (Close call id) = record s { calls = without_call s.calls call }
+with_effect s event PutInForce = with_commands s (put_in_force event)
+
+-- one more verdict was recorded
+abbrev pub with_count : State → State
+with_count s = record s { records = s.records + 1 }
+
+-- the state after a ruling that is recorded
+unfoldable pub state_after : State → PlainEvent → Ruling → State
+state_after s event ruling = with_count (with_effect s event ruling.effect)
+
+-- ---- a step
+-- a reply, whether it was recorded, and the state after it
+pub record Outcome : Type 0 where
+  pub reply : Reply
+  pub recorded : Bool
+  pub state : State
+
+abbrev pub outcome_of : State → PlainEvent → Ruling → Option Reply → Outcome
+outcome_of s event ruling (Some refusal) =
+    record { reply = refusal; recorded = false; state = s }
+outcome_of s event ruling None = record {
+  reply = ruling.verdict;
+  recorded = is_recorded ruling.verdict;
+  state = if is_recorded ruling.verdict then state_after s event ruling else s;
+}
+
+unfoldable pub step : State → PlainEvent → Outcome
+step s event =
+    let ruling = ruling_of s event in
+    outcome_of s event ruling (count_refusal s event ruling)
+
+-- ---- out of memory
+-- the reply if memory runs out for an event that would be recorded; a release takes none
+abbrev pub no_memory_reply_of : PlainEvent → Option Reply
+no_memory_reply_of (Registering e) = Some (RegisterRefused e.id register.NoMemory)
+no_memory_reply_of (Unregistering id) = Some (UnregisterRefused id unregister.NoMemory)
+no_memory_reply_of (Admitting id call digits units) = Some (AdmitRefused call admit.NoMemory)
+no_memory_reply_of (Changing id call units) = Some (ChangeRefused call change.NoMemory)
+no_memory_reply_of (Releasing id call) = None
+no_memory_reply_of (Reloading commands) = Some (ReloadRefused reload.NoMemory)

@@ -1,0 +1,164 @@
+//! Events: what a core is asked.
+
+ghost use Rattle.std.specs.Prelude.{◌≡◌, true, IfSome};
+ghost use Rattle.command_reader.specs.Accepted.{IsAccepted};
+ghost use Rattle.rulings.specs.Events.{plain, is_of_names_alone, kind_of, id_of, call_number_of, put_in_force};
+
+use compiler::Tables;
+use gk_terms::{Dialled, Name, Units};
+use registry::Endpoint;
+use std::sync::Arc;
+
+/// What an endpoint or an operator asks of the core.
+#[derive(Drop)]
+pub enum Event {
+    /// To be registered, in the zone that it names.
+    Register(Endpoint),
+    /// To be unregistered.
+    Unregister {
+        /// The ID of the endpoint.
+        id: Name,
+    },
+    /// To be admitted to a call.
+    Admit {
+        /// The ID of the caller.
+        id: Name,
+        /// The number of the call, 1 to 4294967295.
+        call: u32,
+        /// What the caller dialled.
+        digits: Dialled,
+        /// The bandwidth that the call asks for, in units of 100 bit/s.
+        units: Units,
+    },
+    /// Another bandwidth for an open call.
+    Change {
+        /// The ID of the endpoint that owns the call.
+        id: Name,
+        /// The number of the call, 1 to 4294967295.
+        call: u32,
+        /// The bandwidth that the call asks for, in units of 100 bit/s.
+        units: Units,
+    },
+    /// To be released from an open call.
+    Release {
+        /// The ID of the endpoint that owns the call.
+        id: Name,
+        /// The number of the call, 1 to 4294967295.
+        call: u32,
+    },
+    /// Another configuration, whole, in place of the one in force: these are its tables.
+    Reload(Arc<Tables>),
+}
+
+/// What kind of event it is.
+#[derive(Clone, Copy, Debug, PartialEq, Eq)]
+pub enum EventKind {
+    /// A registration.
+    Registration,
+    /// An unregistration.
+    Unregistration,
+    /// An admission.
+    Admission,
+    /// A bandwidth change.
+    BandwidthChange,
+    /// A release.
+    Release,
+    /// A reload of the configuration.
+    Reload,
+}
+
+impl Event {
+    /// Does nothing: it tells the proofs that the tables of a reload are of an accepted
+    /// configuration.
+    pub fn is_of_an_accepted_configuration(&self)
+        ensures { IfSome (put_in_force (plain self.now)) IsAccepted }
+    {
+        if let Event::Reload(tables) = self {
+            let _count = tables.commands().len();
+        }
+    }
+
+    /// Whether it holds names and numbers alone, neither an endpoint nor tables, so that it can be
+    /// copied.
+    pub fn is_of_names_alone(&self) -> bool
+        ensures { result ≡ is_of_names_alone (plain self.now) }
+    {
+        match self {
+            Event::Register(_) | Event::Reload(_) => false,
+            Event::Unregister { .. }
+            | Event::Admit { .. }
+            | Event::Change { .. }
+            | Event::Release { .. } => true,
+        }
+    }
+
+    /// The same event, if it holds names and numbers alone.
+    pub fn copy(&self) -> Event
+        requires { is_of_names_alone (plain self.now) ≡ true }
+        ensures { plain result ≡ plain self.now }
+    {
+        match self {
+            Event::Register(_) | Event::Reload(_) => unreachable!(),
+            Event::Unregister { id } => Event::Unregister { id: *id },
+            Event::Admit {
+                id,
+                call,
+                digits,
+                units,
+            } => Event::Admit {
+                id: *id,
+                call: *call,
+                digits: *digits,
+                units: *units,
+            },
+            Event::Change { id, call, units } => Event::Change {
+                id: *id,
+                call: *call,
+                units: *units,
+            },
+            Event::Release { id, call } => Event::Release {
+                id: *id,
+                call: *call,
+            },
+        }
+    }
+
+    /// What kind of event it is.
+    pub fn kind(&self) -> EventKind
+        ensures { result ≡ kind_of (plain self.now) }
+    {
+        match self {
+            Event::Register(_) => EventKind::Registration,
+            Event::Unregister { .. } => EventKind::Unregistration,
+            Event::Admit { .. } => EventKind::Admission,
+            Event::Change { .. } => EventKind::BandwidthChange,
+            Event::Release { .. } => EventKind::Release,
+            Event::Reload(_) => EventKind::Reload,
+        }
+    }
+
+    /// The ID of the endpoint that asks; nothing for a reload, which an operator asks for.
+    pub fn id(&self) -> Option<Name>
+        ensures { result ≡ id_of (plain self.now) }
+    {
+        match self {
+            Event::Register(endpoint) => Some(*endpoint.id()),
+            Event::Unregister { id }
+            | Event::Admit { id, .. }
+            | Event::Change { id, .. }
+            | Event::Release { id, .. } => Some(*id),
+            Event::Reload(_) => None,
+        }
+    }
+
+    /// The number of the call that it is about, if it is about one.
+    pub fn call(&self) -> Option<u32>
+        ensures { result ≡ call_number_of (plain self.now) }
+    {
+        match self {
+            Event::Register(_) | Event::Unregister { .. } | Event::Reload(_) => None,
+            Event::Admit { call, .. } | Event::Change { call, .. } | Event::Release { call, .. } =>
+                Some(*call),
+        }
+    }
+}

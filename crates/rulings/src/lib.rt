@@ -1,0 +1,30 @@
+//! What is decided on an event, and the state that it changes.
+#![tactic(auto)]
+
+mod calling;
+mod counts;
+pub mod events;
+mod lent_routes;
+mod lent_rulings;
+pub mod limits;
+mod machine;
+mod registering;
+pub mod replies;
+pub mod routes;
+pub mod routing;
+mod rulings;
+mod verdicts;
+
+pub use events::{Event, EventKind};
+pub use lent_routes::DestinationKind;
+pub use lent_rulings::LentRuling;
+pub use limits::{Limits, STATED_LIMITS};
+pub use machine::Machine;
+pub use registry::Duplicate;
+pub use replies::{
+    AdmitRefusal, ChangeRefusal, RegisterRefusal, ReleaseRefusal, ReloadRefusal, Reply,
+    UnregisterRefusal,
+};
+pub use routes::{Destination, Route, RouteRefusal};
+pub use routing::route;
+pub use rulings::Effect;

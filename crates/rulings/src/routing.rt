@@ -1,0 +1,154 @@
+//! Where dialled digits lead: the plan of the tables, and then an endpoint of the target zone.
+
+ghost use Rattle.std.specs.Prelude.{◌≡◌, List, Some, None, IfSome, IsSome, option_and_then};
+ghost use Rattle.std.specs.Option.{option_copied};
+ghost use Rattle.command_reader.specs.declared.commands.Command.{Command};
+ghost use Rattle.compiler.specs.Plan as Plans;
+ghost use Rattle.compiler.specs.Zones.{zone_at};
+ghost use Rattle.compiler.specs.Technology.{default_technology_of};
+ghost use Rattle.registry.specs.Registration.{by_alias};
+ghost use Rattle.rulings.specs.Lent.{route_meant};
+ghost use Rattle.rulings.specs.Routing as Spec;
+
+use crate::lent_routes::{DestinationKind, LentRoute};
+use crate::routes::{Route, RouteRefusal};
+use compiler::{Plan, RowNo, Tables, ZoneNo};
+use gk_terms::{Dialled, Name, TechPrefix};
+use registry::{Endpoint, Registry};
+
+/// Where the digits lead a caller of this zone, by the configuration and the registered endpoints.
+///
+/// A technology prefix with a hop-off zone leads to that zone, and one without is taken off the
+/// digits. The zone of the longest pattern that matches is the target, else the caller's zone,
+/// unless the configuration rejects such digits. A remote zone is the destination itself. In a
+/// local zone it is a gateway for the technology prefix, if there was one; else the endpoint that
+/// has all of the digits as an alias; else a gateway for the default technology, if one is set.
+/// This project's profile, after Cisco's flow for an admission request.
+pub fn route(tables: &Tables, registry: &Registry, caller: &Name, digits: &Dialled) -> Route
+    ensures { result ≡ Spec.route_of
+        tables.now.commands registry.now.endpoints caller.now digits.now }
+{
+    route_of_plan(tables, registry, &tables.plan(digits), caller, digits).route()
+}
+
+#[tactic(auto, unfolding(crate::specs::Routing::route_of))]
+/// The same by a plan that was made of the digits.
+pub fn route_of_plan<'a>(
+    tables: &'a Tables,
+    registry: &'a Registry,
+    plan: &Plan,
+    caller: &Name,
+    digits: &Dialled,
+) -> LentRoute<'a>
+    requires planned { Plans.target_of tables.now.commands plan.now
+        ≡ Some (Plans.plan_of tables.now.commands digits.now) }
+    ensures { route_meant result ≡ Spec.route_of
+        tables.now.commands registry.now.endpoints caller.now digits.now }
+{
+    match plan {
+        Plan::Remote(zone) => to_remote(tables, *zone),
+        Plan::Local {
+            zone,
+            technology,
+            row,
+        } => {
+            in_local_zone(
+                tables,
+                registry,
+                tables.zone_name(*zone),
+                *row,
+                digits,
+                technology,
+            )
+        }
+        Plan::Caller { technology } => {
+            in_local_zone(tables, registry, caller, None, digits, technology)
+        }
+        Plan::UnknownPrefix => LentRoute::Refused(RouteRefusal::UnknownPrefix),
+    }
+}
+
+/// The zone to which a plan leads a caller of this zone.
+pub fn target_zone<'a>(tables: &'a Tables, plan: &Plan, caller: &'a Name) -> &'a Name
+    requires { IsSome (Plans.target_of tables.now.commands plan.now) }
+    ensures { IfSome (Plans.target_of tables.now.commands plan.now)
+        (λ target. result.now ≡ Plans.zone_of_target caller.now target) }
+{
+    match plan {
+        Plan::Remote(zone) | Plan::Local { zone, .. } => tables.zone_name(*zone),
+        Plan::Caller { .. } | Plan::UnknownPrefix => caller,
+    }
+}
+
+/// Whether a plan leads to a zone of another gatekeeper.
+pub fn is_remote(plan: &Plan) -> bool
+    ensures { (commands : List Command) → IfSome (Plans.target_of commands plan.now)
+        (λ target. result ≡ Plans.is_remote target) }
+{
+    matches!(plan, Plan::Remote(_))
+}
+
+/// To the gatekeeper of a remote zone.
+fn to_remote(tables: &Tables, zone: ZoneNo) -> LentRoute<'_>
+    requires { IsSome (option_and_then Plans.remote_target (zone_at tables.now.commands zone)) }
+    ensures { IfSome (option_and_then Plans.remote_target (zone_at tables.now.commands zone))
+        (λ target. Spec.remote_route target ≡ Some (route_meant result)) }
+{
+    match tables.zone(zone).address {
+        Some(address) => LentRoute::To {
+            kind: DestinationKind::Zone,
+            name: tables.zone_name(zone),
+            address,
+        },
+        None => unreachable!(),
+    }
+}
+
+/// Where the digits lead in a local zone, by the technology prefix with which they begin.
+fn in_local_zone<'a>(
+    tables: &Tables,
+    registry: &'a Registry,
+    zone: &Name,
+    row: Option<RowNo>,
+    digits: &Dialled,
+    technology: &Option<TechPrefix>,
+) -> LentRoute<'a>
+    ensures { IfSome (Plans.row_meant tables.now.commands row) (λ used. route_meant result
+        ≡ Spec.in_local_zone tables.now.commands registry.now.endpoints zone.now used digits.now
+        technology.now) }
+{
+    match technology {
+        Some(prefix) => to_gateway(registry.gateway(tables, zone, prefix, row)),
+        None => match registry.by_alias(zone, digits) {
+            Some(endpoint) => LentRoute::to_endpoint(endpoint),
+            None => by_default(tables, registry, zone, row),
+        },
+    }
+}
+
+/// To a gateway of the zone for the default technology, if one is set.
+fn by_default<'a>(
+    tables: &Tables,
+    registry: &'a Registry,
+    zone: &Name,
+    row: Option<RowNo>,
+) -> LentRoute<'a>
+    ensures { IfSome (Plans.row_meant tables.now.commands row) (λ used. route_meant result
+        ≡ Spec.by_default tables.now.commands registry.now.endpoints zone.now used
+        (default_technology_of tables.now.commands)) }
+{
+    match tables.default_technology() {
+        Some(prefix) => to_gateway(registry.gateway(tables, zone, &prefix, row)),
+        None => LentRoute::Refused(RouteRefusal::NoDefault),
+    }
+}
+
+/// To the gateway that was chosen, if there is one.
+fn to_gateway(chosen: Option<&Endpoint>) -> LentRoute<'_>
+    ensures { route_meant result ≡ Spec.to_gateway (option_copied chosen.entry) }
+{
+    match chosen {
+        Some(gateway) => LentRoute::to_endpoint(gateway),
+        None => LentRoute::Refused(RouteRefusal::NoGateway),
+    }
+}
