@@ -10,6 +10,7 @@ pub mod Insertion
 pub mod NodeBound
 pub mod Paths
 pub mod Same
+pub mod Scores
 pub mod Search
 pub mod Steps
 pub mod Values

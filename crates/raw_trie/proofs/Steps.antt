@@ -16,7 +16,8 @@ use Rattle.raw_trie.specs.Walk.{LeadsOn, digit_of, most_looks}
 use Rattle.raw_trie.proofs.Paths.{At-left}
 use Rattle.raw_trie.proofs.Same.{digits_of}
 use Rattle.raw_trie.proofs.Insertion.{is_digit_at, digit_range}
-use Rattle.raw_trie.proofs.Search.{Counts, counts_of, plain_of, literals_in_front, front_at}
+use Rattle.raw_trie.proofs.Scores.{Counts, counts_of, plain_of, literals_in_front}
+use Rattle.raw_trie.proofs.Search.{front_at}
 
 -- the root is the node of the empty path
 pub root_of : (rows : List Row) → At (paths_of rows) 0 []

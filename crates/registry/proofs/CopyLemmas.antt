@@ -12,7 +12,8 @@ use Rattle.std.proofs.lemmas.Option.{none-some, slice_get_within}
 use Rattle.gk_terms.proofs.ChoiceLemmas.{find_passes}
 use Rattle.registry.specs.Endpoint.{EndpointParts, has_alias, share_alias}
 use Rattle.registry.specs.Registration.{has_id, is_registered, alias_is_taken, with_endpoint, HaveDifferentIds, ShareNoAlias}
-use Rattle.registry.proofs.RegistryLemmas.{found-none, also_passes, put_at, put_later}
+use Rattle.registry.proofs.FindLemmas.{found-none, also_passes}
+use Rattle.registry.proofs.IndexChanges.{put_at, put_later}
 
 -- ---- places in two lists
 front_place : {X : Type 0} (xs ys : List X) (i : ℕ) (x : X) → slice_get xs i ≡ Some x

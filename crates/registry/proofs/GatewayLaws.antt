@@ -11,7 +11,7 @@ use Rattle.std.proofs.lemmas.Option.{get_or_from_slice_get, slice_get-get_or, sl
 use Rattle.gk_terms.proofs.ChoiceLemmas.{find_passes, first_unbeaten-none, IsRankOrder-by}
 use Rattle.registry.specs.Endpoint.{EndpointParts}
 use Rattle.registry.specs.Gateway.{is_candidate, has_greater, gateway_by, IsChosenBy}
-use Rattle.registry.proofs.RegistryLemmas.{is_some-find}
+use Rattle.registry.proofs.FindLemmas.{is_some-find}
 use Rattle.registry.proofs.GatewayLemmas.{find-filter, any-filter}
 
 module _ (priority : List ℕ → ℕ) (endpoints : List EndpointParts) (zone prefix : List ℕ) where

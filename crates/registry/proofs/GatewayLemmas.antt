@@ -26,9 +26,10 @@ use Rattle.registry.specs.Roll.{Numbered, at_number}
 use Rattle.registry.specs.Served.{found_serving}
 use Rattle.registry.specs.Listing.{NoneServes, IsNextServing}
 use Rattle.registry.specs.Chosen.{Named, IsBest}
-use Rattle.registry.proofs.RegistryLemmas.{is_some-find}
+use Rattle.registry.proofs.FindLemmas.{is_some-find}
 use Rattle.registry.proofs.RollLemmas.{distinct_numbers, later, first, each_entry}
-use Rattle.registry.proofs.ChosenLemmas.{AllNamedBefore, all_looked_at, found_unnamed, none_unnamed}
+use Rattle.registry.proofs.NamedLemmas.{all_looked_at}
+use Rattle.registry.proofs.UnnamedLemmas.{AllNamedBefore, found_unnamed, none_unnamed}
 
 -- ---- tests of a filtered list
 pub find-filter : {X : Type 0} (q p : X → Bool) (xs : List X)

@@ -13,7 +13,8 @@ use Rattle.registry.specs.declared.faults.RegistryFault.TheVariants.{UnknownZone
 use Rattle.registry.specs.Endpoint.{EndpointParts}
 use Rattle.registry.specs.Registration.{RegistryParts, registration_fault, registered_in, id_is_taken, alias_is_taken, without_endpoint, has_id, registered_unless, endpoint_of, unregistered_in, is_full_for, is_registered, with_endpoint}
 use Rattle.registry.specs.Registering.{fault_among, registered_among, placed_in}
-use Rattle.registry.proofs.RegistryLemmas.{found-some, found-none, put_at, put_later}
+use Rattle.registry.proofs.FindLemmas.{found-some, found-none}
+use Rattle.registry.proofs.IndexChanges.{put_at, put_later}
 
 pub fault_of_local : (commands : List Command) (endpoints : List EndpointParts) (e : EndpointParts)
     → fault_among endpoints e (local_zone commands e.zone)

@@ -1,6 +1,6 @@
 -- Endpoints by number are the same by ID.
 use Rattle.std.proofs.Common.{◌≡◌, inl, inr, ℕ, ◌<◌, Bool, true, false, cond, List, [], ◌∷◌, refl, sym, ap, subst, ◌∙◌, arith}
-use Rattle.std.specs.Prelude.{Option, Some, None, MatchOption, is_some, bytes_eq}
+use Rattle.std.specs.Prelude.{Option, Some, None, MatchOption, ◌⊎◌, is_some, bytes_eq}
 use Rattle.std.specs.Ordering.{nat_cmp, eq_by_cmp}
 use Rattle.std.specs.Cmp.{unsigned_tied, eq_by_cmp_equiv}
 use Rattle.std.specs.BTreeMap.{is_at}
@@ -118,6 +118,16 @@ not_missed (e ∷ es) n id f there own none =
 
 module _ (entries : Numbered) (numbers : Numbers) (next : ℕ)
     (roll : IsRoll entries numbers next) where
+  -- the endpoint of a number, if it has an ID
+  pub own_endpoint : (id : List ℕ) (n : ℕ) → found_with_id id (at_number entries n) ≡ true
+      → (found : Option EndpointParts) → at_number entries n ≡ found
+      → (P : Type 0)
+      → ((g : EndpointParts) → at_number entries n ≡ Some g → bytes_eq g.id id ≡ true → P)
+      → P
+  own_endpoint id n own None at P f =
+      absurd (both_ways false refl (ap (found_with_id id) (sym at) ∙ own))
+  own_endpoint id n own (Some g) at P f = f g at (ap (found_with_id id) (sym at) ∙ own)
+
   -- the endpoint with an ID stands under the number of that ID
   pub kept_under : (id : List ℕ) (number : ℕ) → number_of numbers id ≡ Some number
       → kept_endpoint_of (by_id entries) id ≡ at_number entries number
@@ -260,3 +270,27 @@ pub known_or_not : (entries : Numbered) (numbers : Numbers) (next : ℕ) → IsR
 known_or_not entries numbers next roll id None h = kept_nowhere entries numbers next roll id h
 known_or_not entries numbers next roll id (Some n) h =
     (known_number entries numbers next roll id n h, kept_under entries numbers next roll id n h)
+
+-- a number that is not the next one is less
+pub less_than_next : (entries : Numbered) (numbers : Numbers) (next : ℕ)
+    → IsRoll entries numbers next
+    → (id : List ℕ) (n : ℕ) → IsNumberFor (record { entries = entries; next = next }) id n
+    → (n ≡ next → ⊥) → n < next
+less_than_next entries numbers next roll id n h apart = by h.which
+  where
+    by : (found_with_id id (at_number entries n) ≡ true) ⊎ (n ≡ next) → n < next
+    by (inl own) =
+        own_endpoint entries numbers next roll id n own (at_number entries n) refl (n < next)
+        (λ g at has. roll.below n g at)
+    by (inr fresh) = absurd (apart fresh)
+
+-- the next number is no endpoint's
+pub next_is_free : (entries : Numbered) (numbers : Numbers) (next : ℕ) → IsRoll entries numbers next
+    → at_number entries next ≡ None
+next_is_free entries numbers next roll = by (at_number entries next) refl
+  where
+    by : (found : Option EndpointParts) → at_number entries next ≡ found → found ≡ None
+    by None h = refl
+    by (Some f) h =
+        let low = roll.below next f h in
+        let never : ⊥ = omega (arith, low) in absurd never

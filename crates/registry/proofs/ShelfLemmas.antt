@@ -8,7 +8,8 @@ use Rattle.registry.specs.Endpoint.{EndpointParts}
 use Rattle.registry.specs.Registration.{alias_is_taken, with_endpoint, without_endpoint}
 use Rattle.registry.specs.RegistryIndex.{Owners, IsIndexed, Forgets, LeadTo, aliases_of, kept_endpoint_of}
 use Rattle.registry.specs.Roll.{Numbered, RollParts, by_id, endpoints_of, IsPut, IsTakenOut}
-use Rattle.registry.proofs.RegistryLemmas.{Keyed, indexed-insert, indexed-remove, values-insert, values-remove}
+use Rattle.registry.proofs.LookUpLemmas.{Keyed}
+use Rattle.registry.proofs.IndexChanges.{indexed-insert, indexed-remove, values-insert, values-remove}
 
 -- the endpoints are the same by ID
 pub values-by_id : (entries : Numbered) → values_of (by_id entries) ≡ values_of entries

@@ -12,7 +12,7 @@ use Rattle.std.proofs.lemmas.Map.Keys.{IsDistinct-head, IsDistinct-tail}
 use Rattle.registry.specs.Endpoint.{EndpointParts}
 use Rattle.registry.specs.Registration.{HaveDifferentIds, ShareNoAlias}
 use Rattle.registry.specs.RegistryIndex.{Entries, Owners, kept_endpoint_of, IsIndexed}
-use Rattle.registry.proofs.RegistryLemmas.{Keyed, same_id, leads}
+use Rattle.registry.proofs.LookUpLemmas.{Keyed, same_id, leads}
 
 -- an endpoint after the first has another ID
 other_id : (id : List ℕ) (entries : Entries) (f : EndpointParts) (j : ℕ) → Keyed entries

@@ -3,7 +3,7 @@ use Rattle.std.specs.Prelude.{bytes_eq}
 use Rattle.std.specs.List.{IsDistinct}
 use Rattle.std.proofs.lemmas.Map.Keys.{IsDistinct-tail}
 use Rattle.registry.specs.Chosen.{IsBest, is_other_than}
-use Rattle.registry.proofs.ChosenLemmas.{all_looked_at}
+use Rattle.registry.proofs.NamedLemmas.{all_looked_at}
 use Rattle.registry.proofs.choosing.best_named.Goals as goal
 
 pub loop-id-init : goal.loop-id-init

@@ -1,7 +1,7 @@
 use Rattle.std.proofs.Common.{is_some, sym, ap, ◌∙◌}
 use Rattle.std.specs.Prelude.{bytes_eq}
 use Rattle.std.specs.Map.{lookup}
-use Rattle.registry.proofs.ChosenLemmas.{found_unnamed, passed_named}
+use Rattle.registry.proofs.UnnamedLemmas.{found_unnamed, passed_named}
 use Rattle.registry.proofs.choosing.first_unnamed.Goals as goal
 
 pub returns-then-not-contains_key-clause-best : goal.returns-then-not-contains_key-clause-best

@@ -1,5 +1,5 @@
 use Rattle.std.proofs.Common.{◌-◌}
-use Rattle.registry.proofs.ChosenLemmas.{AllNamedBefore}
+use Rattle.registry.proofs.UnnamedLemmas.{AllNamedBefore}
 use Rattle.registry.proofs.choosing.first_unnamed.Given as goal
 
 -- each that serves before this number is named

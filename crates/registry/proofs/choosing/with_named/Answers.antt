@@ -2,7 +2,7 @@ use Rattle.std.proofs.Common.{◌&&◌, nat_lt, sym, ap, subst, ◌∙◌}
 use Rattle.compiler.specs.Priority.{named_priority}
 use Rattle.registry.specs.Chosen.{IsBestAt, is_other_than, first_of, is_first, is_greater}
 use Rattle.registry.specs.Served.{found_serving}
-use Rattle.registry.proofs.ChosenLemmas.{drop_unknown, drop_failing, looked_at, keeps_first, keeps_greater}
+use Rattle.registry.proofs.NamedLemmas.{drop_unknown, drop_failing, looked_at, keeps_first, keeps_greater}
 use Rattle.registry.proofs.choosing.with_named.Goals as goal
 
 pub returns-then-is_greater : goal.returns-then-is_greater

@@ -1,7 +1,7 @@
 use Rattle.std.proofs.Common.{None, cond, ap, ◌∙◌, arith}
 use Rattle.std.specs.Prelude.{bytes_eq}
 use Rattle.registry.specs.RegistryIndex.{owner_of}
-use Rattle.registry.proofs.RegistryLemmas.{listed_more}
+use Rattle.registry.proofs.IndexChanges.{listed_more}
 use Rattle.registry.proofs.shelf.forget.Goals as goal
 
 pub loop-alias-preserved : goal.loop-alias-preserved

@@ -2,7 +2,7 @@ use Rattle.std.proofs.Common.{Some, cond, ap, ◌∙◌, arith}
 use Rattle.std.specs.Prelude.{bytes_eq}
 use Rattle.std.proofs.lemmas.Result.{MatchResult-at_ok}
 use Rattle.registry.specs.RegistryIndex.{owner_of}
-use Rattle.registry.proofs.RegistryLemmas.{listed_more}
+use Rattle.registry.proofs.IndexChanges.{listed_more}
 use Rattle.registry.proofs.shelf.lead.Goals as goal
 
 pub loop-alias-preserved : goal.loop-alias-preserved

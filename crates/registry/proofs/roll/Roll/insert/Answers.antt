@@ -4,7 +4,8 @@ use Rattle.std.specs.Prelude.{Some}
 use Rattle.std.specs.Ordering.{nat_cmp}
 use Rattle.std.specs.BTreeMap.{insert_entry}
 use Rattle.registry.specs.Roll.{IsNumberFor, IsPut, IsSetAt, by_id}
-use Rattle.registry.proofs.RollChanges.{roll_reordered, roll_put, put_among, less_than_next}
+use Rattle.registry.proofs.RollLemmas.{less_than_next}
+use Rattle.registry.proofs.RollInsertion.{roll_reordered, roll_put, put_among}
 use Rattle.registry.proofs.roll.Roll.insert.Goals as goal
 use Rattle.registry.proofs.roll.Roll.insert.Goals.{then-number-self, else-number-self}
 

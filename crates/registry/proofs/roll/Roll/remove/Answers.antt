@@ -2,7 +2,7 @@ use Rattle.std.proofs.Common.{sym, ap, subst, ◌∙◌}
 use Rattle.registry.specs.RegistryIndex.{kept_endpoint_of}
 use Rattle.registry.specs.Roll.{IsTakenOut, by_id}
 use Rattle.registry.proofs.RollLemmas.{kept_nowhere, kept_under}
-use Rattle.registry.proofs.RollChanges.{none_taken_out, roll_after_removal, removed_by_id}
+use Rattle.registry.proofs.RollRemoval.{none_taken_out, roll_after_removal, removed_by_id}
 use Rattle.registry.proofs.roll.Roll.remove.Goals as goal
 
 pub returns-in_err-number-clause-removed : goal.returns-in_err-number-clause-removed

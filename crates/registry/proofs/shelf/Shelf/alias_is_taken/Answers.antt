@@ -2,7 +2,7 @@ use Rattle.std.proofs.Common.{sym, ap, ◌∙◌}
 use Rattle.std.specs.List.{list_any}
 use Rattle.registry.specs.Registration.{alias_is_taken}
 use Rattle.registry.specs.RegistryIndex.{is_another, owner_of}
-use Rattle.registry.proofs.RegistryLemmas.{aliases_taken}
+use Rattle.registry.proofs.LookUpLemmas.{aliases_taken}
 use Rattle.registry.specs.Roll.{by_id}
 use Rattle.registry.proofs.ShelfLemmas.{seen}
 use Rattle.registry.proofs.shelf.Shelf.alias_is_taken.Goals as goal

@@ -3,7 +3,7 @@ use Rattle.std.specs.Prelude.{bytes_eq, if◌then◌else◌}
 use Rattle.std.specs.Option.{option_copied}
 use Rattle.registry.specs.Registration.{by_alias}
 use Rattle.registry.specs.RegistryIndex.{kept_endpoint_of, owner_of}
-use Rattle.registry.proofs.RegistryLemmas.{by_alias_nowhere, by_alias_owned}
+use Rattle.registry.proofs.LookUpLemmas.{by_alias_nowhere, by_alias_owned}
 use Rattle.registry.specs.Roll.{by_id}
 use Rattle.registry.proofs.ShelfLemmas.{seen}
 use Rattle.registry.proofs.shelf.Shelf.by_alias.Goals as goal

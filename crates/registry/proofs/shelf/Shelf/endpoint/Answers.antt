@@ -1,6 +1,6 @@
 use Rattle.std.proofs.Common.{ap, ◌∙◌}
 use Rattle.registry.specs.Registration.{endpoint_of}
-use Rattle.registry.proofs.RegistryLemmas.{entry_found}
+use Rattle.registry.proofs.LookUpLemmas.{entry_found}
 use Rattle.registry.specs.Roll.{by_id}
 use Rattle.registry.proofs.ShelfLemmas.{seen}
 use Rattle.registry.proofs.shelf.Shelf.endpoint.Goals as goal

@@ -2,7 +2,7 @@ use Rattle.std.proofs.Common.{◌≡◌, not, Some, None, sym, ap, ◌∙◌}
 use Rattle.std.specs.Option.{option_copied}
 use Rattle.registry.specs.Registration.{id_is_taken, same_address}
 use Rattle.registry.specs.RegistryIndex.{kept_endpoint_of}
-use Rattle.registry.proofs.RegistryLemmas.{found_and, entry_taken}
+use Rattle.registry.proofs.LookUpLemmas.{found_and, entry_taken}
 use Rattle.registry.specs.Roll.{by_id}
 use Rattle.registry.proofs.ShelfLemmas.{seen}
 use Rattle.registry.proofs.shelf.Shelf.id_is_taken.Goals as goal

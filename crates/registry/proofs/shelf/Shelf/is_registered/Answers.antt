@@ -1,6 +1,6 @@
 use Rattle.std.proofs.Common.{ap, ◌∙◌}
 use Rattle.registry.specs.Registration.{is_registered}
-use Rattle.registry.proofs.RegistryLemmas.{entry_registered}
+use Rattle.registry.proofs.LookUpLemmas.{entry_registered}
 use Rattle.registry.specs.Roll.{by_id}
 use Rattle.registry.proofs.ShelfLemmas.{seen}
 use Rattle.registry.proofs.shelf.Shelf.is_registered.Goals as goal

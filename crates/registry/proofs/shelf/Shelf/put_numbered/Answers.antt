@@ -2,7 +2,7 @@ use Rattle.std.proofs.Common.{refl, ap, subst, ◌∙◌}
 use Rattle.registry.specs.Registration.{alias_is_taken, with_endpoint}
 use Rattle.registry.specs.RegistryIndex.{Forgets, LeadTo, aliases_of, kept_endpoint_of}
 use Rattle.registry.specs.Roll.{by_id, endpoints_of}
-use Rattle.registry.proofs.RegistryLemmas.{indexed-reordered}
+use Rattle.registry.proofs.IndexChanges.{indexed-reordered}
 use Rattle.registry.proofs.ShelfLemmas.{index_put, endpoints_put}
 use Rattle.registry.proofs.shelf.Shelf.put_numbered.Goals as goal
 

@@ -2,7 +2,7 @@ use Rattle.std.proofs.Common.{ap, subst, ◌∙◌}
 use Rattle.registry.specs.Registration.{without_endpoint, endpoint_of}
 use Rattle.registry.specs.RegistryIndex.{Forgets, aliases_of}
 use Rattle.registry.specs.Roll.{by_id, endpoints_of}
-use Rattle.registry.proofs.RegistryLemmas.{entry_found}
+use Rattle.registry.proofs.LookUpLemmas.{entry_found}
 use Rattle.registry.proofs.ShelfLemmas.{endpoints_left, index_left, seen}
 use Rattle.registry.proofs.shelf.Shelf.remove.Goals as goal
 

@@ -1,4 +1,4 @@
--- What a registration and an unregistration change in the endpoints by number.
+-- What a registration changes in the endpoints by number.
 use Rattle.std.proofs.Common.{◌≡◌, inl, inr, ℕ, ◌+◌, ◌<◌, ◌≤◌, Bool, true, false, cond, List, [], ◌∷◌, refl, sym, ap, subst, ◌∙◌, arith}
 use Rattle.std.specs.Prelude.{Option, Some, None, ⊤, ◌⊎◌, bytes_eq, if◌then◌else◌}
 use Rattle.std.specs.declared.cmp.Ordering.{Ordering}
@@ -8,20 +8,20 @@ use Rattle.std.specs.Cmp.{unsigned_tied, nat_cmp_is, both_ways as alike}
 use Rattle.std.specs.Cmp.Lexicographic.{same_text}
 use Rattle.std.specs.BTreeMap.{is_at}
 use Rattle.std.specs.BTreeMap as tree
-use Rattle.std.specs.List.{AllByRecursion, IsDistinct}
+use Rattle.std.specs.List.{AllByRecursion}
 use Rattle.std.specs.List.Sorted.{IsStrictlySortedBy}
-use Rattle.std.specs.Map.{keys_of, remove_entry}
+use Rattle.std.specs.Map.{keys_of}
 use Rattle.std.proofs.lemmas.Bool.{both_ways, false_from_ne_true}
 use Rattle.std.proofs.lemmas.Cmp.{nat_list_eq_equiv, nat_cmp_total}
 use Rattle.std.proofs.lemmas.Option.{none-some, same_Some}
-use Rattle.std.proofs.lemmas.Map.{lookup-none, lookup-remove_entry}
+use Rattle.std.proofs.lemmas.Map.{lookup-none}
 use Rattle.std.proofs.lemmas.Map.Entries.{none_below_head}
 use Rattle.std.proofs.lemmas.Map.Keys.{sorted_tail}
 use Rattle.indexmap.specs.IndexMap.{insert_entry}
 use Rattle.registry.specs.Endpoint.{EndpointParts}
 use Rattle.registry.specs.RegistryIndex.{Entries, kept_endpoint_of}
-use Rattle.registry.specs.Roll.{Numbered, Numbers, at_number, number_of, by_id, is_number, found_with_id, IsRoll, IsNumberFor, IsPut, IsTakenOut, IsSetAt}
-use Rattle.registry.proofs.RollLemmas.{same_number, number_itself, each_entry, distinct_numbers, distinct_ids}
+use Rattle.registry.specs.Roll.{Numbered, Numbers, at_number, number_of, by_id, is_number, found_with_id, IsRoll, IsNumberFor, IsPut, IsSetAt}
+use Rattle.registry.proofs.RollLemmas.{same_number, number_itself, each_entry, distinct_numbers, distinct_ids, own_endpoint}
 
 -- ---- a registration, as a list
 -- the entry with that number is the one with the ID, and it comes after lesser numbers alone
@@ -91,23 +91,15 @@ fits_new n e (f ∷ fs) h =
 
 module _ (entries : Numbered) (numbers : Numbers) (next : ℕ)
     (roll : IsRoll entries numbers next) where
-  -- the endpoint of a number, if it has an ID
-  own_endpoint : (id : List ℕ) (n : ℕ) → found_with_id id (at_number entries n) ≡ true
-      → (found : Option EndpointParts) → at_number entries n ≡ found
-      → (P : Type 0)
-      → ((g : EndpointParts) → at_number entries n ≡ Some g → bytes_eq g.id id ≡ true → P)
-      → P
-  own_endpoint id n own None at P f =
-      absurd (both_ways false refl (ap (found_with_id id) (sym at) ∙ own))
-  own_endpoint id n own (Some g) at P f = f g at (ap (found_with_id id) (sym at) ∙ own)
-
   fits_for : (e : EndpointParts) (n : ℕ)
       → IsNumberFor (record { entries = entries; next = next }) e.id n → Fits n e entries
   fits_for e n h = by h.which
     where
       by : (found_with_id e.id (at_number entries n) ≡ true) ⊎ (n ≡ next) → Fits n e entries
       by (inl own) =
-          own_endpoint e.id n own (at_number entries n) refl (Fits n e entries) (λ g at same_id.
+          own_endpoint entries numbers next roll e.id n own (at_number entries n) refl
+          (Fits n e entries)
+          (λ g at same_id.
           fits_present n e g entries roll.sorted at
           (each_entry (λ m f. is_at (nat_cmp n) m ≡ bytes_eq e.id f.id) entries
           (distinct_numbers entries roll.sorted)
@@ -141,12 +133,14 @@ module _ (entries : Numbered) (numbers : Numbers) (next : ℕ)
     where
       by : (found_with_id id (at_number entries n) ≡ true) ⊎ (n ≡ next) → bytes_eq id other ≡ true
       by (inl mine) =
-          own_endpoint other n own (at_number entries n) refl (bytes_eq id other ≡ true)
+          own_endpoint entries numbers next roll other n own (at_number entries n) refl
+          (bytes_eq id other ≡ true)
           (λ g at has.
           let its : bytes_eq g.id id ≡ true = ap (found_with_id id) (sym at) ∙ mine in
           ap (λ x. bytes_eq x other) (sym (same_text g.id id (sym its))) ∙ has)
       by (inr fresh) =
-          own_endpoint other n own (at_number entries n) refl (bytes_eq id other ≡ true)
+          own_endpoint entries numbers next roll other n own (at_number entries n) refl
+          (bytes_eq id other ≡ true)
           (λ g at has.
           let low = roll.below n g at in
           let never : ⊥ = omega (arith, low, fresh) in absurd never)
@@ -253,112 +247,6 @@ put_by_id entries new numbers all next after e n before h put roll =
           λ id. ap (λ es. kept_endpoint_of es id) placed ∙ lookup_put id e.id e (by_id entries);
     }
 
--- ---- an unregistration
-removed : (n : ℕ) (id : List ℕ) (entries : Numbered)
-    → AllByRecursion (λ f. is_at (nat_cmp n) f.0 ≡ bytes_eq id f.1.id) entries
-    → by_id (remove_entry (is_at (nat_cmp n)) entries) ≡ remove_entry (bytes_eq id) (by_id entries)
-removed n id [] agree = refl
-removed n id (f ∷ fs) agree =
-    by (is_at (nat_cmp n) f.0) (removed n id fs agree.1)
-    ∙ ap (λ b. cond b (by_id fs) ((f.1.id, f.1) ∷ remove_entry (bytes_eq id) (by_id fs))) agree.0
-  where
-    by : (b : Bool)
-        → by_id (remove_entry (is_at (nat_cmp n)) fs) ≡ remove_entry (bytes_eq id) (by_id fs)
-        → by_id (cond b fs (f ∷ remove_entry (is_at (nat_cmp n)) fs))
-        ≡ cond b (by_id fs) ((f.1.id, f.1) ∷ remove_entry (bytes_eq id) (by_id fs))
-    by true rest = refl
-    by false rest = ap (λ xs. (f.1.id, f.1) ∷ xs) rest
-
-none_removed : (id : List ℕ) (entries : Entries) → kept_endpoint_of entries id ≡ None
-    → remove_entry (bytes_eq id) entries ≡ entries
-none_removed id [] h = refl
-none_removed id (e ∷ es) h = by (bytes_eq id e.0) h (none_removed id es)
-  where
-    by : (b : Bool) → cond b (Some e.1) (kept_endpoint_of es id) ≡ None
-        → (kept_endpoint_of es id ≡ None → remove_entry (bytes_eq id) es ≡ es)
-        → cond b es (e ∷ remove_entry (bytes_eq id) es) ≡ e ∷ es
-    by true h rest = absurd (none-some e.1 (sym h))
-    by false h rest = ap (λ xs. e ∷ xs) (rest h)
-
-taken_out : (id : List ℕ) (old new : Entries) → IsDistinct bytes_eq (keys_of old)
-    → IsDistinct bytes_eq (keys_of new) → new ≡ remove_entry (bytes_eq id) old
-    → IsTakenOut old new id
-taken_out id old new distinct unique left = record {
-  entries = left;
-  unique = unique;
-  updates = λ other. ap (λ es. kept_endpoint_of es other) left
-      ∙ lookup-remove_entry nat_list_eq_equiv (bytes_eq id) (nat_list_eq_equiv.congr id) other old
-      distinct;
-}
-
--- without such an endpoint nothing changes
-pub none_taken_out : (entries : Numbered) (numbers : Numbers) (next : ℕ)
-    → IsRoll entries numbers next → (id : List ℕ) → kept_endpoint_of (by_id entries) id ≡ None
-    → IsTakenOut (by_id entries) (by_id entries) id
-none_taken_out entries numbers next roll id none =
-    let distinct = distinct_ids entries numbers next roll in
-    taken_out id (by_id entries) (by_id entries) distinct distinct
-    (sym (none_removed id (by_id entries) none))
-
-module _ (entries new : Numbered) (numbers left : Numbers) (next : ℕ) (n : ℕ) (id : List ℕ)
-    (roll : IsRoll entries numbers next) (known : number_of numbers id ≡ Some n)
-    (set : IsSetAt entries new n None)
-    (led : (other : List ℕ) → number_of left other
-    ≡ cond (bytes_eq id other) None (number_of numbers other)) where
-  -- the number is that of the ID
-  tied : (m : ℕ) → found_with_id id (at_number entries m) ≡ is_at (nat_cmp n) m
-  tied m = sym (roll.numbered id m) ∙ ap (is_number m) known ∙ sym (unsigned_tied n m)
-
-  below_left : (m : ℕ) (f : EndpointParts) → at_number new m ≡ Some f → m < next
-  below_left m f there = by (is_at (nat_cmp n) m) (sym (set m) ∙ there)
-    where
-      by : (b : Bool) → cond b None (at_number entries m) ≡ Some f → m < next
-      by true at = absurd (none-some f at)
-      by false at = roll.below m f at
-
-  numbered_left : (other : List ℕ) (m : ℕ)
-      → is_number m (number_of left other) ≡ found_with_id other (at_number new m)
-  numbered_left other m =
-      ap (is_number m) (led other)
-      ∙ by (bytes_eq id other) refl (is_at (nat_cmp n) m) refl
-      ∙ ap (found_with_id other) (sym (set m))
-    where
-      by : (a : Bool) → bytes_eq id other ≡ a → (b : Bool) → is_at (nat_cmp n) m ≡ b
-          → is_number m (cond a None (number_of numbers other))
-          ≡ found_with_id other (cond b None (at_number entries m))
-      by true p true q = refl
-      by true p false q =
-          sym q ∙ sym (tied m)
-          ∙ ap (λ x. found_with_id x (at_number entries m)) (same_text id other (sym p))
-      by false p true q =
-          roll.numbered other m
-          ∙ false_from_ne_true (found_with_id other (at_number entries m))
-          (λ own. own_endpoint entries numbers next roll other m own (at_number entries m) refl ⊥
-          (λ g at has.
-          let mine : bytes_eq g.id id ≡ true = ap (found_with_id id) (sym at) ∙ tied m ∙ q in
-          both_ways (bytes_eq id other) p
-          (ap (λ x. bytes_eq x other) (sym (same_text g.id id (sym mine))) ∙ has)))
-      by false p false q = roll.numbered other m
-
-  pub roll_after_removal : IsStrictlySortedBy nat_cmp (keys_of new) → IsRoll new left next
-  roll_after_removal sorted = record {
-    sorted = sorted;
-    below = below_left;
-    numbered = numbered_left;
-  }
-
-  pub removed_by_id : new ≡ remove_entry (is_at (nat_cmp n)) entries
-      → IsStrictlySortedBy nat_cmp (keys_of new) → IsTakenOut (by_id entries) (by_id new) id
-  removed_by_id taken sorted =
-      taken_out id (by_id entries) (by_id new) (distinct_ids entries numbers next roll)
-      (distinct_ids new left next (roll_after_removal sorted))
-      (ap by_id taken
-      ∙ removed n id entries
-      (each_entry (λ m f. is_at (nat_cmp n) m ≡ bytes_eq id f.id) entries
-      (distinct_numbers entries roll.sorted)
-      (λ m f there. sym (tied m) ∙ ap (found_with_id id) there
-      ∙ nat_list_eq_equiv.symm f.id id)))
-
 -- ---- the steps of a registration
 module _ (entries new : Numbered) (numbers reserved : Numbers) (next : ℕ)
     (roll : IsRoll entries numbers next)
@@ -390,27 +278,3 @@ module _ (entries new : Numbered) (numbers reserved : Numbers) (next : ℕ)
     put_among put =
         put_by_id entries new numbers all next (next + (n + 1)) e n roll h put
         (roll_put (next + (n + 1)) (omega arith) (omega arith))
-
--- a number that is not the next one is less
-pub less_than_next : (entries : Numbered) (numbers : Numbers) (next : ℕ)
-    → IsRoll entries numbers next
-    → (id : List ℕ) (n : ℕ) → IsNumberFor (record { entries = entries; next = next }) id n
-    → (n ≡ next → ⊥) → n < next
-less_than_next entries numbers next roll id n h apart = by h.which
-  where
-    by : (found_with_id id (at_number entries n) ≡ true) ⊎ (n ≡ next) → n < next
-    by (inl own) =
-        own_endpoint entries numbers next roll id n own (at_number entries n) refl (n < next)
-        (λ g at has. roll.below n g at)
-    by (inr fresh) = absurd (apart fresh)
-
--- the next number is no endpoint's
-pub next_is_free : (entries : Numbered) (numbers : Numbers) (next : ℕ) → IsRoll entries numbers next
-    → at_number entries next ≡ None
-next_is_free entries numbers next roll = by (at_number entries next) refl
-  where
-    by : (found : Option EndpointParts) → at_number entries next ≡ found → found ≡ None
-    by None h = refl
-    by (Some f) h =
-        let low = roll.below next f h in
-        let never : ⊥ = omega (arith, low) in absurd never
