@@ -7,7 +7,7 @@ use Rattle.gk_terms.specs.Text.{lines_of}
 use Rattle.command_reader.specs.Accepted.{IsAccepted}
 use Rattle.command_reader.specs.Printing.{text_of}
 use Rattle.command_reader.specs.Reading.{reading_of}
-use Rattle.command_reader.proofs.FileBack.{file_back}
+use Rattle.command_reader.proofs.read_back.File.{file_back}
 use Rattle.admission.specs.HistoryLaws.{AreAccepted}
 use Rattle.command_reader.specs.declared.commands.Command.{Command}
 use Rattle.rulings.specs.State.{State, free_places}

@@ -52,7 +52,7 @@ impl Model for Draft {
 }
 
 impl Draft {
-    #[tactic(auto, using(crate::proofs::FileBack::none_printable))]
+    #[tactic(auto, using(crate::proofs::read_back::File::none_printable))]
     /// Nothing read yet.
     pub fn new(alloc: Global) -> Draft
         ensures { result ≡ nothing_read }
@@ -66,7 +66,7 @@ impl Draft {
         }
     }
 
-    #[tactic(auto, using(crate::proofs::FileBack::none_printable))]
+    #[tactic(auto, using(crate::proofs::read_back::File::none_printable))]
     /// The same with room for so many commands, if there is memory for it: else the draft takes
     /// memory as it is read, so that only a line that finds none is refused.
     pub fn with_room(alloc: Global, commands: usize) -> Draft
@@ -173,7 +173,7 @@ impl Draft {
         self.declared.contains(name)
     }
 
-    #[tactic(auto, using(crate::proofs::LocalZones::some_local))]
+    #[tactic(auto, using(crate::proofs::accepted::LocalZones::some_local))]
     /// Whether a line declares a local zone.
     pub fn has_local_zone(&self) -> bool
         ensures { result ≡ is_some (first_local_of (commands_in self.now)) }

@@ -20,7 +20,7 @@ use std::alloc::Global;
 ///
 /// `NoMemory` is answered only at a line whose command would be kept, after lines without a fault,
 /// whatever comes after it. It names that line.
-#[tactic(auto, using(crate::proofs::ReadOnLemmas::finishes, crate::proofs::ReadOnLemmas::refuses))]
+#[tactic(auto, using(crate::proofs::one_by_one::ReadOnLemmas::finishes, crate::proofs::one_by_one::ReadOnLemmas::refuses))]
 pub fn read(alloc: Global, bytes: &[u8]) -> Result<Commands, LineFault>
     ensures { MayRead (lines_of bytes.now) result }
 {

@@ -13,7 +13,7 @@ use Rattle.command_reader.specs.declared.commands.Command.{Command}
 use Rattle.command_reader.specs.declared.zones.ZoneKind.{ZoneKind}
 use Rattle.command_reader.specs.Zones.{zones_of, zone_of, is_local, is_local_option}
 use Rattle.command_reader.specs.Accepted.{IsAccepted}
-use Rattle.command_reader.proofs.AcceptedLemmas.{zones_few}
+use Rattle.command_reader.proofs.accepted.AcceptedLemmas.{zones_few}
 use Rattle.gk_terms.specs.declared.limits.TheConstants.{MOST_ZONES}
 use Rattle.compiler.specs.declared.limits.ZoneLimits.{ZoneLimits}
 use Rattle.compiler.specs.declared.plans.TheConstants.{USUAL_GATEWAY_PRIORITY}

@@ -17,7 +17,7 @@ use Rattle.command_reader.specs.Configuration.{Configuration}
 use Rattle.command_reader.specs.Line.{line_of}
 use Rattle.command_reader.specs.Progress.{Progress}
 use Rattle.command_reader.specs.Reading.{nothing_read, finished, whole_of, MayRead, MayReadLine, MayReadOn}
-use Rattle.command_reader.proofs.ReadOnLemmas.{no_more_lines, one_line, refused_line, finishes, refuses, long_says, same_line}
+use Rattle.command_reader.proofs.one_by_one.ReadOnLemmas.{no_more_lines, one_line, refused_line, finishes, refuses, long_says, same_line}
 use Rattle.configuration_reader.specs.declared.configuration.Until.{Until}
 use Rattle.configuration_reader.specs.declared.configuration.Until.TheVariants.{EndLine, EndOfInput}
 use Rattle.configuration_reader.specs.declared.configuration.ConfigurationFault.{ConfigurationFault}

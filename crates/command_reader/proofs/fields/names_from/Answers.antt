@@ -1,6 +1,6 @@
 use Rattle.std.proofs.Common.{◌∷◌, [], sym}
 use Rattle.command_reader.specs.Memory.{HoldsNames}
-use Rattle.command_reader.proofs.NameLemmas.{first_name, more_names}
+use Rattle.command_reader.proofs.one_by_one.NameLemmas.{first_name, more_names}
 use Rattle.command_reader.proofs.fields.names_from.Goals as goal
 
 pub loop-word-init : goal.loop-word-init

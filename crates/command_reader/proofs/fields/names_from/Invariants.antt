@@ -1,6 +1,6 @@
 use Rattle.std.proofs.Common.{◌∷◌}
 use Rattle.gk_terms.specs.Text.{words_of}
-use Rattle.command_reader.proofs.NameLemmas.{AreNames}
+use Rattle.command_reader.proofs.one_by_one.NameLemmas.{AreNames}
 use Rattle.command_reader.proofs.fields.names_from.Given as goal
 
 -- the words before those left are names, and they are held

@@ -1,7 +1,7 @@
 use Rattle.std.proofs.Common.{sym, subst}
 use Rattle.std.specs.List.{All}
 use Rattle.command_reader.specs.Accepted.{PrintsBack}
-use Rattle.command_reader.proofs.FileBack.{file_back}
+use Rattle.command_reader.proofs.read_back.File.{file_back}
 use Rattle.command_reader.proofs.printing.print.Goals as goal
 
 pub print_lines-requires : goal.print_lines-requires

@@ -1,6 +1,6 @@
 use Rattle.gk_terms.specs.Text.{words_of}
 use Rattle.std.proofs.lemmas.Result.{err_from_is_err_and}
-use Rattle.command_reader.proofs.OptionLemmas.{refused_options}
+use Rattle.command_reader.proofs.one_by_one.OptionLemmas.{refused_options}
 use Rattle.command_reader.proofs.technology_lines.gw_type_prefix.Goals as goal
 
 pub returns-in_err-hopoffs : goal.returns-in_err-hopoffs

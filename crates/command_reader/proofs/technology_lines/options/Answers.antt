@@ -1,6 +1,6 @@
 use Rattle.std.proofs.Common.{refl, sym, inl}
 use Rattle.std.proofs.lemmas.Result.{err_from_is_err_and}
-use Rattle.command_reader.proofs.OptionLemmas.{none_held, more_options, bad_option}
+use Rattle.command_reader.proofs.one_by_one.OptionLemmas.{none_held, more_options, bad_option}
 use Rattle.command_reader.proofs.technology_lines.options.Goals as goal
 
 pub loop-word-init : goal.loop-word-init

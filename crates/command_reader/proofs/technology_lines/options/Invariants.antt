@@ -1,5 +1,5 @@
 use Rattle.gk_terms.specs.Text.{words_of}
-use Rattle.command_reader.proofs.OptionLemmas.{AreOptions}
+use Rattle.command_reader.proofs.one_by_one.OptionLemmas.{AreOptions}
 use Rattle.command_reader.proofs.technology_lines.options.Given as goal
 
 -- the words before those left are options, and they are held

@@ -1,5 +1,5 @@
 use Rattle.std.proofs.Common.{sym, ◌∙◌}
-use Rattle.command_reader.proofs.NumberLemmas.{held_commands}
+use Rattle.command_reader.proofs.one_by_one.NumberLemmas.{held_commands}
 use Rattle.command_reader.proofs.draft.Draft.commands.Goals as goal
 
 pub returns : goal.returns

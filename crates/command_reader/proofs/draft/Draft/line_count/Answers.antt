@@ -1,5 +1,5 @@
 use Rattle.std.proofs.Common.{sym, ap, ◌+◌, ◌∙◌, length, arith}
-use Rattle.command_reader.proofs.NumberLemmas.{held_commands, held_count}
+use Rattle.command_reader.proofs.one_by_one.NumberLemmas.{held_commands, held_count}
 use Rattle.command_reader.proofs.draft.Draft.line_count.Goals as goal
 
 pub returns-clause-count : goal.returns-clause-count

@@ -1,4 +1,4 @@
-use Rattle.command_reader.proofs.NumberLemmas.{held_unknown}
+use Rattle.command_reader.proofs.one_by_one.NumberLemmas.{held_unknown}
 use Rattle.command_reader.proofs.draft.Draft.unknown_zone.Goals as goal
 
 pub returns : goal.returns

@@ -4,9 +4,9 @@ use Rattle.std.proofs.lemmas.Result.{err_from_is_err_and}
 use Rattle.command_reader.specs.Index.{AreDeclared}
 use Rattle.command_reader.specs.Progress.{Progress, with_numbers}
 use Rattle.command_reader.specs.Reading.{with_command}
-use Rattle.command_reader.proofs.FileBack.{one_more_printable}
-use Rattle.command_reader.proofs.IndexLemmas.{faulty_line, ok_line, same_fault, one_more_declared}
-use Rattle.command_reader.proofs.NumberLemmas.{held_commands, held_count, one_more_number}
+use Rattle.command_reader.proofs.read_back.File.{one_more_printable}
+use Rattle.command_reader.proofs.one_by_one.IndexLemmas.{faulty_line, ok_line, same_fault, one_more_declared}
+use Rattle.command_reader.proofs.one_by_one.NumberLemmas.{held_commands, held_count, one_more_number}
 use Rattle.command_reader.proofs.draft.Draft.with_command.Goals as goal
 
 pub returns-in_err-index : goal.returns-in_err-index

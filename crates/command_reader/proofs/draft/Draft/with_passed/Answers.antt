@@ -1,5 +1,5 @@
 use Rattle.std.proofs.Common.{arith}
-use Rattle.command_reader.proofs.NumberLemmas.{held_count}
+use Rattle.command_reader.proofs.one_by_one.NumberLemmas.{held_count}
 use Rattle.command_reader.proofs.draft.Draft.with_passed.Goals as goal
 
 pub invariant_of-self : goal.invariant_of-self

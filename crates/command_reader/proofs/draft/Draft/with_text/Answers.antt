@@ -1,5 +1,5 @@
 use Rattle.std.proofs.Common.{Ok, ap, ◌∙◌}
-use Rattle.command_reader.proofs.LineBack.{command_back}
+use Rattle.command_reader.proofs.read_back.Line.{command_back}
 use Rattle.command_reader.proofs.draft.Draft.with_text.Goals as goal
 
 pub with_command-requires-clause-prints : goal.with_command-requires-clause-prints

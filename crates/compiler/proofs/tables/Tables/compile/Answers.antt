@@ -1,7 +1,7 @@
 use Rattle.std.proofs.Common.{sym, subst, ◌∙◌, List}
 use Rattle.command_reader.specs.declared.commands.Command.{Command}
 use Rattle.command_reader.specs.Accepted.{IsAccepted}
-use Rattle.command_reader.proofs.AcceptedLemmas.{names_differ, named_declared}
+use Rattle.command_reader.proofs.accepted.AcceptedLemmas.{names_differ, named_declared}
 use Rattle.compiler.specs.Rows.{rows_of}
 use Rattle.compiler.specs.TablesIndex.{IsIndex}
 use Rattle.compiler.proofs.PlanLemmas.{no_duplicate}

@@ -18,12 +18,12 @@ use Rattle.command_reader.specs.ZoneLine.{left_out_of_remote, cost_of, remote_po
 use Rattle.command_reader.specs.Line.{kept_command_of, command_at}
 use Rattle.command_reader.specs.Printing.{command_words, remote_words}
 use Rattle.command_reader.specs.Accepted.{is_word}
-use Rattle.command_reader.proofs.WordsBack.{AreWords}
-use Rattle.command_reader.proofs.NumbersBack.{number_spelled}
-use Rattle.command_reader.proofs.AddressBack.{IsOwnIp, ip_back}
-use Rattle.command_reader.proofs.FieldsBack.{bound, bind_at, chosen, field_read, field_again, value_read, value_again, nothing_more_read, name_read, IsRead, IsNamed}
-use Rattle.command_reader.proofs.LengthsBack.{cost}
-use Rattle.command_reader.proofs.CommandBack.{IsSaidAgain}
+use Rattle.command_reader.proofs.read_back.Words.{AreWords}
+use Rattle.command_reader.proofs.read_back.Numbers.{number_spelled}
+use Rattle.command_reader.proofs.read_back.Address.{IsOwnIp, ip_back}
+use Rattle.command_reader.proofs.read_back.Fields.{bound, bind_at, chosen, field_read, field_again, value_read, value_again, nothing_more_read, name_read, IsRead, IsNamed}
+use Rattle.command_reader.proofs.read_back.Lengths.{cost}
+use Rattle.command_reader.proofs.read_back.Command.{IsSaidAgain}
 
 -- ---- numbers
 -- a number whose digits are read again in their place

@@ -15,9 +15,9 @@ use Rattle.command_reader.specs.ZoneLine.{hunt_words}
 use Rattle.command_reader.specs.TechnologyLine.{TechnologyOptions, hopoff_name_of, option_of, option_or, expected_after, with_option, options_at}
 use Rattle.command_reader.specs.Printing.{option_words, further_words, hopoff_words, default_words}
 use Rattle.command_reader.specs.Accepted.{is_word}
-use Rattle.command_reader.proofs.WordsBack.{AreWords}
-use Rattle.command_reader.proofs.FieldsBack.{IsNamed}
-use Rattle.command_reader.proofs.HopoffsBack.{AreNamed}
+use Rattle.command_reader.proofs.read_back.Words.{AreWords}
+use Rattle.command_reader.proofs.read_back.Fields.{IsNamed}
+use Rattle.command_reader.proofs.read_back.Hopoffs.{AreNamed}
 
 -- a word that is not an option word
 other_from : (word : List ℕ) → is_one_of option_words word ≡ false → option_of word ≡ Ok None

@@ -13,11 +13,11 @@ use Rattle.gk_terms.specs.Fields.{◌>>=◌, field}
 use Rattle.command_reader.specs.Fields.{value_but, nothing_more_but}
 use Rattle.command_reader.specs.ZoneLine.{left_out_of_local, local_port_at, local_address_at, zone_local_at}
 use Rattle.command_reader.specs.Printing.{command_words, local_words}
-use Rattle.command_reader.proofs.WordsBack.{AreWords}
-use Rattle.command_reader.proofs.NumbersBack.{number_spelled}
-use Rattle.command_reader.proofs.AddressBack.{ip_spelled}
-use Rattle.command_reader.proofs.FieldsBack.{IsNamed, bound, field_read, value_read, nothing_more_read, name_read}
-use Rattle.command_reader.proofs.CommandBack.{IsSpelledBy}
+use Rattle.command_reader.proofs.read_back.Words.{AreWords}
+use Rattle.command_reader.proofs.read_back.Numbers.{number_spelled}
+use Rattle.command_reader.proofs.read_back.Address.{ip_spelled}
+use Rattle.command_reader.proofs.read_back.Fields.{IsNamed, bound, field_read, value_read, nothing_more_read, name_read}
+use Rattle.command_reader.proofs.read_back.Command.{IsSpelledBy}
 
 -- the address of a local zone, as its words
 record IsLocalAddress (words : List (List ℕ)) (address : Option LocalAddress) : Type 0 where

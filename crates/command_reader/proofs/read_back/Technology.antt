@@ -13,13 +13,13 @@ use Rattle.command_reader.specs.TechnologyLine.{TechnologyOptions, options_at, g
 use Rattle.command_reader.specs.Line.{kept_command_of, command_at}
 use Rattle.command_reader.specs.Printing.{command_words, hopoff_words, default_words}
 use Rattle.command_reader.specs.Accepted.{is_word}
-use Rattle.command_reader.proofs.WordsBack.{AreWords}
-use Rattle.command_reader.proofs.FieldsBack.{bound, bind_at, field_read, field_again}
-use Rattle.command_reader.proofs.LengthsBack.{cost}
-use Rattle.command_reader.proofs.TechPrefixBack.{tech_prefix_read}
-use Rattle.command_reader.proofs.HopoffsBack.{AreNamed, options_read}
-use Rattle.command_reader.proofs.OptionsBack.{options_again, options_solid}
-use Rattle.command_reader.proofs.CommandBack.{IsSaidAgain}
+use Rattle.command_reader.proofs.read_back.Words.{AreWords}
+use Rattle.command_reader.proofs.read_back.Fields.{bound, bind_at, field_read, field_again}
+use Rattle.command_reader.proofs.read_back.Lengths.{cost}
+use Rattle.command_reader.proofs.read_back.TechPrefix.{tech_prefix_read}
+use Rattle.command_reader.proofs.read_back.Hopoffs.{AreNamed, options_read}
+use Rattle.command_reader.proofs.read_back.Options.{options_again, options_solid}
+use Rattle.command_reader.proofs.read_back.Command.{IsSaidAgain}
 
 abbrev after_options : List ℕ → TechnologyOptions → Result Command FaultKind
 after_options prefix options = Ok (GwTypePrefix prefix options.hopoffs options.is_default)

@@ -18,7 +18,7 @@ use Rattle.command_reader.specs.Zones.{first_local_of}
 use Rattle.command_reader.specs.Reading.{command_fault, with_command, unless_fault, said_after, line_after, line_then, lines_after, names_unknown, fault_at, unknown_zone, local_zone_checked, zones_checked, finished, whole_of, nothing_read, reading_of}
 use Rattle.command_reader.specs.Printing.{command_words, text_of}
 use Rattle.command_reader.specs.Accepted.{is_word, canonical_line, PrintsBack, IsPrintable, IsAccepted}
-use Rattle.command_reader.proofs.WordsBack.{lines_back}
+use Rattle.command_reader.proofs.read_back.Words.{lines_back}
 
 -- ---- lines one after another
 lines_after-append : (xs ys : List (List ℕ)) (before read : Progress) → lines_after before xs ≡ Ok read → lines_after before (xs ++ ys) ≡ lines_after read ys

@@ -9,7 +9,7 @@ use Rattle.command_reader.specs.declared.faults.FaultKind.TheVariants.{BadName}
 use Rattle.gk_terms.specs.Fields.{◌>>=◌}
 use Rattle.command_reader.specs.Fields.{with_name, names_in}
 use Rattle.command_reader.specs.Memory.{HoldsNames}
-use Rattle.command_reader.proofs.HeldLemmas.{held_more}
+use Rattle.command_reader.proofs.one_by_one.HeldLemmas.{held_more}
 
 -- names after others
 abbrev pub in_front : List (List ℕ) → List (List ℕ) → Result (List (List ℕ)) FaultKind

@@ -9,9 +9,9 @@ use Rattle.std.proofs.lemmas.Slice.Eq.{bytes_eq-Decides}
 use Rattle.command_reader.specs.declared.commands.Command.{Command}
 use Rattle.command_reader.specs.Zones.{zones_of, is_declared, named_by, is_local_command}
 use Rattle.command_reader.specs.Accepted.{PrintsBack, IsAccepted, zone_names, NamesDeclared, HasNumbersInRange, IsWellFormed}
-use Rattle.command_reader.proofs.AcceptedLemmas.{named_among, names_differ, zones_few, named_declared, has_local}
-use Rattle.command_reader.proofs.LocalZones.{some_local}
-use Rattle.command_reader.proofs.RangesBack.{in_range}
+use Rattle.command_reader.proofs.accepted.AcceptedLemmas.{named_among, names_differ, zones_few, named_declared, has_local}
+use Rattle.command_reader.proofs.accepted.LocalZones.{some_local}
+use Rattle.command_reader.proofs.read_back.Ranges.{in_range}
 
 -- a declared name is one of the names
 name_found : (commands : List Command) (name : List ℕ) → is_declared commands name ≡ true

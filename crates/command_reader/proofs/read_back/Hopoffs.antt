@@ -15,8 +15,8 @@ use Rattle.command_reader.specs.Fields.{is_one_of}
 use Rattle.command_reader.specs.ZoneLine.{hunt_words}
 use Rattle.command_reader.specs.TechnologyLine.{TechnologyOptions, no_options, hopoff_name_of, option_of, option_or, option_at, expected_after, with_option, options_at_end, options_at}
 use Rattle.command_reader.specs.Printing.{option_words, further_words, hopoff_words, default_words}
-use Rattle.command_reader.proofs.FieldsBack.{bound, same_word, ok_or-some, name_read, IsNamed}
-use Rattle.command_reader.proofs.LengthsBack.{cost, cost-append}
+use Rattle.command_reader.proofs.read_back.Fields.{bound, same_word, ok_or-some, name_read, IsNamed}
+use Rattle.command_reader.proofs.read_back.Lengths.{cost, cost-append}
 
 -- ---- names
 abbrev pub AreNamed : List (List ℕ) → Type 0

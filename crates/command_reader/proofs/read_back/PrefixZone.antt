@@ -18,12 +18,12 @@ use Rattle.command_reader.specs.ZoneLine.{hunt_words, after_hunt_word, with_gate
 use Rattle.command_reader.specs.Line.{kept_command_of, command_at}
 use Rattle.command_reader.specs.Printing.{command_words, gateway_words}
 use Rattle.command_reader.specs.Accepted.{is_word}
-use Rattle.command_reader.proofs.WordsBack.{AreWords}
-use Rattle.command_reader.proofs.NumbersBack.{number_spelled}
-use Rattle.command_reader.proofs.PatternBack.{pattern_read}
-use Rattle.command_reader.proofs.FieldsBack.{bound, bind_at, chosen, same_word, ok_or-some, field_read, field_again, name_read, IsNamed}
-use Rattle.command_reader.proofs.LengthsBack.{cost}
-use Rattle.command_reader.proofs.CommandBack.{IsSaidAgain}
+use Rattle.command_reader.proofs.read_back.Words.{AreWords}
+use Rattle.command_reader.proofs.read_back.Numbers.{number_spelled}
+use Rattle.command_reader.proofs.read_back.Pattern.{pattern_read}
+use Rattle.command_reader.proofs.read_back.Fields.{bound, bind_at, chosen, same_word, ok_or-some, field_read, field_again, name_read, IsNamed}
+use Rattle.command_reader.proofs.read_back.Lengths.{cost}
+use Rattle.command_reader.proofs.read_back.Command.{IsSaidAgain}
 
 -- ---- names to the end of the line
 pub record AreNamesOf (words names : List (List ℕ)) : Type 0 where

@@ -14,10 +14,10 @@ use Rattle.gk_terms.specs.Fields.{◌>>=◌, field, nothing_more}
 use Rattle.command_reader.specs.BandwidthLine.{most_of, default_limit_at, zone_limit_at, limit_at, remote_limit_at, bandwidth_at}
 use Rattle.command_reader.specs.Printing.{command_words, limit_word}
 use Rattle.command_reader.specs.Accepted.{is_word}
-use Rattle.command_reader.proofs.WordsBack.{AreWords}
-use Rattle.command_reader.proofs.NumbersBack.{number_spelled}
-use Rattle.command_reader.proofs.FieldsBack.{bound, chosen, same_word, field_read, nothing_more_read, name_read}
-use Rattle.command_reader.proofs.CommandBack.{IsSpelledBy}
+use Rattle.command_reader.proofs.read_back.Words.{AreWords}
+use Rattle.command_reader.proofs.read_back.Numbers.{number_spelled}
+use Rattle.command_reader.proofs.read_back.Fields.{bound, chosen, same_word, field_read, nothing_more_read, name_read}
+use Rattle.command_reader.proofs.read_back.Command.{IsSpelledBy}
 
 most_small : (kind : LimitKind) → most_of kind < 2 ^ 64
 most_small Session = omega arith

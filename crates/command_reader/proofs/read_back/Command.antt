@@ -7,8 +7,8 @@ use Rattle.command_reader.specs.declared.commands.Command.{Command}
 use Rattle.command_reader.specs.Line.{command_at, line_of}
 use Rattle.command_reader.specs.Accepted.{PrintsBack}
 use Rattle.command_reader.specs.Printing.{command_words}
-use Rattle.command_reader.proofs.WordsBack.{AreWords, words_back}
-use Rattle.command_reader.proofs.LengthsBack.{cost, cost_read, length_spaced_some}
+use Rattle.command_reader.proofs.read_back.Words.{AreWords, words_back}
+use Rattle.command_reader.proofs.read_back.Lengths.{cost, cost_read, length_spaced_some}
 
 -- its words say it, are words, and fit a line
 pub record IsSaidAgain (command : Command) : Type 0 where

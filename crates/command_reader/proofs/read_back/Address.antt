@@ -10,8 +10,8 @@ use Rattle.std.proofs.lemmas.List.Splits.{join_with_byte-slice_split}
 use Rattle.gk_terms.specs.Spelling.{is_visible}
 use Rattle.gk_terms.specs.Address.{octet_of, with_octet, octets_of, octets_of_four, ip_of, ip_text}
 use Rattle.command_reader.specs.Accepted.{is_word}
-use Rattle.command_reader.proofs.WordsBack.{word_from, word_some, word_visible}
-use Rattle.command_reader.proofs.NumbersBack.{number_spelled, IsSpelled}
+use Rattle.command_reader.proofs.read_back.Words.{word_from, word_some, word_visible}
+use Rattle.command_reader.proofs.read_back.Numbers.{number_spelled, IsSpelled}
 
 -- an octet that was read, in front of others
 record IsFirstOctet (first : Option ℕ) (others : Option (List ℕ)) (octets : List ℕ) : Type 0 where

@@ -15,7 +15,7 @@ use Rattle.command_reader.specs.declared.commands.Command.TheVariants.{GwTypePre
 use Rattle.command_reader.specs.TechnologyLine.{TechnologyOptions, option_at, expected_after, with_option, options_at, gw_type_prefix_at}
 use Rattle.command_reader.specs.Options.{names_of, is_default_option, AddsOption, hopoffs_and_default}
 use Rattle.command_reader.specs.Memory.{MayRefuse, Any, DeclaresNone, HoldsNames}
-use Rattle.command_reader.proofs.HeldLemmas.{held_more}
+use Rattle.command_reader.proofs.one_by_one.HeldLemmas.{held_more}
 
 -- options after these names, and after `default-technology` or not
 abbrev pub joined : List (List ℕ) → Bool → Result TechnologyOptions FaultKind → Result (List (List ℕ) × Bool) FaultKind

@@ -12,8 +12,8 @@ use Rattle.command_reader.specs.declared.faults.FaultKind.TheVariants.{Unsupport
 use Rattle.gk_terms.specs.Fields.{◌>>=◌, with_rest}
 use Rattle.command_reader.specs.Fields.{is_one_of, value_but, field_but, nothing_more_but}
 use Rattle.command_reader.specs.Accepted.{is_word}
-use Rattle.command_reader.proofs.WordsBack.{word_from}
-use Rattle.command_reader.proofs.NumbersBack.{then_some-parts}
+use Rattle.command_reader.proofs.read_back.Words.{word_from}
+use Rattle.command_reader.proofs.read_back.Numbers.{then_some-parts}
 
 -- a step that came through, and what it came from
 pub record IsBound {A B : Type 0} (first : Result A FaultKind) (f : A → Result B FaultKind) (z : B) : Type 0 where

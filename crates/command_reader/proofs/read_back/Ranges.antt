@@ -21,12 +21,12 @@ use Rattle.command_reader.specs.BandwidthLine.{most_of, default_limit_at, zone_l
 use Rattle.command_reader.specs.Line.{command_at}
 use Rattle.command_reader.specs.Printing.{command_words, local_words, remote_words, gateway_words}
 use Rattle.command_reader.specs.Accepted.{PrintsBack, canonical_line, IsWithin, IsPort, IsSizeOf, HasNumbersInRange}
-use Rattle.command_reader.proofs.WordsBack.{words_back}
-use Rattle.command_reader.proofs.NumbersBack.{then_some-parts}
-use Rattle.command_reader.proofs.FieldsBack.{bound, chosen, field_read, value_read, nothing_more_read}
-use Rattle.command_reader.proofs.CommandBack.{line_said}
-use Rattle.command_reader.proofs.LineBack.{kept_some}
-use Rattle.command_reader.proofs.RemoteZoneBack.{remote_read}
+use Rattle.command_reader.proofs.read_back.Words.{words_back}
+use Rattle.command_reader.proofs.read_back.Numbers.{then_some-parts}
+use Rattle.command_reader.proofs.read_back.Fields.{bound, chosen, field_read, value_read, nothing_more_read}
+use Rattle.command_reader.proofs.read_back.Command.{line_said}
+use Rattle.command_reader.proofs.read_back.Line.{kept_some}
+use Rattle.command_reader.proofs.read_back.RemoteZone.{remote_read}
 
 -- what a text spells is within the bounds
 number_within : (least most : ℕ) (text : List ℕ) (n : ℕ) → number_of least most text ≡ Some n

@@ -12,15 +12,15 @@ use Rattle.command_reader.specs.BandwidthLine.{bandwidth_at}
 use Rattle.command_reader.specs.Line.{arq_at, no_at, kept_command_of, is_remark, passed_alone, passed_whole, left_out_commands, passed_at, named_command_at, command_at, line_of}
 use Rattle.command_reader.specs.Accepted.{PrintsBack}
 use Rattle.command_reader.specs.Printing.{command_words}
-use Rattle.command_reader.proofs.WordsBack.{AreWords}
-use Rattle.command_reader.proofs.FieldsBack.{chosen, same_word, nothing_more_read}
-use Rattle.command_reader.proofs.LengthsBack.{cost}
-use Rattle.command_reader.proofs.CommandBack.{IsSaidAgain, IsSpelledBy, prints_as_read, line_said, prints_back}
-use Rattle.command_reader.proofs.LocalZoneBack.{zone_local_spelled}
-use Rattle.command_reader.proofs.RemoteZoneBack.{zone_remote_back}
-use Rattle.command_reader.proofs.PrefixZoneBack.{zone_prefix_back}
-use Rattle.command_reader.proofs.TechnologyBack.{gw_type_prefix_back}
-use Rattle.command_reader.proofs.BandwidthBack.{bandwidth_spelled}
+use Rattle.command_reader.proofs.read_back.Words.{AreWords}
+use Rattle.command_reader.proofs.read_back.Fields.{chosen, same_word, nothing_more_read}
+use Rattle.command_reader.proofs.read_back.Lengths.{cost}
+use Rattle.command_reader.proofs.read_back.Command.{IsSaidAgain, IsSpelledBy, prints_as_read, line_said, prints_back}
+use Rattle.command_reader.proofs.read_back.LocalZone.{zone_local_spelled}
+use Rattle.command_reader.proofs.read_back.RemoteZone.{zone_remote_back}
+use Rattle.command_reader.proofs.read_back.PrefixZone.{zone_prefix_back}
+use Rattle.command_reader.proofs.read_back.Technology.{gw_type_prefix_back}
+use Rattle.command_reader.proofs.read_back.Bandwidth.{bandwidth_spelled}
 
 pub kept_some : (r : Result Command FaultKind) (command : Command) → kept_command_of r ≡ Ok (Some command) → r ≡ Ok command
 kept_some (Ok c) command h = cc

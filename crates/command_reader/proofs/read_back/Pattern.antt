@@ -11,8 +11,8 @@ use Rattle.digit_patterns.specs.PatternParts.{PatternParts, IsPattern, character
 use Rattle.digit_patterns.specs.Pattern.{pattern_text, pattern_of}
 use Rattle.digit_patterns.proofs.ReadBack.{pattern_of-spelled}
 use Rattle.command_reader.specs.Accepted.{is_word}
-use Rattle.command_reader.proofs.WordsBack.{word_from}
-use Rattle.command_reader.proofs.NumbersBack.{visible_digits}
+use Rattle.command_reader.proofs.read_back.Words.{word_from}
+use Rattle.command_reader.proofs.read_back.Numbers.{visible_digits}
 
 abbrev star_text : Bool → List ℕ
 star_text star = cond star (42 ∷ []) []

@@ -12,7 +12,7 @@ use Rattle.gk_terms.specs.Spelling.{is_visible}
 use Rattle.gk_terms.specs.Text.{is_empty}
 use Rattle.gk_terms.specs.Number.{is_numeral, value_of, number_of}
 use Rattle.command_reader.specs.Accepted.{is_word}
-use Rattle.command_reader.proofs.WordsBack.{word_from}
+use Rattle.command_reader.proofs.read_back.Words.{word_from}
 
 -- what a test lets through
 pub then_some-parts : {A : Type 0} (b : Bool) (x y : A) → then_some b x ≡ Some y → (b ≡ true) × (x ≡ y)

@@ -1,0 +1,3 @@
+pub mod AcceptedLemmas
+pub mod LocalZones
+pub mod WellFormedLemmas

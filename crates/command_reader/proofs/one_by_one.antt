@@ -1,0 +1,6 @@
+pub mod HeldLemmas
+pub mod IndexLemmas
+pub mod NameLemmas
+pub mod NumberLemmas
+pub mod OptionLemmas
+pub mod ReadOnLemmas
