@@ -1,6 +1,7 @@
 pub mod CallsLemmas
 pub mod CoreLemmas
 pub mod EnteringLemmas
+pub mod EventLemmas
 pub mod FirstLaws
 pub mod FoundedLemmas
 pub mod GrantLaws
@@ -8,6 +9,7 @@ pub mod GrantLemmas
 pub mod HistoryLaws
 pub mod OrderLemmas
 pub mod RouteLaws
+pub mod RouteWays
 pub mod StepLemmas
 pub mod TargetLaws
 pub mod VersionLemmas

@@ -6,6 +6,8 @@ mod core_tests;
 #[cfg(test)]
 mod laws_tests;
 #[cfg(test)]
+mod reading_back_tests;
+#[cfg(test)]
 mod record_tests;
 #[cfg(test)]
 mod reload_tests;

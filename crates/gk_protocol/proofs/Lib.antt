@@ -1,5 +1,7 @@
 pub mod AskedLemmas
 pub mod HandedLemmas
+pub mod LineGroupLemmas
 pub mod OwnedLemmas
+pub mod RawLineLemmas
 pub mod SessionLemmas
 pub mod SessionUnderWay

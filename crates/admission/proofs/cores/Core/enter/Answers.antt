@@ -7,7 +7,8 @@ use Rattle.rulings.specs.Ruling.{ruling_of}
 use Rattle.rulings.specs.Founded.{takes_memory}
 use Rattle.rulings.specs.Step.{places_needed, step}
 use Rattle.admission.proofs.EnteringLemmas.{recorded_unrefused, recorded_verdict_of}
-use Rattle.admission.proofs.CoreLemmas.{stands_as, counts, is_within, lacks_memory, kept_on, records, core_still, reload_is_light}
+use Rattle.admission.proofs.CoreLemmas.{stands_as, counts, is_within, core_still, reload_is_light}
+use Rattle.admission.proofs.EventLemmas.{lacks_memory, kept_on, records}
 use Rattle.admission.proofs.cores.Core.enter.Goals as goal
 use Rattle.admission.proofs.cores.Core.enter.Goals.{in-Register-1, in-Reload-1, in-Unregister-1}
 

@@ -1,7 +1,8 @@
 use Rattle.std.proofs.Common.{true, sym, ap, ◌∙◌}
 use Rattle.decision_record.specs.History.{CoreParts, RecordParts}
 use Rattle.rulings.specs.Lent.{ruling_meant}
-use Rattle.admission.proofs.CoreLemmas.{reload_refused, reload_not_recorded, reload_recorded, reload_lacks_memory, core_with}
+use Rattle.admission.proofs.CoreLemmas.{core_with}
+use Rattle.admission.proofs.EventLemmas.{reload_refused, reload_not_recorded, reload_recorded, reload_lacks_memory}
 use Rattle.admission.proofs.cores.Core.reserve_reload.Goals as goal
 
 pub returns-in-Some-clause-err : goal.returns-in-Some-clause-err
