@@ -1,18 +1,11 @@
 -- What digits say never falls with more of them.
-use Rattle.std.proofs.Common.{◌≡◌, ℕ, ◌+◌, ◌-◌, ◌*◌, ◌<◌, ◌≤◌, true, List, [], ◌∷◌, ◌++◌, length, take, drop, get_or, fold, zero, suc, sym, ap, ◌∙◌, arith}
-use Rattle.std.specs.Char.{is_ascii_digit}
-use Rattle.std.specs.List.{list_all}
-use Rattle.std.proofs.lemmas.Bool.{and_parts}
-use Rattle.std.proofs.lemmas.Bool.Decides.{nat_tests}
+use Rattle.std.proofs.Common.{◌≡◌, ℕ, ◌+◌, ◌-◌, ◌*◌, ◌<◌, ◌≤◌, List, [], ◌∷◌, length, take, drop, get_or, fold, sym, ap, ◌∙◌, arith}
 use Rattle.std.proofs.lemmas.List.Sums.{fold-append, fold_more}
 use Rattle.std.proofs.Common.{take-append-drop}
 use Rattle.gk_terms.specs.Number.{value_of}
 
 abbrev next_value : ℕ → ℕ → ℕ
 next_value n d = 10 * n + (d - 48)
-
-at_least_zero : (b : ℕ) → is_ascii_digit b ≡ true → 48 ≤ b
-at_least_zero b h = grind (arith, nat_tests)
 
 grows : (a : ℕ) (ds : List ℕ) → a ≤ fold next_value a ds
 grows a [] = omega arith
@@ -31,11 +24,5 @@ value_of_front ds i d h =
     ap value_of (sym (take-append-drop (i + 1) ds)) ∙ fold-append next_value 0 front rest in
     omega (arith, whole, grows (value_of front) rest, value_of_more ds i d h)
 
--- a digit is at least the digit 0
-pub digit_at : (ds : List ℕ) (i d : ℕ) → list_all is_ascii_digit ds ≡ true → i < length ds → 48 ≤ get_or ds i d
-digit_at [] i d all h = absurd (omega arith)
-digit_at (b ∷ bs) zero d all h = at_least_zero b (and_parts _ _ all).0
-digit_at (b ∷ bs) (suc i) d all h = digit_at bs i d (and_parts _ _ all).1 (omega arith)
-
 -- what a loop over digits has to know of its next digit
-pub ruleset one_digit_more = (value_of_front, value_of_more, digit_at)
+pub ruleset one_digit_more = (value_of_front, value_of_more)

@@ -1,7 +1,7 @@
 -- Texts that are held in an array: the text, and zeros after it.
 use Rattle.std.specs.Prelude.{◌≡◌, ℕ, ◌-◌, ◌≤◌, Bool, ◌&&◌, IsTrue, nat_le, List, ◌++◌, length, take, replicate}
 use Rattle.std.specs.List.{list_all}
-use Rattle.std.proofs.Common.{◌∙◌, sym, ap, arith, length-take-le, length-append}
+use Rattle.std.proofs.Common.{sym, arith, length-take-le}
 
 -- from ! to ~: neither a blank nor a control byte, and ASCII
 abbrev pub is_visible : ℕ → Bool

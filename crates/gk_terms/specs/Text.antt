@@ -1,5 +1,5 @@
 -- Lines and words. Every text that is read consists of them.
-use Rattle.std.specs.Prelude.{ℕ, ◌-◌, ◌==◌, ◌||◌, Bool, not, cond, nat_lt, List, [], ◌∷◌, ◌++◌, length, take, filter, map, flat_map, slice_index, if◌then◌else◌}
+use Rattle.std.specs.Prelude.{ℕ, ◌-◌, ◌==◌, ◌||◌, Bool, not, nat_lt, List, [], ◌∷◌, ◌++◌, length, take, filter, map, flat_map, slice_index, if◌then◌else◌}
 use Rattle.std.specs.List.{list_any, slice_split, onto_first}
 use Rattle.gk_terms.specs.declared.limits.TheConstants.{MOST_LINE_BYTES}
 

@@ -1,6 +1,6 @@
 //! Numbers in decimal digits.
 
-ghost use Rattle.std.specs.Prelude.{◌≡◌, ◌+◌, ◌-◌, ◌*◌, ◌^◌, ◌<◌, ◌≤◌, IsTrue};
+ghost use Rattle.std.specs.Prelude.{◌≡◌, ◌^◌, ◌<◌, IsTrue};
 ghost use Rattle.std.specs.Option.{SomeIff, ok_or};
 ghost use Rattle.std.specs.List.{list_all};
 ghost use Rattle.std.specs.Char.{is_ascii_digit};
@@ -14,51 +14,40 @@ use crate::faults::TermFault;
 pub fn read_number(text: &[u8], least: u32, most: u32) -> Result<u32, TermFault>
     ensures { result ≡ ok_or (number_of least most text.now) TermFault.BadNumber }
 {
-    if !is_numeral(text) {
-        return Err(TermFault::BadNumber);
-    }
-    match value_of(text) {
+    match value_of_numeral(text) {
         Some(value) if least <= value && value <= most => Ok(value),
         _ => Err(TermFault::BadNumber),
     }
 }
 
-/// Whether the text is one or more digits with no zero in front of another digit.
-fn is_numeral(text: &[u8]) -> bool
-    ensures { result ≡ is_numeral text.now }
+/// What a numeral says: one or more digits with no zero in front of another digit. Nothing of any
+/// other text, and if it is 2 ^ 32 or more.
+fn value_of_numeral(text: &[u8]) -> Option<u32>
+    ensures { SomeIff result (IsTrue (is_numeral text.now) × (value_of text.now < 2 ^ 32))
+        (value_of text.now) }
 {
     match text {
-        [] => false,
-        [first, others @ ..] => {
-            first.is_ascii_digit() && are_digits(others) && (*first != b'0' || others.is_empty())
-        }
+        [] | [b'0', _, ..] => None,
+        digits => value_of(digits),
     }
-}
-
-/// Whether all bytes are digits.
-fn are_digits(text: &[u8]) -> bool
-    ensures { result ≡ list_all is_ascii_digit text.now }
-{
-    text.iter().all(|byte| byte.is_ascii_digit())
 }
 
 #[tactic(auto, using(crate::proofs::Digits::one_digit_more))]
-/// What digits say, or nothing if that is 2 ^ 32 or more.
-fn value_of(digits: &[u8]) -> Option<u32>
-    requires { IsTrue (list_all is_ascii_digit digits.now) }
-    ensures { SomeIff result (value_of digits.now < 2 ^ 32) (value_of digits.now) }
+/// What digits say, or nothing if a byte is not a digit or that is 2 ^ 32 or more.
+fn value_of(text: &[u8]) -> Option<u32>
+    ensures { SomeIff result
+        (IsTrue (list_all is_ascii_digit text.now) × (value_of text.now < 2 ^ 32))
+        (value_of text.now) }
 {
-    let mut value = 0;
-    for digit in digits {
-        value = with_digit(value, *digit)?;
+    let mut value: u64 = 0;
+    for digit in text {
+        if !digit.is_ascii_digit() {
+            return None;
+        }
+        value = 10 * value + u64::from(*digit - b'0');
+        if value > u64::from(u32::MAX) {
+            return None;
+        }
     }
-    Some(value)
-}
-
-/// A number with one more digit after it, or nothing if that is 2 ^ 32 or more.
-fn with_digit(value: u32, digit: u8) -> Option<u32>
-    requires { 48 ≤ digit }
-    ensures { SomeIff result (10 * value + (digit - 48) < 2 ^ 32) (10 * value + (digit - 48)) }
-{
-    value.checked_mul(10)?.checked_add(u32::from(digit - b'0'))
+    Some(value as u32)
 }

@@ -1,6 +1,4 @@
-use Rattle.std.proofs.Common.{◌≡◌, ◌+◌, ◌<◌, ◌≤◌, length, take, drop, arith, refl}
-use Rattle.std.specs.List.{position_or_len}
-use Rattle.gk_terms.specs.Text.{raw_lines_of}
+use Rattle.std.proofs.Common.{arith}
 use Rattle.gk_terms.proofs.LinesLemmas.{line_to_feed, line_to_end}
 use Rattle.gk_terms.proofs.text_lines.first_line.Goals as goal
 

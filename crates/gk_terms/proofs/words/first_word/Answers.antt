@@ -1,8 +1,8 @@
-use Rattle.std.proofs.Common.{◌≡◌, ℕ, ◌<◌, ◌≤◌, List, length, take, drop, arith, sym, ap, ◌∙◌}
+use Rattle.std.proofs.Common.{◌≡◌, drop, arith, sym, ap, ◌∙◌}
 use Rattle.std.specs.Prelude.{not}
 use Rattle.std.specs.List.{prefix_len, position_or_len}
 use Rattle.std.proofs.lemmas.List.Sums.{prefix_len-le-length}
-use Rattle.gk_terms.specs.Text.{is_blank, words_of}
+use Rattle.gk_terms.specs.Text.{is_blank}
 use Rattle.gk_terms.proofs.WordsLemmas.{a_word, no_word}
 use Rattle.gk_terms.proofs.words.first_word.Goals as goal
 

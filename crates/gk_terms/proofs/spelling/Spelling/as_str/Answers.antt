@@ -1,5 +1,3 @@
-use Rattle.std.proofs.Common.{IsTrue, List, ℕ}
-use Rattle.std.specs.Str.{IsUtf8}
 use Rattle.gk_terms.proofs.Visible.{IsUtf8-from_visible}
 use Rattle.gk_terms.proofs.spelling.Spelling.as_str.Goals as goal
 
