@@ -154,14 +154,6 @@ Steps old event result new =
     MatchResult result (λ ok. IsRecorded old event ok.0 ok.1 new)
     (λ reply. IsUnrecorded old event reply new)
 
--- the same with the number of the new entry in place of reply and receipt; the ruling is that on
--- the event
-abbrev pub Enters : CoreParts → PlainEvent → Ruling → Result ℕ Reply → CoreParts → Type 0
-Enters old event ruling result new =
-    MatchResult result
-    (λ number. IsRecorded old event ruling.verdict (receipt_of number (entry_by event ruling)) new)
-    (λ reply. IsUnrecorded old event reply new)
-
 -- a core may give this reply to the event, recorded or not, and be the new one after it
 abbrev pub MayReply : CoreParts → PlainEvent → Reply → CoreParts → Type 0
 MayReply old event reply new =
