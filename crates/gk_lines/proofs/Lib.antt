@@ -1,3 +1,4 @@
+pub mod DigitLemmas
 pub mod FeedLemmas
 pub mod KeptLines
 pub mod LineBufferLemmas

@@ -9,12 +9,15 @@ ghost use Rattle.gk_lines.specs.LineBuffer.{MOST_DIGITS, extended, with_words};
 use gk_terms::limits::MOST_LINE_BYTES;
 use gk_terms::text_lines::content;
 use gk_terms::{Address, Name};
-use itoa::Buffer;
+use itoa::write_digits;
 use std::marker::Model;
 
 /// How many bytes of a line are kept: those of the longest line that is read, its carriage return
 /// and its line feed. A line that fills them without a line feed is too long, whatever follows.
 pub const ROOM: usize = MOST_LINE_BYTES + 2;
+
+/// How many digits the longest number of 32 bits has.
+const NUMBER_ROOM: usize = 10;
 
 /// One line, as it is read or made: its first bytes, `len` of them, are in the array. What has no
 /// room is left out. Takes no memory. A contract sees the line's bytes.
@@ -127,13 +130,30 @@ impl LineBuffer {
         self.digits(number);
     }
 
-    /// Adds the digits of a number.
+    /// Adds the digits of a number, written where they are to stand if all have room.
     fn digits(&mut self, number: u32)
         ensures digits { self.new ≡ extended self.old (decimal number) }
         ensures short { length (decimal number) ≤ MOST_DIGITS }
     {
-        let mut buffer = Buffer::new();
-        self.push(buffer.format(number).as_bytes());
+        let count = digit_count(number);
+        if ROOM - self.len < count {
+            self.cut_digits(number);
+            return;
+        }
+        let end = self.len + count;
+        let _ = write_digits(u64::from(number), &mut self.bytes, end);
+        self.len = end;
+    }
+
+    /// Adds the digits of a number, as far as they have room. In a function of its own, since few
+    /// lines are that long.
+    #[inline(never)]
+    fn cut_digits(&mut self, number: u32)
+        ensures { self.new ≡ extended self.old (decimal number) }
+    {
+        let mut digits = [0; NUMBER_ROOM];
+        let start = write_digits(u64::from(number), &mut digits, NUMBER_ROOM);
+        self.push(&digits[start..]);
     }
 
     /// Adds an IPv4 address as a word.
@@ -165,6 +185,26 @@ impl LineBuffer {
         self.ip(address.ip());
         self.push(b":");
         self.digits(u32::from(address.port()));
+    }
+}
+
+#[tactic(auto, using(crate::proofs::DigitLemmas::digit_counts))]
+/// How many digits a number has.
+fn digit_count(number: u32) -> usize
+    ensures value { result ≡ length (decimal number) }
+    ensures short { result ≤ MOST_DIGITS }
+{
+    match number {
+        0..=9 => 1,
+        10..=99 => 2,
+        100..=999 => 3,
+        1_000..=9_999 => 4,
+        10_000..=99_999 => 5,
+        100_000..=999_999 => 6,
+        1_000_000..=9_999_999 => 7,
+        10_000_000..=99_999_999 => 8,
+        100_000_000..=999_999_999 => 9,
+        _ => 10,
     }
 }
 

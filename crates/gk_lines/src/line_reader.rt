@@ -115,6 +115,7 @@ impl LineReader {
             (left_of self.new (R.remaining reader.new)) TakesPart) }
         ensures part_read { IfErr result (λ _. self.new.pending ≡ []) }
         ensures unended { IfErr result (λ _. self.old.ended ≡ false) }
+        ensures still_unended { IfErr result (λ _. self.new.ended ≡ false) }
 
         // An input that came to its end stays there, and gives no further line.
         ensures unended_line { IfOk result (λ more. IsTrue more → self.old.ended ≡ false) }
@@ -155,6 +156,7 @@ impl LineReader {
         ensures unended_line { IfOk result (λ more. IsTrue more → self.old.ended ≡ false) }
         ensures part_read { IfErr result (λ _. self.new.pending ≡ []) }
         ensures unended { IfErr result (λ _. self.old.ended ≡ false) }
+        ensures still_unended { IfErr result (λ _. self.new.ended ≡ false) }
         ensures left { Keeps (left_of self.old (R.remaining reader.old))
             (left_of self.new (R.remaining reader.new)) }
         ensures ended { AtEndIfEnded self.new (R.remaining reader.new) }
