@@ -1,75 +1,98 @@
 -- What a line asks, and what may be answered to it.
-use Rattle.std.proofs.Common.{◌≡◌, ℕ, Bool, true, false, List, [], ◌∷◌, refl, sym, ap, subst, ◌∙◌, inl, inr, cond, ⊎_elim}
-use Rattle.std.specs.Prelude.{Option, Some, None, Result, Ok, Err, MatchResult, option_map, codes, bytes_eq}
-use Rattle.std.proofs.lemmas.Bool.{cases_Bool}
+use Rattle.std.proofs.Common.{◌≡◌, ℕ, Bool, false, List, ◌∷◌, refl, sym, ap, subst, ◌∙◌, inl, inr, cond, ⊎_elim}
+use Rattle.std.specs.Prelude.{Option, Some, None, Result, Ok, Err, option_map}
 use Rattle.gk_terms.specs.Text.{words_of, is_too_long}
 use Rattle.gk_protocol.specs.declared.request_faults.RequestFault.{RequestFault}
 use Rattle.gk_protocol.specs.declared.request_faults.RequestFault.TheVariants.{LineTooLong}
-use Rattle.gk_protocol.specs.declared.request_faults.NoRequest.{NoRequest}
-use Rattle.gk_protocol.specs.declared.request_faults.NoRequest.TheVariants.{Fault, NoMemory}
+use Rattle.gk_protocol.specs.declared.registrations.NoRequest.{NoRequest}
+use Rattle.gk_protocol.specs.declared.registrations.NoRequest.TheVariants.{Fault, NoMemory}
+use Rattle.gk_protocol.specs.declared.request_lines.Heard.{Heard}
+use Rattle.gk_protocol.specs.declared.request_lines.Heard.TheVariants.{Blank, Answered, Reload}
 use Rattle.gk_protocol.specs.declared.requests.Request.{Request}
 use Rattle.gk_protocol.specs.declared.answers.Answer.{Answer}
-use Rattle.gk_protocol.specs.declared.requests.Asking.{Asking}
-use Rattle.gk_protocol.specs.declared.requests.Asking.TheVariants.{Whole, Reload}
-use Rattle.gk_protocol.specs.Requests.{asking_of, asking_at, whole_of, registering_of, registering_by_word, registering_at, register_at, other_asking_at, no_memory_to, answer_of_none, read_of, IsNoRequest}
+use Rattle.gk_protocol.specs.declared.answers.Answer.TheVariants.{Malformed}
+use Rattle.gk_protocol.specs.Answers.{line_of}
+use Rattle.gk_protocol.specs.Asking.{Asking, Whole}
+use Rattle.gk_protocol.specs.Asking as asking
+use Rattle.gk_protocol.specs.Requests.{asking_of, asking_at, whole_of, asked_of, registering_of, registering_by_word, registering_at, register_at, no_memory_to, no_memory_answer_of}
+use Rattle.gk_protocol.specs.Hearing.{AnswersRequest, HearsRequest, HearsRegistration, HearsReload, LacksOptions, Hears}
 use Rattle.gk_lines.specs.Streams.{KnownStep}
 use Rattle.gk_lines.specs.declared.line_reader.ReadFault.{ReadFault}
 use Rattle.gk_protocol.specs.declared.owned_lines.TakenLines.{TakenLines}
 use Rattle.gk_protocol.specs.declared.sessions.Progress.{Progress}
+use Rattle.gk_protocol.specs.declared.sessions.Progress.TheVariants as progress
 use Rattle.gk_protocol.specs.OwnedLines.{GivesLines}
 use Rattle.gk_protocol.specs.AnswersLine.{AnswersAlone, AnswersReload, AnswersByItself, AnswersLine}
 
--- the words of a registration ask one request, or have one fault
-registering_asks_at : (words : List (List ℕ)) (x : ℕ × List ℕ) → registering_by_word words ≡ Some x → (request : Result Request RequestFault) × (asking_at words ≡ whole_of request)
-registering_asks_at [] x h = let no_such : ⊥ = cc in absurd no_such
-registering_asks_at (word ∷ words) x h =
-    ⊎_elim
-    (λ (yes : bytes_eq word (codes "RRQ") ≡ true). (
-      register_at words,
-      ap (λ b. cond b (whole_of (register_at words)) (other_asking_at word words)) yes,
-    ))
-    (λ (other : bytes_eq word (codes "RRQ") ≡ false).
-    let none : None ≡ Some x = sym (ap (λ b. cond b (registering_at words) None) other) ∙ h in
-    let no_such : ⊥ = cc in absurd no_such)
-    (cases_Bool (bytes_eq word (codes "RRQ")))
-
-registering_asks : (line : List ℕ) (x : ℕ × List ℕ) → registering_of line ≡ Some x → (request : Result Request RequestFault) × (asking_of line ≡ whole_of request)
-unfolding asking_of registering_of
-registering_asks line x h =
-    ⊎_elim
-    (λ (long : is_too_long line ≡ true).
-    let none : None ≡ Some x = sym (ap (λ b. cond b None (registering_by_word (words_of line))) long) ∙ h in
-    let no_such : ⊥ = cc in absurd no_such)
-    (λ (short : is_too_long line ≡ false).
-    let asked = registering_asks_at (words_of line) x (sym (ap (λ b. cond b None (registering_by_word (words_of line))) short) ∙ h) in
-    (asked.0, ap (λ b. cond b (Err LineTooLong) (asking_at (words_of line))) short ∙ asked.1))
-    (cases_Bool (is_too_long line))
-
--- ---- what is read of a line for which no memory is taken
-read_so : (line : List ℕ) (asked : Result (Option Asking) RequestFault) (result : Result (Option Asking) NoRequest) → asking_of line ≡ asked → result ≡ read_of asked
-    → MatchResult result (λ asking. asking_of line ≡ Ok asking) (IsNoRequest line)
-read_so line (Ok asked) result asks read = subst (λ (r : Result (Option Asking) NoRequest). MatchResult r (λ asking. asking_of line ≡ Ok asking) (IsNoRequest line)) (sym read) asks
-read_so line (Err fault) result asks read = subst (λ (r : Result (Option Asking) NoRequest). MatchResult r (λ asking. asking_of line ≡ Ok asking) (IsNoRequest line)) (sym read) asks
-
--- by its first word
-pub read_at : (line word first : List ℕ) (words : List (List ℕ)) (result : Result (Option Asking) NoRequest) → is_too_long line ≡ false → words_of line ≡ word ∷ words → word ≡ first
-    → result ≡ read_of (asking_at (first ∷ words)) → MatchResult result (λ asking. asking_of line ≡ Ok asking) (IsNoRequest line)
+-- what a line asks, and the number and ID that a no-memory reply to it names, by its first word
+pub asks_at : (line word first : List ℕ) (words : List (List ℕ)) → is_too_long line ≡ false → words_of line ≡ word ∷ words → word ≡ first → asking_of line ≡ asking_at (first ∷ words)
 unfolding asking_of
-read_at line word first words result fits split is read =
-    read_so line (asking_at (first ∷ words)) result
-    (ap (λ b. cond b (Err LineTooLong) (asking_at (words_of line))) fits ∙ ap asking_at split ∙ ap (λ w. asking_at (w ∷ words)) is) read
+asks_at line word first words fits split is =
+    ap (λ b. cond b (Err LineTooLong) (asking_at (words_of line))) fits ∙ ap asking_at split ∙ ap (λ w. asking_at (w ∷ words)) is
+
+pub registers_at : (line word first : List ℕ) (words : List (List ℕ)) → is_too_long line ≡ false → words_of line ≡ word ∷ words → word ≡ first → registering_of line ≡ registering_by_word (first ∷ words)
+unfolding registering_of
+registers_at line word first words fits split is =
+    ap (λ b. cond b None (registering_by_word (words_of line))) fits ∙ ap registering_by_word split ∙ ap (λ w. registering_by_word (w ∷ words)) is
+
+-- why a registration is no request, by the words after RRQ
+abbrev pub IsNoRegistrationAt : List (List ℕ) → NoRequest → Type 0
+IsNoRegistrationAt words (Fault fault) = register_at words ≡ Err fault
+IsNoRegistrationAt words (NoMemory sequence id) = registering_at words ≡ Some (sequence, id)
 
 module _ {S : Type 0} (MayAnswer : S → Request → Answer → S → Type 0) where
   -- the answerer's answer to a request
   pub answered_request : (old new : S) (line : List ℕ) (request : Request) (answer : Answer) → asking_of line ≡ Ok (Some (Whole request)) → MayAnswer old request answer new → AnswersAlone MayAnswer old line answer new
   answered_request old new line request answer e h = (Ok request, e, inl h)
 
+  -- a line of another first word than RRQ and CFG
+  pub heard_request : (old new : S) (line reply : List ℕ) (read : Result Request RequestFault) (heard : Result Heard RequestFault) → asking_of line ≡ whole_of read
+      → HearsRequest MayAnswer old read heard reply new → Hears MayAnswer old line heard reply new
+  heard_request old new line reply read (Ok Answered) asks h = (read, asks, inl h)
+  heard_request old new line reply read (Ok Blank) asks h = absurd h
+  heard_request old new line reply read (Ok (Reload sequence count)) asks h = absurd h
+  heard_request old new line reply read (Err fault) asks h = (asks ∙ ap whole_of h.0, h.1)
+
+  -- a registration
+  pub heard_registration : (old new : S) (line reply : List ℕ) (words : List (List ℕ)) (heard : Result Heard RequestFault) → asking_of line ≡ whole_of (register_at words)
+      → registering_of line ≡ registering_at words → HearsRegistration MayAnswer old words heard reply new → Hears MayAnswer old line heard reply new
+  heard_registration old new line reply words (Ok Answered) asks registers h =
+      ⊎_elim
+      (λ (answered : AnswersRequest MayAnswer old (register_at words) reply new). (register_at words, asks, inl answered))
+      (λ (lacking : (sequence : ℕ) × (id : List ℕ) × (registering_at words ≡ Some (sequence, id)) × (reply ≡ line_of (no_memory_to (sequence, id))) × (new ≡ old)).
+      (register_at words, asks, inr (no_memory_to (lacking.0, lacking.1), ap (option_map no_memory_to) (registers ∙ lacking.2), lacking.3, lacking.4)))
+      h
+  heard_registration old new line reply words (Ok Blank) asks registers h = absurd h
+  heard_registration old new line reply words (Ok (Reload sequence count)) asks registers h = absurd h
+  heard_registration old new line reply words (Err fault) asks registers h = (asks ∙ ap whole_of h.0, h.1)
+
+  -- a registration whose options could not be read
+  pub registration_lacks : (old : S) (reply : List ℕ) (words : List (List ℕ)) (none : NoRequest) (heard : Result Heard RequestFault) → IsNoRegistrationAt words none → LacksOptions none heard reply
+      → HearsRegistration MayAnswer old words heard reply old
+  registration_lacks old reply words (Fault fault) heard e is =
+      subst (λ (h : Result Heard RequestFault). HearsRegistration MayAnswer old words h reply old) (sym is) (e, refl)
+  registration_lacks old reply words (NoMemory sequence id) heard e is =
+      subst (λ (h : Result Heard RequestFault). HearsRegistration MayAnswer old words h reply old) (sym is.0) (inr (sequence, id, e, is.1, refl))
+
+  -- a reload
+  pub heard_reload : (old : S) (line reply : List ℕ) (read : Result Asking RequestFault) (heard : Result Heard RequestFault) → asking_of line ≡ asked_of read
+      → HearsReload read heard → Hears MayAnswer old line heard reply old
+  heard_reload old line reply read (Ok Answered) asks h = absurd h
+  heard_reload old line reply read (Ok Blank) asks h = absurd h
+  heard_reload old line reply read (Ok (Reload sequence count)) asks h = (asks ∙ ap asked_of h, refl)
+  heard_reload old line reply read (Err fault) asks h = (asks ∙ ap asked_of h, refl)
+
+  -- the answer to a line that asks by itself
+  pub answered_by_itself : (old new : S) (line reply : List ℕ) → Hears MayAnswer old line (Ok Answered) reply new → AnswersByItself MayAnswer old line (Ok progress.Answered) reply new
+  answered_by_itself old new line reply h =
+      ⊎_elim
+      (λ (asked : AnswersRequest MayAnswer old h.0 reply new). (asked.1, asked.4, answered_request old new line asked.0 asked.1 (h.1 ∙ ap whole_of asked.2) asked.3))
+      (λ (lacks : (answer : Answer) × (no_memory_answer_of line ≡ Some answer) × (reply ≡ line_of answer) × (new ≡ old)). (lacks.0, lacks.2, (h.0, h.1, inr (lacks.1, lacks.3))))
+      h.2
+
   -- the answer to a line that is no request
-  pub answered_none : (old : S) (line : List ℕ) (none : NoRequest) (answer : Answer) → IsNoRequest line none → answer ≡ answer_of_none none → AnswersAlone MayAnswer old line answer old
-  answered_none old line (Fault fault) answer e k = (Err fault, e, inl (k, refl))
-  answered_none old line (NoMemory sequence id) answer e k =
-      let asked = registering_asks line (sequence, id) e in
-      (asked.0, asked.1, inr (ap (option_map no_memory_to) e ∙ ap Some (sym k), refl))
+  pub answered_fault : (old new : S) (line reply : List ℕ) (fault : RequestFault) → Hears MayAnswer old line (Err fault) reply new → AnswersAlone MayAnswer old line (Malformed fault) new
+  answered_fault old new line reply fault h = (Err fault, h.0, inl (refl, h.1))
 
   -- ---- over what a reader tells
   -- a line by itself
@@ -80,7 +103,7 @@ module _ {S : Type 0} (MayAnswer : S → Request → Answer → S → Type 0) wh
 
   -- a reload with the lines that belong to it
   pub reload_tried : (known rest : Option (List ℕ)) (ended now_ended : Bool) (old new : S) (line reply : List ℕ) (sequence count : ℕ) (taken : TakenLines) (progress : Progress)
-      → asking_of line ≡ Ok (Some (Reload sequence count)) → KnownStep known rest (GivesLines ended now_ended count (Ok taken)) → AnswersReload MayAnswer old sequence taken progress reply new
+      → asking_of line ≡ Ok (Some (asking.Reload sequence count)) → KnownStep known rest (GivesLines ended now_ended count (Ok taken)) → AnswersReload MayAnswer old sequence taken progress reply new
       → KnownStep known rest (AnswersLine MayAnswer ended now_ended old line (Ok progress) reply new)
   reload_tried None rest ended now_ended old new line reply sequence count taken progress asks gives a = tt
   reload_tried (Some bytes) None ended now_ended old new line reply sequence count taken progress asks gives a = absurd gives
@@ -88,7 +111,7 @@ module _ {S : Type 0} (MayAnswer : S → Request → Answer → S → Type 0) wh
 
   -- a reload whose lines were not read to their end
   pub reload_unread : (known rest : Option (List ℕ)) (ended now_ended : Bool) (old : S) (line reply : List ℕ) (sequence count : ℕ) (fault : ReadFault)
-      → asking_of line ≡ Ok (Some (Reload sequence count)) → KnownStep known rest (GivesLines ended now_ended count (Err fault))
+      → asking_of line ≡ Ok (Some (asking.Reload sequence count)) → KnownStep known rest (GivesLines ended now_ended count (Err fault))
       → KnownStep known rest (AnswersLine MayAnswer ended now_ended old line (Err fault) reply old)
   reload_unread None rest ended now_ended old line reply sequence count fault asks gives = tt
   reload_unread (Some bytes) None ended now_ended old line reply sequence count fault asks gives = absurd gives

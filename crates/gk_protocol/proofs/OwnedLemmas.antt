@@ -16,8 +16,7 @@ use Rattle.gk_lines.proofs.LinesTaken.{LinesTaken, one_more_taken}
 use Rattle.gk_protocol.specs.declared.request_faults.RequestFault.{RequestFault}
 use Rattle.gk_protocol.specs.declared.request_faults.RequestFault.TheVariants.{CutShort}
 use Rattle.gk_protocol.specs.declared.requests.Request.TheVariants as request
-use Rattle.gk_protocol.specs.declared.requests.Asking.{Asking}
-use Rattle.gk_protocol.specs.declared.requests.Asking.TheVariants.{Reload}
+use Rattle.gk_protocol.specs.Asking.{Asking, Reload}
 use Rattle.gk_protocol.specs.declared.answers.Answer.{Answer}
 use Rattle.gk_protocol.specs.declared.owned_lines.TakenLines.TheVariants as taken
 use Rattle.gk_protocol.specs.Requests.{asking_of, no_memory_answer_of, reload_without_memory}

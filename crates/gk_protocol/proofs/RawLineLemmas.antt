@@ -11,7 +11,7 @@ use Rattle.gk_protocol.specs.declared.request_faults.RequestFault.TheVariants.{L
 use Rattle.gk_protocol.specs.declared.requests.Request.{Request}
 use Rattle.gk_protocol.specs.declared.answers.Answer.{Answer}
 use Rattle.gk_protocol.specs.Answers.{line_of}
-use Rattle.gk_protocol.specs.declared.requests.Asking.{Asking}
+use Rattle.gk_protocol.specs.Asking.{Asking}
 use Rattle.gk_protocol.specs.Requests.{asking_of, asking_at, whole_of, registering_of, registering_by_word, no_memory_to, no_memory_answer_of}
 use Rattle.gk_protocol.specs.Session.{Asked, asked_by, asked_in, lines_owned, requests_of, MayGet, Runs, IsWhole, IsCutShort}
 use Rattle.gk_protocol.proofs.SessionUnderWay.{IsUnderWay}

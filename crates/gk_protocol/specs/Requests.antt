@@ -1,12 +1,11 @@
 -- What one line asks: a request, nothing if it is blank, or its first fault from the left.
 use Rattle.std.specs.Prelude.{◌≡◌, ℕ, ◌-◌, ◌==◌, Bool, false, IsTrue, List, [], ◌∷◌, take, drop, Option, Some, None, Result, Ok, Err, is_ok, option_map, codes, bytes_eq, if◌then◌else◌}
-use Rattle.std.specs.Option.{ok_or}
 use Rattle.std.specs.Result.{result_ok}
 use Rattle.gk_terms.specs.Fields.{◌>>=◌, field, nothing_more}
 use Rattle.gk_terms.specs.Text.{words_of, is_too_long}
 use Rattle.gk_terms.specs.Name.{name_of}
 use Rattle.gk_terms.specs.Number.{number_of}
-use Rattle.gk_terms.specs.Address.{AddressParts, address_of}
+use Rattle.gk_terms.specs.Address.{address_of}
 use Rattle.gk_terms.specs.Dialled.{dialled_of}
 use Rattle.gk_terms.specs.TechPrefix.{tech_prefix_of}
 use Rattle.gk_terms.specs.declared.limits.TheConstants.{MOST_LINES, MOST_ALIASES, MOST_TECHNOLOGIES, MOST_SEQUENCE}
@@ -18,19 +17,19 @@ use Rattle.rulings.specs.declared.replies.RegisterRefusal.TheVariants as registe
 use Rattle.rulings.specs.declared.replies.ReloadRefusal.TheVariants as reload
 use Rattle.rulings.specs.declared.replies.Reply.TheVariants.{RegisterRefused, ReloadRefused}
 use Rattle.gk_protocol.specs.declared.answers.Answer.{Answer}
-use Rattle.gk_protocol.specs.declared.answers.Answer.TheVariants.{Reply, Malformed}
+use Rattle.gk_protocol.specs.declared.answers.Answer.TheVariants.{Reply}
 use Rattle.gk_protocol.specs.declared.request_faults.RequestFault.{RequestFault}
 use Rattle.gk_protocol.specs.declared.request_faults.RequestFault.TheVariants as fault
-use Rattle.gk_protocol.specs.declared.request_faults.NoRequest.{NoRequest}
-use Rattle.gk_protocol.specs.declared.request_faults.NoRequest.TheVariants.{Fault, NoMemory}
+use Rattle.gk_protocol.specs.declared.registrations.NoRequest.{NoRequest}
+use Rattle.gk_protocol.specs.declared.registrations.NoRequest.TheVariants.{Fault, NoMemory}
 use Rattle.gk_protocol.specs.declared.request_fields.TheConstants.{SIGNALLING_PORT}
 use Rattle.gk_protocol.specs.declared.registrations.OptionsLeft.{OptionsLeft}
 use Rattle.gk_protocol.specs.declared.registrations.RegistrationOption.{RegistrationOption}
 use Rattle.gk_protocol.specs.declared.registrations.RegistrationOption.TheVariants.{Alias, Technology}
 use Rattle.gk_protocol.specs.declared.requests.Request.{Request}
 use Rattle.gk_protocol.specs.declared.requests.Request.TheVariants.{Register, Unregister, Admit, Change, Release}
-use Rattle.gk_protocol.specs.declared.requests.Asking.{Asking}
-use Rattle.gk_protocol.specs.declared.requests.Asking.TheVariants as asking
+use Rattle.gk_protocol.specs.Asking.{Asking}
+use Rattle.gk_protocol.specs.Asking as asking
 
 -- ---- fields
 abbrev pub sequence_of : List ℕ → Option ℕ
@@ -256,30 +255,11 @@ reload_without_memory sequence = Reply sequence (ReloadRefused reload.NoMemory)
 abbrev pub no_memory_answer_of : List ℕ → Option Answer
 no_memory_answer_of line = option_map no_memory_to (registering_of line)
 
--- ---- why a line is no request
--- its first fault; or memory ran out for the options of this registration
-abbrev pub IsNoRequest : List ℕ → NoRequest → Type 0
-IsNoRequest line (Fault fault) = asking_of line ≡ Err fault
-IsNoRequest line (NoMemory sequence id) = registering_of line ≡ Some (sequence, id)
-
--- the same of a registration, by the words after RRQ
-abbrev pub IsNoRegistrationAt : List (List ℕ) → NoRequest → Type 0
-IsNoRegistrationAt words (Fault fault) = register_at words ≡ Err fault
-IsNoRegistrationAt words (NoMemory sequence id) = registering_at words ≡ Some (sequence, id)
-
--- the same of the options of a registration by this number and ID
+-- ---- why a registration is no request
+-- why the options of a registration by this number and ID cannot be read: the first fault, or memory
+-- ran out
 abbrev pub AreNoOptionsAt : ℕ → EndpointParts → List (List ℕ) → NoRequest → Type 0
 AreNoOptionsAt sequence endpoint words (Fault fault) =
     options_at all_options endpoint words ≡ Err fault
 AreNoOptionsAt sequence endpoint words (NoMemory number id) =
     (number ≡ sequence) × (id ≡ endpoint.id) × IsTrue (begins_with_option words)
-
--- what is read of a line for which no memory is taken, by what it asks
-abbrev pub read_of : Result (Option Asking) RequestFault → Result (Option Asking) NoRequest
-read_of (Ok asked) = Ok asked
-read_of (Err fault) = Err (Fault fault)
-
--- the answer to a line that is no request
-abbrev pub answer_of_none : NoRequest → Answer
-answer_of_none (Fault fault) = Malformed fault
-answer_of_none (NoMemory sequence id) = no_memory_to (sequence, id)

@@ -6,8 +6,7 @@ use Rattle.gk_protocol.specs.declared.request_faults.RequestFault.{RequestFault}
 use Rattle.gk_protocol.specs.declared.request_faults.RequestFault.TheVariants.{CutShort}
 use Rattle.gk_protocol.specs.declared.requests.Request.{Request}
 use Rattle.gk_protocol.specs.declared.requests.Request.TheVariants as request
-use Rattle.gk_protocol.specs.declared.requests.Asking.{Asking}
-use Rattle.gk_protocol.specs.declared.requests.Asking.TheVariants.{Whole, Reload}
+use Rattle.gk_protocol.specs.Asking.{Asking, Whole, Reload}
 use Rattle.gk_protocol.specs.declared.session_faults.SessionFault.{SessionFault}
 use Rattle.gk_protocol.specs.declared.session_faults.SessionFault.TheVariants.{ReadFault, WriteFault, NoMemory, TurnsSpent}
 use Rattle.gk_lines.specs.LineReader.{PIECE_BYTES}

@@ -1,4 +1,4 @@
-//! Registration requests, `RRQ`.
+//! Requests about registrations: `RRQ`, with its options, and `URQ`.
 
 ghost use Rattle.std.specs.Prelude.{◌≡◌, ◌⊎◌, ◌==◌, Ok, Err, MatchResult, if◌then◌else◌};
 ghost use Rattle.gk_terms.specs.Dialled.{dialled_of};
@@ -6,11 +6,18 @@ ghost use Rattle.gk_terms.specs.TechPrefix.{tech_prefix_of};
 ghost use Rattle.gk_terms.specs.Fields.{Gives};
 ghost use Rattle.gk_terms.specs.Outcome.{ChangesUnlessMemory};
 ghost use Rattle.gk_terms.specs.Text.{words_of};
+ghost use Rattle.gk_protocol.specs.Hearing.{HearsRegistration, HearsRequest, LacksOptions};
 ghost use Rattle.gk_protocol.specs.Requests as Spec;
 
-use crate::request_faults::{NoRequest, RequestFault};
-use crate::request_fields::{SIGNALLING_PORT, kind_field, sequence_field};
-use crate::requests::{Asking, Request};
+use crate::answer_lines::show;
+use crate::answerer::Answerer;
+use crate::answers::Answer;
+use crate::request_faults::RequestFault;
+use crate::request_fields::{SIGNALLING_PORT, kind_field, nothing_after, sequence_field};
+use crate::request_lines::Heard;
+use crate::requests::Request;
+use admission::{RegisterRefusal, Reply};
+use gk_lines::LineBuffer;
 use gk_terms::fields::{address_field, name_field};
 use gk_terms::limits::{MOST_ALIASES, MOST_TECHNOLOGIES};
 use gk_terms::words::Words;
@@ -36,17 +43,97 @@ pub(crate) struct OptionsLeft {
     pub technologies: usize,
 }
 
-/// `RRQ seq KIND id zone addr [e164=D] [tech=P] ..`, after its first word.
+/// Why the options of a registration could not be read.
+#[derive(Clone, Copy)]
+pub(crate) enum NoRequest {
+    /// The first fault of the line.
+    Fault(RequestFault),
+    /// Memory ran out. All fields up to and including the first option could be read; what stands
+    /// after that may be wrong.
+    NoMemory {
+        /// The sequence number of the registration, 1 to 65535.
+        sequence: u32,
+        /// The ID that asked to be registered.
+        id: Name,
+    },
+}
+
+impl From<RequestFault> for NoRequest {
+    ghost use Rattle.std.specs.Prelude.{◌≡◌};
+    ghost use Rattle.gk_protocol.specs.declared.registrations.NoRequest.TheVariants.{Fault};
+
+    ghost from_gives = { λ fault none. none ≡ Fault fault };
+
+    fn from(fault: RequestFault) -> NoRequest {
+        NoRequest::Fault(fault)
+    }
+}
+
+/// Answers `RRQ seq KIND id zone addr [e164=D] [tech=P] ..`, after its first word, or gives back its
+/// first fault.
 #[inline(never)]
-pub(crate) fn register(alloc: Global, words: &mut Words<'_>) -> Result<Option<Asking>, NoRequest>
-    ensures { MatchResult result
-        (λ asked. Spec.whole_of (Spec.register_at (words_of words.old)) ≡ Ok asked)
-        (Spec.IsNoRegistrationAt (words_of words.old)) }
+pub(crate) fn register<A: Answerer>(
+    alloc: Global,
+    words: &mut Words<'_>,
+    answerer: &mut A,
+    reply: &mut LineBuffer,
+) -> Result<Heard, RequestFault>
+    ensures { HearsRegistration A.may_answer answerer.old (words_of words.old) result reply.new
+        answerer.new }
 {
     let sequence = sequence_field(words)?;
     let bare = bare_endpoint(alloc, words)?;
-    let endpoint = with_options(sequence, bare, words)?;
-    Ok(Some(Asking::Whole(Request::Register { sequence, endpoint })))
+    match with_options(sequence, bare, words) {
+        Ok(endpoint) => {
+            let request = Request::Register { sequence, endpoint };
+            show(reply, &answerer.answer(alloc, request));
+            Ok(Heard::Answered)
+        }
+        Err(none) => lack_options(none, reply),
+    }
+}
+
+/// Answers a registration that lacks the memory for its options, or gives back the first fault of
+/// them. In a function of its own, so that other registrations do not clear the room of its answer.
+#[inline(never)]
+fn lack_options(none: NoRequest, reply: &mut LineBuffer) -> Result<Heard, RequestFault>
+    ensures { LacksOptions none result reply.new }
+{
+    match none {
+        NoRequest::Fault(fault) => Err(fault),
+        NoRequest::NoMemory { sequence, id } => {
+            show(reply, &no_memory(sequence, id));
+            Ok(Heard::Answered)
+        }
+    }
+}
+
+/// The answer to a registration for whose options memory ran out.
+fn no_memory(sequence: u32, id: Name) -> Answer
+    ensures { result ≡ Spec.no_memory_to (sequence, id) }
+{
+    let reason = RegisterRefusal::NoMemory;
+    let reply = Reply::RegisterRefused { id, reason };
+    Answer::Reply { sequence, reply }
+}
+
+/// Answers `URQ seq id`, after its first word, or gives back its first fault.
+#[inline(never)]
+pub(crate) fn unregister<A: Answerer>(
+    alloc: Global,
+    words: &mut Words<'_>,
+    answerer: &mut A,
+    reply: &mut LineBuffer,
+) -> Result<Heard, RequestFault>
+    ensures { HearsRequest A.may_answer answerer.old (Spec.unregister_at (words_of words.old))
+        result reply.new answerer.new }
+{
+    let sequence = sequence_field(words)?;
+    let id = name_field(words, RequestFault::BadName)?;
+    nothing_after((), words)?;
+    let request = Request::Unregister { sequence, id };
+    show(reply, &answerer.answer(alloc, request));
+    Ok(Heard::Answered)
 }
 
 /// Kind, ID, zone and address of a registration, as an endpoint without aliases and technology

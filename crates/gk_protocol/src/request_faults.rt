@@ -2,7 +2,6 @@
 
 ghost use Rattle.std.specs.Prelude.{◌≡◌};
 
-use gk_terms::Name;
 use gk_terms::fields::FieldFault;
 use thiserror::Error;
 
@@ -82,33 +81,5 @@ impl FieldFault for RequestFault {
 
     fn extra() -> RequestFault {
         RequestFault::Extra
-    }
-}
-
-/// Why a line could not be read as a request.
-#[derive(Clone, Copy, Debug, PartialEq, Eq, Error)]
-pub enum NoRequest {
-    /// Its first fault.
-    #[error("{0}")]
-    Fault(RequestFault),
-    /// Memory ran out for the options of a registration. All its fields up to and including the
-    /// first option could be read; what stands after that may be wrong.
-    #[error("no memory for the options of {id}")]
-    NoMemory {
-        /// The sequence number of the registration, 1 to 65535.
-        sequence: u32,
-        /// The ID that asked to be registered.
-        id: Name,
-    },
-}
-
-impl From<RequestFault> for NoRequest {
-    ghost use Rattle.std.specs.Prelude.{◌≡◌};
-    ghost use Rattle.gk_protocol.specs.declared.request_faults.NoRequest.TheVariants.{Fault};
-
-    ghost from_gives = { λ fault none. none ≡ Fault fault };
-
-    fn from(fault: RequestFault) -> NoRequest {
-        NoRequest::Fault(fault)
     }
 }

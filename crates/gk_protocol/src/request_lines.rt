@@ -1,85 +1,77 @@
-//! What one line asks.
+//! What one line asks, and the answer to it.
 
-ghost use Rattle.std.specs.Prelude.{◌≡◌, Ok, MatchResult, option_map};
 ghost use Rattle.gk_terms.specs.Text.{words_of};
+ghost use Rattle.gk_protocol.specs.Hearing.{Hears, HearsReload};
 ghost use Rattle.gk_protocol.specs.Requests as Spec;
 
-use crate::open_call_requests::{change, release};
-use crate::registrations::register;
-use crate::request_faults::{NoRequest, RequestFault};
-use crate::request_fields::{call_field, count_field, nothing_after, sequence_field, units_field};
-use crate::requests::{Asking, Request};
-use gk_terms::fields::{dialled_field, name_field};
+use crate::answerer::Answerer;
+use crate::call_requests::{admit, change, release};
+use crate::registrations::{register, unregister};
+use crate::request_faults::RequestFault;
+use crate::request_fields::{count_field, nothing_after, sequence_field};
+use gk_lines::LineBuffer;
 use gk_terms::limits::MOST_LINE_BYTES;
 use gk_terms::words::Words;
 use std::alloc::Global;
 
-#[tactic(auto, unfolding(crate::specs::Requests::asking_of, crate::specs::Requests::registering_of))]
-/// What a line asks, whose ending is taken off; nothing if the line is blank.
+/// What comes of a line by itself.
+#[derive(Clone, Copy, Debug, PartialEq, Eq)]
+pub enum Heard {
+    /// The line is blank, and gets no answer.
+    Blank,
+    /// The reply is the line of its answer: also if memory ran out for the options of a
+    /// registration.
+    Answered,
+    /// `CFG`: asks that the configuration in the next lines be put in force. It is not answered yet.
+    Reload {
+        /// The sequence number, 1 to 65535, which the reply repeats.
+        sequence: u32,
+        /// How many of the next lines belong to the request, 0 to 20,000.
+        count: u32,
+    },
+}
+
+#[tactic(auto, unfolding(crate::specs::Requests::asking_of))]
+/// Hears a line, whose ending is taken off, and answers the request that stands whole in it. A fault
+/// is given back, and nothing is asked of the answerer. The reply counts only after `Answered`.
 ///
 /// A line of more than 512 bytes is `LineTooLong`, and an unknown first word `UnknownWord`. Then
 /// the fields are read from the left: an absent one is `Missing`, one that cannot be read is its
 /// own fault, and a word after the last is `Extra`. A registration may have 16 options `e164=D` and
 /// 8 options `tech=P` in any order, counted as written; one more is `BadOption` before its value is
-/// looked at, and so is any other word. Memory is taken only for these options.
-#[inline(never)]
-pub fn asking_in(alloc: Global, line: &[u8]) -> Result<Option<Asking>, NoRequest>
-    ensures { MatchResult result (λ asked. Spec.asking_of line.now ≡ Ok asked)
-        (Spec.IsNoRequest line.now) }
+/// looked at, and so is any other word. Memory is taken only for these options, and by the answerer;
+/// if there is none for the options, the reply says so, and the answerer is not asked.
+pub fn hear<A: Answerer>(
+    alloc: Global,
+    line: &[u8],
+    answerer: &mut A,
+    reply: &mut LineBuffer,
+) -> Result<Heard, RequestFault>
+    ensures { Hears A.may_answer answerer.old line.now result reply.new answerer.new }
 {
     if line.len() > MOST_LINE_BYTES {
-        return Err(NoRequest::Fault(RequestFault::LineTooLong));
+        return Err(RequestFault::LineTooLong);
     }
     let words = &mut Words::of(line);
     let Some(word) = words.next() else {
-        return Ok(None);
+        return Ok(Heard::Blank);
     };
     match word {
-        b"RRQ" => register(alloc, words),
+        b"RRQ" => register(alloc, words, answerer, reply),
         b"CFG" => reload(words),
-        b"URQ" => unregister(words),
-        b"ARQ" => admit(words),
-        b"BRQ" => change(words),
-        b"DRQ" => release(words),
-        _ => Err(NoRequest::Fault(RequestFault::UnknownWord)),
+        b"URQ" => unregister(alloc, words, answerer, reply),
+        b"ARQ" => admit(alloc, words, answerer, reply),
+        b"BRQ" => change(alloc, words, answerer, reply),
+        b"DRQ" => release(alloc, words, answerer, reply),
+        _ => Err(RequestFault::UnknownWord),
     }
 }
 
-/// `URQ seq id`, after its first word.
-#[inline(never)]
-fn unregister(words: &mut Words<'_>) -> Result<Option<Asking>, NoRequest>
-    ensures { result ≡ Spec.read_of (Spec.whole_of (Spec.unregister_at (words_of words.old))) }
-{
-    let sequence = sequence_field(words)?;
-    let id = name_field(words, RequestFault::BadName)?;
-    nothing_after((), words)?;
-    Ok(Some(Asking::Whole(Request::Unregister { sequence, id })))
-}
-
-/// `ARQ seq id call digits units`, after its first word.
-#[inline(never)]
-fn admit(words: &mut Words<'_>) -> Result<Option<Asking>, NoRequest>
-    ensures { result ≡ Spec.read_of (Spec.whole_of (Spec.admit_at (words_of words.old))) }
-{
-    let sequence = sequence_field(words)?;
-    let id = name_field(words, RequestFault::BadName)?;
-    let call = call_field(words)?;
-    let digits = dialled_field(words, RequestFault::BadDigits)?;
-    let units = nothing_after(units_field(words)?, words)?;
-    Ok(Some(Asking::Whole(Request::Admit {
-        sequence,
-        id,
-        call,
-        digits,
-        units,
-    })))
-}
-
 /// `CFG seq n`, after its first word.
-fn reload(words: &mut Words<'_>) -> Result<Option<Asking>, NoRequest>
-    ensures { result ≡ Spec.read_of (Spec.asked_of (Spec.reload_at (words_of words.old))) }
+fn reload(words: &mut Words<'_>) -> Result<Heard, RequestFault>
+    ensures { HearsReload (Spec.reload_at (words_of words.old)) result }
 {
     let sequence = sequence_field(words)?;
     let count = nothing_after(count_field(words)?, words)?;
-    Ok(Some(Asking::Reload { sequence, count }))
+    Ok(Heard::Reload { sequence, count })
 }

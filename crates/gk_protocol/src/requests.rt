@@ -62,17 +62,3 @@ pub enum Request {
         lines: OwnedLines,
     },
 }
-
-/// What a line asks.
-#[derive(Drop)]
-pub enum Asking {
-    /// A request that stands whole in its line.
-    Whole(Request),
-    /// `CFG`: to put the configuration in force that the next lines are.
-    Reload {
-        /// The sequence number, 1 to 65535, which the reply repeats.
-        sequence: u32,
-        /// How many of the next lines belong to the request, 0 to 20,000.
-        count: u32,
-    },
-}

@@ -6,7 +6,6 @@ ghost use Rattle.gk_lines.specs.Streams.{Notes, NotesIf, KnownStep, AppendsFront
 ghost use Rattle.gk_lines.specs.LineReader.{left_of, work_left, AtEndIfEnded, CountsTurns, is_failure};
 ghost use Rattle.gk_terms.specs.Text.{content_of};
 ghost use Rattle.gk_protocol.specs.Answers.{line_of};
-ghost use Rattle.gk_protocol.specs.Requests.{answer_of_none};
 ghost use Rattle.gk_protocol.specs.Session.{IsReadAhead, Ends, is_read_fault, is_write_fault};
 ghost use Rattle.gk_protocol.specs.AnswersLine.{AnswersLine, AnswersReload};
 
@@ -15,11 +14,10 @@ use crate::answerer::Answerer;
 use crate::answers::Answer;
 use crate::owned_lines::{TakenLines, take_lines};
 use crate::reloads::no_memory;
-use crate::request_faults::{NoRequest, RequestFault};
-use crate::request_lines::asking_in;
-use crate::requests::{Asking, Request};
+use crate::request_faults::RequestFault;
+use crate::request_lines::{Heard, hear};
+use crate::requests::Request;
 use crate::session_faults::SessionFault;
-use admission::{RegisterRefusal, Reply};
 use gk_lines::{LineBuffer, LineReader, ReadFault, Sink, Source, WriteFault, write_whole};
 use std::alloc::Global;
 
@@ -157,18 +155,15 @@ fn progress_with<R: Source, A: Answerer>(
         (R.has_failed reader.new) result }
     ensures work { work_left lines.new ≤ work_left lines.old }
 {
-    match asking_in(alloc, line.content()) {
-        Ok(None) => Ok(Progress::Blank),
-        Ok(Some(Asking::Whole(request))) => {
-            show(reply, &answerer.answer(alloc, request));
-            Ok(Progress::Answered)
-        }
-        Ok(Some(Asking::Reload { sequence, count })) => {
+    match hear(alloc, line.content(), answerer, reply) {
+        Ok(Heard::Blank) => Ok(Progress::Blank),
+        Ok(Heard::Answered) => Ok(Progress::Answered),
+        Ok(Heard::Reload { sequence, count }) => {
             let taken = take_lines(alloc, count, lines, reader, line)?;
             Ok(answer_reload(alloc, sequence, taken, answerer, reply))
         }
-        Err(none) => {
-            show_none(none, reply);
+        Err(fault) => {
+            show_fault(fault, reply);
             Ok(Progress::Answered)
         }
     }
@@ -206,24 +201,10 @@ fn answer_reload<A: Answerer>(
 
 /// Answers a line that is not a request. In a function of its own, likewise.
 #[inline(never)]
-fn show_none(none: NoRequest, reply: &mut LineBuffer)
-    ensures { reply.new ≡ line_of (answer_of_none none) }
+fn show_fault(fault: RequestFault, reply: &mut LineBuffer)
+    ensures { reply.new ≡ line_of (Answer.Malformed fault) }
 {
-    show(reply, &answer_to_none(none));
-}
-
-/// The answer to a line that is not a request.
-fn answer_to_none(none: NoRequest) -> Answer
-    ensures { result ≡ answer_of_none none }
-{
-    match none {
-        NoRequest::Fault(fault) => Answer::Malformed(fault),
-        NoRequest::NoMemory { sequence, id } => {
-            let reason = RegisterRefusal::NoMemory;
-            let reply = Reply::RegisterRefused { id, reason };
-            Answer::Reply { sequence, reply }
-        }
-    }
+    show(reply, &Answer::Malformed(fault));
 }
 
 /// Writes a reply, in one call of the writer if it takes the whole.

@@ -1,17 +1,72 @@
 //! Which lines are requests, by examples from outside.
 
-use gk_protocol::request_faults::NoRequest;
-use gk_protocol::request_lines::asking_in;
-use gk_protocol::requests::{Asking, Request};
+use gk_lines::LineBuffer;
+use gk_protocol::answerer::Answerer;
+use gk_protocol::answers::Answer;
+use gk_protocol::request_faults::RequestFault;
+use gk_protocol::request_lines::{Heard, hear};
+use gk_protocol::requests::Request;
 use gk_terms::{Address, Name};
 use registry::EndpointKind;
 use std::alloc::{AllocError, Global};
 use std::test::Fail;
 
-/// The word of the fault of a line.
+/// Keeps the last request that it is asked, and counts them.
+#[derive(Drop)]
+struct Listener {
+    asked: Option<Request>,
+    count: u32,
+}
+
+impl Answerer for Listener {
+    ghost use Rattle.std.specs.Prelude.{⊤};
+
+    ghost may_answer = { λ _ _ _ _. ⊤ };
+
+    fn answer(&mut self, _alloc: Global, request: Request) -> Answer {
+        self.asked = Some(request);
+        self.count = self.count.saturating_add(1);
+        Answer::Malformed(RequestFault::CutShort)
+    }
+}
+
+/// What comes of a line, and what is asked for it.
+#[derive(Drop)]
+struct Outcome {
+    heard: Result<Heard, RequestFault>,
+    listener: Listener,
+    reply: LineBuffer,
+}
+
+/// Hears a line.
+fn outcome_of(alloc: Global, line: &[u8]) -> Outcome {
+    let mut listener = Listener {
+        asked: None,
+        count: 0,
+    };
+    let mut reply = LineBuffer::new();
+    let heard = hear(alloc, line, &mut listener, &mut reply);
+    Outcome {
+        heard,
+        listener,
+        reply,
+    }
+}
+
+/// What comes of a line for which nothing is asked.
+fn unasked(alloc: Global, line: &[u8]) -> Option<Result<Heard, RequestFault>> {
+    let outcome = outcome_of(alloc, line);
+    if outcome.listener.count == 0 {
+        Some(outcome.heard)
+    } else {
+        None
+    }
+}
+
+/// The word of the fault of a line, for which nothing is asked.
 fn fault_word(alloc: Global, line: &[u8]) -> Option<&'static str> {
-    match asking_in(alloc, line) {
-        Err(NoRequest::Fault(fault)) => Some(fault.word()),
+    match unasked(alloc, line) {
+        Some(Err(fault)) => Some(fault.word()),
         _ => None,
     }
 }
@@ -112,16 +167,25 @@ fn faults(rt: HostRuntime) -> Result<(), Fail> {
 fn blank_lines(rt: HostRuntime) -> Result<(), Fail> {
     let longest = [b' '; 512];
     for line in [b"".as_slice(), b" \t ", longest.as_slice()] {
-        assert!(rt; matches!(asking_in(rt.alloc(), line), Ok(None)));
+        assert!(rt; matches!(unasked(rt.alloc(), line), Some(Ok(Heard::Blank))));
     }
     Ok(())
 }
 
-/// The request of a line, which is to be one.
+/// The request of a line, which is to be asked once, and to be replied to with the answer.
 fn request(alloc: Global, line: &[u8]) -> Result<Request, Fail> {
-    match asking_in(alloc, line)? {
-        Some(Asking::Whole(request)) => Ok(request),
-        _ => Err(Fail::new("no request")),
+    let outcome = outcome_of(alloc, line);
+    match outcome.heard {
+        Ok(Heard::Answered) => {}
+        Ok(_) => return Err(Fail::new("not answered")),
+        Err(fault) => return Err(Fail::new(fault.word())),
+    }
+    if outcome.listener.count != 1 || outcome.reply.as_bytes() != b"ERR cut\n".as_slice() {
+        return Err(Fail::new("not asked once, or another reply"));
+    }
+    match outcome.listener.asked {
+        Some(request) => Ok(request),
+        None => Err(Fail::new("not asked")),
     }
 }
 
@@ -234,7 +298,7 @@ fn reloads(rt: HostRuntime) -> Result<(), Fail> {
         (b"CFG 1 0".as_slice(), 1, 0),
         (b" CFG\t65535  20000 ", 65_535, 20_000),
     ] {
-        let Some(Asking::Reload { sequence, count }) = asking_in(rt.alloc(), line)? else {
+        let Some(Ok(Heard::Reload { sequence, count })) = unasked(rt.alloc(), line) else {
             return Err(Fail::new("no reload"));
         };
         assert_eq!(rt; sequence, number);

@@ -1,4 +1,4 @@
-use Rattle.std.proofs.Common.{◌≡◌, ◌≤◌, ◌+◌, ◌<◌, ◌^◌}
+use Rattle.std.proofs.Common.{◌≡◌, ◌≤◌, ◌+◌}
 use Rattle.gk_lines.specs.Streams.{KnownStep}
 use Rattle.gk_lines.specs.LineReader.{work_left, left_of, AtEndIfEnded, CountsTurns}
 use Rattle.gk_protocol.proofs.SessionUnderWay.{UnderWay}

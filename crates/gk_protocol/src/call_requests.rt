@@ -1,0 +1,88 @@
+//! Requests about calls: admissions, `ARQ`, bandwidth changes, `BRQ`, and releases, `DRQ`.
+
+ghost use Rattle.gk_terms.specs.Text.{words_of};
+ghost use Rattle.gk_protocol.specs.Hearing.{HearsRequest};
+ghost use Rattle.gk_protocol.specs.Requests as Spec;
+
+use crate::answer_lines::show;
+use crate::answerer::Answerer;
+use crate::request_faults::RequestFault;
+use crate::request_fields::{call_field, nothing_after, sequence_field, units_field};
+use crate::request_lines::Heard;
+use crate::requests::Request;
+use gk_lines::LineBuffer;
+use gk_terms::fields::{dialled_field, name_field};
+use gk_terms::words::Words;
+use std::alloc::Global;
+
+/// Answers `ARQ seq id call digits units`, after its first word, or gives back its first fault.
+#[inline(never)]
+pub(crate) fn admit<A: Answerer>(
+    alloc: Global,
+    words: &mut Words<'_>,
+    answerer: &mut A,
+    reply: &mut LineBuffer,
+) -> Result<Heard, RequestFault>
+    ensures { HearsRequest A.may_answer answerer.old (Spec.admit_at (words_of words.old)) result
+        reply.new answerer.new }
+{
+    let sequence = sequence_field(words)?;
+    let id = name_field(words, RequestFault::BadName)?;
+    let call = call_field(words)?;
+    let digits = dialled_field(words, RequestFault::BadDigits)?;
+    let units = nothing_after(units_field(words)?, words)?;
+    let request = Request::Admit {
+        sequence,
+        id,
+        call,
+        digits,
+        units,
+    };
+    show(reply, &answerer.answer(alloc, request));
+    Ok(Heard::Answered)
+}
+
+/// Answers `BRQ seq id call units`, after its first word, or gives back its first fault.
+#[inline(never)]
+pub(crate) fn change<A: Answerer>(
+    alloc: Global,
+    words: &mut Words<'_>,
+    answerer: &mut A,
+    reply: &mut LineBuffer,
+) -> Result<Heard, RequestFault>
+    ensures { HearsRequest A.may_answer answerer.old (Spec.change_at (words_of words.old)) result
+        reply.new answerer.new }
+{
+    let sequence = sequence_field(words)?;
+    let id = name_field(words, RequestFault::BadName)?;
+    let call = call_field(words)?;
+    let units = units_field(words)?;
+    nothing_after((), words)?;
+    let request = Request::Change {
+        sequence,
+        id,
+        call,
+        units,
+    };
+    show(reply, &answerer.answer(alloc, request));
+    Ok(Heard::Answered)
+}
+
+/// Answers `DRQ seq id call`, after its first word, or gives back its first fault.
+#[inline(never)]
+pub(crate) fn release<A: Answerer>(
+    alloc: Global,
+    words: &mut Words<'_>,
+    answerer: &mut A,
+    reply: &mut LineBuffer,
+) -> Result<Heard, RequestFault>
+    ensures { HearsRequest A.may_answer answerer.old (Spec.release_at (words_of words.old)) result
+        reply.new answerer.new }
+{
+    let sequence = sequence_field(words)?;
+    let id = name_field(words, RequestFault::BadName)?;
+    let call = nothing_after(call_field(words)?, words)?;
+    let request = Request::Release { sequence, id, call };
+    show(reply, &answerer.answer(alloc, request));
+    Ok(Heard::Answered)
+}
