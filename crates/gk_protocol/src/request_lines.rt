@@ -33,14 +33,14 @@ pub enum Heard {
 
 #[tactic(auto, unfolding(crate::specs::Requests::asking_of))]
 /// Hears a line, whose ending is taken off, and answers the request that stands whole in it. A fault
-/// is given back, and nothing is asked of the answerer. The reply counts only after `Answered`.
+/// is given back, and leaves the answerer as it was. The reply counts only after `Answered`.
 ///
 /// A line of more than 512 bytes is `LineTooLong`, and an unknown first word `UnknownWord`. Then
 /// the fields are read from the left: an absent one is `Missing`, one that cannot be read is its
 /// own fault, and a word after the last is `Extra`. A registration may have 16 options `e164=D` and
 /// 8 options `tech=P` in any order, counted as written; one more is `BadOption` before its value is
 /// looked at, and so is any other word. Memory is taken only for these options, and by the answerer;
-/// if there is none for the options, the reply says so, and the answerer is not asked.
+/// if there is none for the options, the reply says so, and the answerer is left as it was.
 pub fn hear<A: Answerer>(
     alloc: Global,
     line: &[u8],
