@@ -3,6 +3,7 @@ pub mod BandwidthLine
 pub mod Configuration
 pub mod Fields
 pub mod Index
+pub mod Kept
 pub mod Line
 pub mod Memory
 pub mod Options

@@ -1,5 +1,5 @@
 -- What may be answered if memory is taken while a line is read.
-use Rattle.std.specs.Prelude.{◌≡◌, ◌⊎◌, ℕ, List, Option, Some, None, Result, Ok, Err, MatchResult, IfOk}
+use Rattle.std.specs.Prelude.{◌≡◌, ◌⊎◌, ℕ, List, None, Result, Ok, Err, MatchResult, IfOk}
 use Rattle.std.specs.declared.alloc.AllocError.{AllocError}
 use Rattle.command_reader.specs.declared.faults.FaultKind.{FaultKind}
 use Rattle.command_reader.specs.declared.faults.FaultKind.TheVariants.{NoMemory}
@@ -31,11 +31,6 @@ Any x = Unit {0}
 -- a command that declares no zone
 abbrev pub DeclaresNone : Command → Type 0
 DeclaresNone command = declared_by command ≡ None
-
--- a command that declares no zone, and not a line that is passed over
-abbrev pub KeptAndDeclaresNone : Option Command → Type 0
-KeptAndDeclaresNone None = ⊥
-KeptAndDeclaresNone (Some command) = DeclaresNone command
 
 -- the names are held, unless memory was refused for one of them
 abbrev pub HoldsNames : Result (List (List ℕ)) AllocError → List (List ℕ) → Type 0

@@ -145,6 +145,13 @@ MayReadLine before line result =
     (λ fault. (fault.line ≡ line_count before + 1)
     × ((line_after before line ≡ Err fault.kind) ⊎ LacksMemoryFor before line fault.kind))
 
+-- the same of a reader that changes its draft: at a fault the draft is as before
+abbrev pub ReadsLine : {A : Type 0} → Progress → List ℕ → Progress → Result A LineFault → Type 0
+ReadsLine before line after result =
+    MatchResult result
+    (λ _. line_after before line ≡ Ok after)
+    (λ fault. MayReadLine before line (Err fault) × (after ≡ before))
+
 -- what a reader of these lines after earlier ones may answer: what has been read with them; their
 -- first fault; or out of memory
 abbrev pub MayReadOn : Progress → List (List ℕ) → Result Progress LineFault → Type 0

@@ -17,7 +17,6 @@ pub const MOST_KBPS: u32 = 10_000_000;
 pub const MOST_SESSION_KBPS: u32 = 5_000;
 
 /// `bandwidth` and what follows it.
-#[inline(never)]
 pub fn bandwidth(words: &mut Words<'_>) -> Result<Command, FaultKind>
     ensures { result ≡ bandwidth_at (words_of words.old) }
 {

@@ -24,7 +24,7 @@ pub fn make_line(line: &mut LineBuffer, command: &Command)
     ensures { line.new ≡ line_text (command_words command.now) }
 {
     make_words(line, command);
-    line.push(b"\n");
+    line.push_byte(b'\n');
 }
 
 /// Makes it the line of the command's words.

@@ -166,12 +166,14 @@ impl Model for Commands {
 }
 
 impl Commands {
-    pub(crate) fn new(commands: Vec<Command>, passed_over: u32) -> Commands
+    /// Commands that were accepted. Room for more of them is freed, if the smaller block is given.
+    pub(crate) fn new(mut commands: Vec<Command>, passed_over: u32) -> Commands
         requires within { length commands.items ≤ MOST_LINES }
         requires accepted { IsAccepted commands.items }
         ensures commands { result.commands ≡ commands.items }
         ensures passed { result.passed ≡ passed_over }
     {
+        commands.shrink_to_fit();
         Commands {
             commands,
             passed_over,

@@ -1,20 +1,17 @@
 //! A configuration as it is read, line by line.
 
-ghost use Rattle.std.specs.Prelude.{◌≡◌, true, ◌⊎◌, ◌+◌, ◌<◌, ◌≤◌, ◌==◌, ℕ, List, [], length, ◌∷◌, MatchResult, Ok, Err, Some, None, bytes_eq, is_some, option_map, slice_get};
+ghost use Rattle.std.specs.Prelude.{◌≡◌, true, ◌⊎◌, ◌+◌, ◌<◌, ◌≤◌, [], MatchResult, Ok, Err, None, is_some, option_map, slice_get};
 ghost use Rattle.std.specs.List.{list_any, position_or_len};
-ghost use Rattle.std.specs.List.Sorted.{IsPermutation};
-ghost use Rattle.std.specs.HashSet.{keys};
-ghost use Rattle.command_reader.specs.Accepted.{PrintsBack};
-ghost use Rattle.command_reader.specs.Index.{AddsDeclared, MayRefuseCommand, fault_of_one_more, fault_by_names};
-ghost use Rattle.command_reader.specs.Progress.{Progress, line_count, commands_in};
+ghost use Rattle.command_reader.specs.Progress.{line_count, commands_in};
 ghost use Rattle.command_reader.specs.Zones.{first_local_of, is_declared, is_local_command};
-ghost use Rattle.command_reader.specs.Reading.{nothing_read, line_after, said_after, fault_of_name, fault_at, with_command, with_passed, finished, names_unknown, unknown_zone, LacksMemoryFor, MayReadLine};
+ghost use Rattle.command_reader.specs.Reading.{nothing_read, line_after, fault_at, finished, names_unknown, unknown_zone, LacksMemoryFor, MayReadLine, ReadsLine};
 
 use crate::commands::{Command, Commands};
 use crate::faults::{FaultKind, LineFault};
-use crate::first_words::command_in;
+use crate::first_words::add_line;
+use crate::kept::Kept;
 use gk_terms::Name;
-use gk_terms::limits::{MOST_LINES, MOST_ZONES};
+use gk_terms::limits::MOST_LINES;
 use std::alloc::Global;
 use std::collections::HashSet;
 use std::marker::Model;
@@ -24,10 +21,8 @@ use std::marker::Model;
 #[derive(Drop)]
 pub struct Draft {
     alloc: Global,
-    commands: Vec<Command>,
-    numbers: Vec<u32>,
+    kept: Kept,
     passed: u32,
-    declared: HashSet<Name>,
 }
 
 impl Model for Draft {
@@ -41,14 +36,14 @@ impl Model for Draft {
     ghost Value = { Progress };
 
     ghost view = { λ d. record {
-      kept = with_numbers d.numbers.items d.commands.items;
+      kept = with_numbers d.kept.numbers.items d.kept.commands.items;
       passed = d.passed;
     } };
 
-    ghost invariant = { λ d. (length d.numbers.items ≡ length d.commands.items)
-        × (length d.commands.items + d.passed ≤ MOST_LINES)
-        × AreDeclared (keys d.declared) d.commands.items
-        × IsPrintable d.commands.items };
+    ghost invariant = { λ d. (length d.kept.numbers.items ≡ length d.kept.commands.items)
+        × (length d.kept.commands.items + d.passed ≤ MOST_LINES)
+        × AreDeclared (keys d.kept.declared) d.kept.commands.items
+        × IsPrintable d.kept.commands.items };
 }
 
 impl Draft {
@@ -59,10 +54,13 @@ impl Draft {
     {
         Draft {
             alloc,
-            commands: Vec::new(alloc),
-            numbers: Vec::new(alloc),
+            kept: Kept {
+                commands: Vec::new(alloc),
+                numbers: Vec::new(alloc),
+                declared: HashSet::new(alloc),
+                line: 0,
+            },
             passed: 0,
-            declared: HashSet::new(alloc),
         }
     }
 
@@ -74,10 +72,13 @@ impl Draft {
     {
         Draft {
             alloc,
-            commands: room_for(alloc, commands),
-            numbers: room_for(alloc, commands),
+            kept: Kept {
+                commands: room_for(alloc, commands),
+                numbers: room_for(alloc, commands),
+                declared: HashSet::new(alloc),
+                line: 0,
+            },
             passed: 0,
-            declared: HashSet::new(alloc),
         }
     }
 
@@ -91,30 +92,45 @@ impl Draft {
 
     /// With the next line, or the line's first fault. If memory is refused for the command of a
     /// line without a fault, the answer is the fault `NoMemory`.
-    pub fn with_line(self, line: &[u8]) -> Result<Draft, LineFault>
+    pub fn with_line(mut self, line: &[u8]) -> Result<Draft, LineFault>
         ensures { MayReadLine self line.now result }
     {
+        self.read_line(line)?;
+        Ok(self)
+    }
+
+    /// Reads the next line, or says its first fault, as `with_line` does. At a fault the draft is
+    /// unchanged.
+    pub fn read_line(&mut self, line: &[u8]) -> Result<(), LineFault>
+        ensures { ReadsLine self.old line.now self.new result }
+    {
         let number = self.line_count() as u32 + 1;
-        match self.with_text(line) {
-            Ok(read) => Ok(read),
+        match self.read_text(line) {
+            Ok(()) => Ok(()),
             Err(kind) => Err(LineFault { line: number, kind }),
         }
     }
 
     #[tactic(auto, unfolding(crate::specs::Reading::line_after))]
-    /// With the next line, or the kind of its fault.
-    fn with_text(self, line: &[u8]) -> Result<Draft, FaultKind>
+    /// Reads the next line, or says the kind of its fault.
+    fn read_text(&mut self, line: &[u8]) -> Result<(), FaultKind>
         ensures { MatchResult result
-            (λ read. line_after self line.now ≡ Ok read)
-            (λ kind. (line_after self line.now ≡ Err kind) ⊎ LacksMemoryFor self line.now kind) }
+            (λ _. line_after self.old line.now ≡ Ok self.new)
+            (λ kind. ((line_after self.old line.now ≡ Err kind)
+            ⊎ LacksMemoryFor self.old line.now kind) × (self.new ≡ self.old)) }
     {
-        if self.line_count() >= MOST_LINES {
+        let before = self.line_count();
+        if before >= MOST_LINES {
             return Err(FaultKind::TooMany);
         }
-        match command_in(self.alloc, line)? {
-            None => Ok(self.with_passed()),
-            Some(command) => self.with_command(command),
+        let kept = self.kept.commands.len();
+        self.kept.line = before as u32 + 1;
+        add_line(&mut self.kept, self.alloc, line)?;
+        if self.kept.commands.len() > kept {
+            return Ok(());
         }
+        self.passed += 1;
+        Ok(())
     }
 
     /// The configuration of the lines that were read: its commands, or the fault of its zones.
@@ -137,7 +153,7 @@ impl Draft {
     pub fn unknown_zone(&self) -> Option<LineFault>
         ensures { result ≡ unknown_zone self.now }
     {
-        unknown_at(&self.numbers, self.place_of_unknown())
+        unknown_at(&self.kept.numbers, self.place_of_unknown())
     }
 
     /// The place of the first command that names a zone which no line declares; their number if
@@ -156,7 +172,7 @@ impl Draft {
     fn commands(&self) -> &[Command]
         ensures { result.now ≡ commands_in self.now }
     {
-        &self.commands
+        &self.kept.commands
     }
 
     /// Whether a command names a zone that no line declares.
@@ -170,7 +186,7 @@ impl Draft {
     fn declares(&self, name: &Name) -> bool
         ensures { result ≡ is_declared (commands_in self.now) name.now }
     {
-        self.declared.contains(name)
+        self.kept.declared.contains(name)
     }
 
     #[tactic(auto, using(crate::proofs::accepted::LocalZones::some_local))]
@@ -187,38 +203,8 @@ impl Draft {
         requires has_local { is_some (first_local_of (commands_in self)) ≡ true }
         ensures { result ≡ record { commands = commands_in self; passed = self.passed } }
     {
-        let Draft {
-            commands,
-            passed,
-            ..
-        } = self;
-        Commands::new(commands, passed)
-    }
-
-    /// With the next line passed over.
-    fn with_passed(mut self) -> Draft
-        requires { line_count self < MOST_LINES }
-        ensures { result ≡ with_passed self }
-    {
-        self.passed += 1;
-        self
-    }
-
-    /// With a command of the next line.
-    fn with_command(mut self, command: Command) -> Result<Draft, FaultKind>
-        requires room { line_count self < MOST_LINES }
-        requires prints { PrintsBack command }
-        ensures { MatchResult result
-            (λ read. said_after self (Ok (Some command)) ≡ Ok read)
-            (λ kind. (said_after self (Ok (Some command)) ≡ Err kind)
-            ⊎ ((kind ≡ FaultKind.NoMemory)
-            × (said_after self (Ok (Some command)) ≡ Ok (with_command self command)))) }
-    {
-        let number = self.line_count() as u32 + 1;
-        index(&mut self.declared, &command)?;
-        self.commands.push(command)?;
-        self.numbers.push(number)?;
-        Ok(self)
+        let Draft { kept, passed, .. } = self;
+        Commands::new(kept.commands, passed)
     }
 }
 
@@ -250,34 +236,4 @@ fn has_local(commands: &[Command]) -> bool
     ensures { result ≡ list_any is_local_command commands.now }
 {
     commands.iter().any(|command| command.is_local_zone())
-}
-
-/// Adds the name of the zone that a command declares, if it declares one.
-fn index(declared: &mut HashSet<Name>, command: &Command) -> Result<(), FaultKind>
-    ensures { MatchResult result
-        (λ _. (fault_by_names (keys declared.old) command.now ≡ None)
-        × AddsDeclared (keys declared.old) (keys declared.new) command.now)
-        (λ kind. MayRefuseCommand (fault_by_names (keys declared.old) command.now) kind) }
-{
-    match command.zone() {
-        None => Ok(()),
-        Some((name, _)) => declare(declared, name),
-    }
-}
-
-/// Adds the name of one more zone.
-fn declare(declared: &mut HashSet<Name>, name: Name) -> Result<(), FaultKind>
-    ensures { MatchResult result
-        (λ _. (fault_of_one_more (keys declared.old) name ≡ None)
-        × IsPermutation (name ∷ keys declared.old) (keys declared.new))
-        (λ kind. MayRefuseCommand (fault_of_one_more (keys declared.old) name) kind) }
-{
-    if declared.contains(&name) {
-        return Err(FaultKind::DuplicateZone);
-    }
-    if declared.len() >= MOST_ZONES {
-        return Err(FaultKind::TooMany);
-    }
-    declared.insert(name)?;
-    Ok(())
 }

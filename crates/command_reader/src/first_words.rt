@@ -5,67 +5,100 @@ ghost use Rattle.std.specs.Prelude.{◌≡◌, None, ◌∷◌};
 ghost use Rattle.gk_terms.specs.Text.{words_of};
 ghost use Rattle.gk_terms.specs.Fields.{nothing_more};
 ghost use Rattle.command_reader.specs.Fields.{is_one_of};
-ghost use Rattle.command_reader.specs.Memory.{UnlessMemory, KeptAndDeclaresNone};
-ghost use Rattle.command_reader.specs.Line.{arq_at, no_at, passed_alone, passed_whole, left_out_commands, passed_at, named_command_at, command_at, line_of};
+ghost use Rattle.command_reader.specs.Kept.{MayAdd, Passes};
+ghost use Rattle.command_reader.specs.TechnologyLine.{gw_type_prefix_at};
+ghost use Rattle.command_reader.specs.BandwidthLine.{bandwidth_at};
+ghost use Rattle.command_reader.specs.Line.{arq_at, kept_command_of, no_at, passed_alone, passed_whole, left_out_commands, passed_at, named_command_at, command_at, line_of};
 
 use crate::bandwidth_lines::bandwidth;
 use crate::commands::Command;
 use crate::faults::FaultKind;
+use crate::kept::Kept;
 use crate::technology_lines::gw_type_prefix;
-use crate::zone_lines::zone;
+use crate::zone_lines::add_zone;
 use gk_terms::fields::nothing_more;
 use gk_terms::limits::MOST_LINE_BYTES;
 use gk_terms::words::Words;
 use std::alloc::Global;
 
 #[tactic(auto, unfolding(crate::specs::Line::line_of))]
-/// The command of a line, nothing if it is passed over, or its first fault from the left. Memory is
-/// taken only for names of gateways and of hop-off zones. If it is refused, and the line has no
-/// fault, the answer is `NoMemory`.
-pub fn command_in(alloc: Global, line: &[u8]) -> Result<Option<Command>, FaultKind>
-    ensures { UnlessMemory KeptAndDeclaresNone (line_of line.now) result }
+/// Adds the command of a line, or nothing if it is passed over, or says its first fault from the
+/// left. Memory is taken only for the names of gateways and of hop-off zones, and to keep the
+/// command. If it is refused, and the line has no fault, the answer is `NoMemory`.
+pub fn add_line(kept: &mut Kept, alloc: Global, line: &[u8]) -> Result<(), FaultKind>
+    ensures { MayAdd kept.old (line_of line.now) kept.new result }
 {
     if line.len() > MOST_LINE_BYTES {
         return Err(FaultKind::TooLong);
     }
-    command_at(alloc, &mut Words::of(line))
+    add_words(kept, alloc, &mut Words::of(line))
 }
 
 /// The same, by the words of the line.
-fn command_at(alloc: Global, words: &mut Words<'_>) -> Result<Option<Command>, FaultKind>
-    ensures { UnlessMemory KeptAndDeclaresNone (command_at (words_of words.old)) result }
+fn add_words(kept: &mut Kept, alloc: Global, words: &mut Words<'_>) -> Result<(), FaultKind>
+    ensures { MayAdd kept.old (command_at (words_of words.old)) kept.new result }
 {
     match words.next() {
-        None => Ok(None),
-        Some([b'!', ..]) => Ok(None),
-        Some(first) => named_command_at(alloc, first, words),
+        None => Ok(()),
+        Some([b'!', ..]) => Ok(()),
+        Some(first) => add_named(kept, alloc, first, words),
     }
 }
 
-/// What the line says, by its first word and those after it.
-fn named_command_at(
+/// The same, by its first word and those after it.
+fn add_named(
+    kept: &mut Kept,
     alloc: Global,
     first: &[u8],
     words: &mut Words<'_>,
-) -> Result<Option<Command>, FaultKind>
-    ensures { UnlessMemory KeptAndDeclaresNone
-        (named_command_at first.now (words_of words.old)) result }
+) -> Result<(), FaultKind>
+    ensures { MayAdd kept.old (named_command_at first.now (words_of words.old)) kept.new result }
 {
     if first == b"zone".as_slice() {
-        Ok(Some(zone(alloc, words)?))
+        add_zone(kept, alloc, words)
     } else if first == b"gw-type-prefix".as_slice() {
-        Ok(Some(gw_type_prefix(alloc, words)?))
+        add_gw_type_prefix(kept, alloc, words)
     } else if first == b"arq".as_slice() {
-        Ok(Some(arq(words)?))
+        add_arq(kept, words)
     } else if first == b"bandwidth".as_slice() {
-        Ok(Some(bandwidth(words)?))
+        add_bandwidth(kept, words)
     } else {
-        Ok(passed_at(first, words)?)
+        passed_at(first, words)
     }
 }
 
-/// `arq` and what follows it.
+/// Adds the command of `gw-type-prefix` and what follows it. In a function of its own, as are those
+/// below, so that only lines of this kind set aside room for such a command.
 #[inline(never)]
+fn add_gw_type_prefix(
+    kept: &mut Kept,
+    alloc: Global,
+    words: &mut Words<'_>,
+) -> Result<(), FaultKind>
+    ensures { MayAdd kept.old (kept_command_of (gw_type_prefix_at (words_of words.old))) kept.new
+        result }
+{
+    kept.add(gw_type_prefix(alloc, words)?)
+}
+
+/// Adds the command of `arq` and what follows it.
+#[inline(never)]
+fn add_arq(kept: &mut Kept, words: &mut Words<'_>) -> Result<(), FaultKind>
+    ensures { MayAdd kept.old (kept_command_of (arq_at (words_of words.old))) kept.new result }
+{
+    kept.add(arq(words)?)
+}
+
+/// Adds the command of `bandwidth` and what follows it.
+#[inline(never)]
+fn add_bandwidth(kept: &mut Kept, words: &mut Words<'_>) -> Result<(), FaultKind>
+    ensures { MayAdd kept.old (kept_command_of (bandwidth_at (words_of words.old))) kept.new
+        result }
+{
+    kept.add(bandwidth(words)?)
+}
+
+/// `arq` and what follows it.
 fn arq(words: &mut Words<'_>) -> Result<Command, FaultKind>
     ensures { result ≡ arq_at (words_of words.old) }
 {
@@ -80,15 +113,15 @@ fn arq(words: &mut Words<'_>) -> Result<Command, FaultKind>
 
 /// A line that no command begins: it is passed over or at fault.
 #[inline(never)]
-fn passed_at(first: &[u8], words: &mut Words<'_>) -> Result<Option<Command>, FaultKind>
-    ensures { result ≡ passed_at first.now (words_of words.old) }
+fn passed_at(first: &[u8], words: &mut Words<'_>) -> Result<(), FaultKind>
+    ensures { Passes (passed_at first.now (words_of words.old)) result }
 {
     if first == b"no".as_slice() {
         no(words)
     } else if is_passed_alone(first) {
         alone(words)
     } else if is_passed_whole(first) {
-        Ok(None)
+        Ok(())
     } else if is_left_out(first) {
         Err(FaultKind::Unsupported)
     } else {
@@ -97,22 +130,25 @@ fn passed_at(first: &[u8], words: &mut Words<'_>) -> Result<Option<Command>, Fau
 }
 
 /// `no` and what follows it.
-fn no(words: &mut Words<'_>) -> Result<Option<Command>, FaultKind>
-    ensures { result ≡ no_at (words_of words.old) }
+fn no(words: &mut Words<'_>) -> Result<(), FaultKind>
+    ensures { Passes (no_at (words_of words.old)) result }
 {
     match words.next() {
         None => Err(FaultKind::Missing),
         Some(word) if word == b"shutdown".as_slice() => alone(words),
-        Some(word) if word == b"use-proxy".as_slice() => Ok(None),
+        Some(word) if word == b"use-proxy".as_slice() => Ok(()),
         Some(_) => Err(FaultKind::Unsupported),
     }
 }
 
 /// A line that is passed over if it has no further word.
-fn alone(words: &mut Words<'_>) -> Result<Option<Command>, FaultKind>
-    ensures { result ≡ nothing_more FaultKind.Extra None (words_of words.old) }
+fn alone(words: &mut Words<'_>) -> Result<(), FaultKind>
+    ensures { Passes (nothing_more FaultKind.Extra None (words_of words.old)) result }
 {
-    nothing_more(None, words)
+    match words.next() {
+        None => Ok(()),
+        Some(_) => Err(FaultKind::Extra),
+    }
 }
 
 /// Whether a line that begins with the word is passed over if it has no further word.

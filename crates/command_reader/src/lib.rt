@@ -8,6 +8,7 @@ pub mod draft;
 pub mod faults;
 mod fields;
 mod first_words;
+mod kept;
 pub mod laws;
 pub mod names;
 pub mod printing;

@@ -38,7 +38,7 @@ fn lines_in(alloc: Global, bytes: &[u8]) -> Result<Draft, LineFault>
 {
     let mut draft = Draft::with_room(alloc, lines_expected(bytes));
     for line in RawLines::of(bytes) {
-        draft = draft.with_line(content(line))?;
+        draft.read_line(content(line))?;
     }
     Ok(draft)
 }

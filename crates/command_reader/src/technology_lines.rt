@@ -53,7 +53,6 @@ pub struct OpenOptions {
 
 /// `gw-type-prefix PREFIX [hopoff NAME ...] [seq|blast] [default-technology]`, the options in any
 /// order.
-#[inline(never)]
 pub fn gw_type_prefix(alloc: Global, words: &mut Words<'_>) -> Result<Command, FaultKind>
     ensures { UnlessMemory DeclaresNone (gw_type_prefix_at (words_of words.old)) result }
 {

@@ -6,13 +6,16 @@ ghost use Rattle.gk_terms.specs.Text.{words_of};
 ghost use Rattle.gk_terms.specs.Address.{port_of};
 ghost use Rattle.gk_terms.specs.Fields.{Gives};
 ghost use Rattle.command_reader.specs.Fields.{is_one_of, value_but, field_but, nothing_more_but};
-ghost use Rattle.command_reader.specs.Memory.{UnlessMemory, Any, DeclaresNone};
+ghost use Rattle.command_reader.specs.Memory.{UnlessMemory, Any};
+ghost use Rattle.command_reader.specs.Line.{kept_command_of};
+ghost use Rattle.command_reader.specs.Kept.{MayAdd};
 ghost use Rattle.command_reader.specs.ZoneLine.{left_out_of_local, left_out_of_remote, left_out_of_zone, hunt_words, cost_of, local_port_at, local_address_at, zone_local_at, remote_port_at, remote_priority_at, remote_cost_at, zone_remote_at, after_hunt_word, gateways_at, zone_prefix_at, zone_at};
 ghost use Rattle.command_reader.specs.Fields.{with_next};
 
 use crate::commands::{Command, GatewayPriority, LocalAddress};
 use crate::faults::FaultKind;
 use crate::fields::{gateway_priority_field, ip_field, pattern_field, some_names};
+use crate::kept::Kept;
 use gk_terms::addresses::{read_ip, read_port};
 use gk_terms::fields::name_field;
 use gk_terms::words::Words;
@@ -28,22 +31,40 @@ pub const DEFAULT_COST: u8 = 50;
 /// The priority of a remote zone whose line gives none.
 pub const DEFAULT_PRIORITY: u8 = 50;
 
-/// `zone` and what follows it.
-pub fn zone(alloc: Global, words: &mut Words<'_>) -> Result<Command, FaultKind>
-    ensures { UnlessMemory DeclaresNone (zone_at (words_of words.old)) result }
+/// Adds the command of `zone` and what follows it.
+pub fn add_zone(kept: &mut Kept, alloc: Global, words: &mut Words<'_>) -> Result<(), FaultKind>
+    ensures { MayAdd kept.old (kept_command_of (zone_at (words_of words.old))) kept.new result }
 {
     match words.next() {
         None => Err(FaultKind::Missing),
-        Some(word) if word == b"local".as_slice() => Ok(zone_local(words)?),
-        Some(word) if word == b"remote".as_slice() => Ok(zone_remote(words)?),
-        Some(word) if word == b"prefix".as_slice() => zone_prefix(alloc, words),
+        Some(word) if word == b"local".as_slice() => add_zone_local(kept, words),
+        Some(word) if word == b"remote".as_slice() => add_zone_remote(kept, words),
+        Some(word) if word == b"prefix".as_slice() => add_zone_prefix(kept, alloc, words),
         Some(word) if is_left_out_of_zone(word) => Err(FaultKind::Unsupported),
         Some(_) => Err(FaultKind::UnknownCommand),
     }
 }
 
-/// `zone local NAME DOMAIN [IP [PORT]]`.
+/// Adds `zone local NAME DOMAIN [IP [PORT]]`. In a function of its own, as is `zone remote`, so
+/// that only lines of this kind set aside room for such a command.
 #[inline(never)]
+fn add_zone_local(kept: &mut Kept, words: &mut Words<'_>) -> Result<(), FaultKind>
+    ensures { MayAdd kept.old (kept_command_of (zone_local_at (words_of words.old))) kept.new
+        result }
+{
+    kept.add(zone_local(words)?)
+}
+
+/// Adds `zone remote NAME DOMAIN IP [PORT] [cost C [priority P]]`.
+#[inline(never)]
+fn add_zone_remote(kept: &mut Kept, words: &mut Words<'_>) -> Result<(), FaultKind>
+    ensures { MayAdd kept.old (kept_command_of (zone_remote_at (words_of words.old))) kept.new
+        result }
+{
+    kept.add(zone_remote(words)?)
+}
+
+/// `zone local NAME DOMAIN [IP [PORT]]`.
 fn zone_local(words: &mut Words<'_>) -> Result<Command, FaultKind>
     ensures { result ≡ zone_local_at (words_of words.old) }
 {
@@ -93,7 +114,6 @@ fn local_port(ip: [u8; 4], words: &mut Words<'_>) -> Result<Option<LocalAddress>
 }
 
 /// `zone remote NAME DOMAIN IP [PORT] [cost C [priority P]]`.
-#[inline(never)]
 fn zone_remote(words: &mut Words<'_>) -> Result<Command, FaultKind>
     ensures { result ≡ zone_remote_at (words_of words.old) }
 {
@@ -190,14 +210,16 @@ fn cost_field(words: &mut Words<'_>) -> Result<u8, FaultKind>
     Ok(cost as u8)
 }
 
-/// `zone prefix NAME PATTERN [seq|blast] [gw-priority N GW [GW ...]]`.
-fn zone_prefix(alloc: Global, words: &mut Words<'_>) -> Result<Command, FaultKind>
-    ensures { UnlessMemory DeclaresNone (zone_prefix_at (words_of words.old)) result }
+/// Adds `zone prefix NAME PATTERN [seq|blast] [gw-priority N GW [GW ...]]`. Most lines of a large
+/// configuration are of this kind, so the command is made where it is added.
+fn add_zone_prefix(kept: &mut Kept, alloc: Global, words: &mut Words<'_>) -> Result<(), FaultKind>
+    ensures { MayAdd kept.old (kept_command_of (zone_prefix_at (words_of words.old))) kept.new
+        result }
 {
     let zone = name_field(words, FaultKind::BadName)?;
     let pattern = pattern_field(words)?;
     let gateways = gateways(alloc, words)?;
-    Ok(Command::ZonePrefix {
+    kept.add(Command::ZonePrefix {
         zone,
         pattern,
         gateways,

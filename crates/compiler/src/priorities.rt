@@ -86,9 +86,9 @@ fn place_of(
         → is_about zones.now.entries row (row_of command.now) ≡ is_place result place }
 {
     let row = row_of(command)?;
-    let place = rows.get_index_of(&row.0)?;
+    let place = rows.get_index_of(row.0)?;
     let (_, picked) = rows.get_index(place)?;
-    if number_of(zones, &row.1) == *picked {
+    if number_of(zones, row.1) == *picked {
         Some(place as u32)
     } else {
         None

@@ -1,6 +1,6 @@
 //! The patterns of the `zone prefix` commands, each with the zone that is picked for it.
 
-ghost use Rattle.std.specs.Prelude.{◌≡◌, ◌≤◌, ◌+◌, ℕ, List, length, IfOk, OnOk, Some, None, if◌then◌else◌};
+ghost use Rattle.std.specs.Prelude.{◌≡◌, ◌≤◌, ◌+◌, ℕ, List, length, IfOk, OnOk, Some, None, MatchOption, if◌then◌else◌};
 ghost use Rattle.std.specs.List.{IsDistinct};
 ghost use Rattle.std.specs.Map.{keys_of};
 ghost use Rattle.gk_terms.specs.declared.limits.TheConstants.{MOST_LINES, MOST_ZONES};
@@ -40,19 +40,21 @@ pub(crate) fn rows_in(
 {
     let mut rows = IndexMap::new(alloc);
     for command in commands {
-        if let Some(row) = row_of(command) {
-            add_row(&mut rows, zones, row)?;
+        if let Some((pattern, zone)) = row_of(command) {
+            add_row(&mut rows, zones, pattern, zone)?;
         }
     }
     Ok(rows)
 }
 
 /// The pattern of a command, and the zone that it is declared for, if it is a `zone prefix`.
-pub(crate) fn row_of(command: &Command) -> Option<(Pattern, Name)>
-    ensures { result ≡ row_of command.now }
+pub(crate) fn row_of(command: &Command) -> Option<(&Pattern, &Name)>
+    ensures { MatchOption result
+        (row_of command.now ≡ None)
+        (λ row. row_of command.now ≡ Some (row.0.now, row.1.now)) }
 {
     match command {
-        Command::ZonePrefix { zone, pattern, .. } => Some((*pattern, *zone)),
+        Command::ZonePrefix { zone, pattern, .. } => Some((pattern, zone)),
         _ => None,
     }
 }
@@ -61,22 +63,22 @@ pub(crate) fn row_of(command: &Command) -> Option<(Pattern, Name)>
 fn add_row(
     rows: &mut IndexMap<Pattern, ZoneNo>,
     zones: &IndexMap<Name, ZoneKind>,
-    row: (Pattern, Name),
+    pattern: &Pattern,
+    zone: &Name,
 ) -> Result<(), AllocError>
     requires { length zones.now.entries ≤ MOST_ZONES }
-    ensures picked { OnOk result ((pattern : PatternParts)
-        → zone_at_pattern rows.new.entries pattern ≡ (if same_pattern row.0 pattern
-        then better_in zones.now.entries (zone_at_pattern rows.old.entries row.0)
-        (number_in zones.now.entries row.1)
-        else zone_at_pattern rows.old.entries pattern)) }
+    ensures picked { OnOk result ((other : PatternParts)
+        → zone_at_pattern rows.new.entries other ≡ (if same_pattern pattern.now other
+        then better_in zones.now.entries (zone_at_pattern rows.old.entries pattern.now)
+        (number_in zones.now.entries zone.now)
+        else zone_at_pattern rows.old.entries other)) }
     ensures patterns { OnOk result
-        (keys_of rows.new.entries ≡ with_pattern (keys_of rows.old.entries) row.0) }
+        (keys_of rows.new.entries ≡ with_pattern (keys_of rows.old.entries) pattern.now) }
     ensures few { OnOk result (length rows.new.entries ≤ length rows.old.entries + 1) }
     ensures distinct { OnOk result (IsDistinct same_pattern (keys_of rows.new.entries)) }
 {
-    let (pattern, zone) = row;
-    let best = better(zones, rows.get(&pattern).copied(), number_of(zones, &zone));
-    rows.insert(pattern, best)?;
+    let best = better(zones, rows.get(pattern).copied(), number_of(zones, zone));
+    rows.insert(*pattern, best)?;
     Ok(())
 }
 

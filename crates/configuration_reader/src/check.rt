@@ -182,5 +182,5 @@ fn show_summary(line: &mut LineBuffer, count: u32, passed: u32)
     line.number(passed);
     line.word(b"passed");
     line.word(b"over");
-    line.push(b"\n");
+    line.push_byte(b'\n');
 }

@@ -5,6 +5,7 @@ use Rattle.std.proofs.lemmas.List.{take_at, take_all}
 use Rattle.itoa.proofs.Decimal.{length_one, length_two, length_pair, length_four}
 use Rattle.gk_lines.specs.LineBuffer.{ROOM_BYTES, extended}
 
+-- how many digits a number has, by the range that it is in
 pub one : (n : ℕ) → n < 10 → 1 ≡ length (decimal n)
 one n h = sym (length_one n h)
 

@@ -1,5 +1,4 @@
 pub mod DigitLemmas
-pub mod FeedLemmas
 pub mod KeptLines
 pub mod LineBufferLemmas
 pub mod LinesRead

@@ -1,7 +1,7 @@
 -- A line that is made piece by piece holds what the whole would leave there.
-use Rattle.std.proofs.Common.{◌≡◌, ℕ, zero, suc, ◌+◌, ◌-◌, ◌≤◌, ◌<◌, List, [], ◌∷◌, ◌++◌, length, get_or, take, drop, min, refl, sym, ap, ◌∙◌, length-append, length-take-le, append_assoc, zero-add, ◌*◌, lit≤, arith}
+use Rattle.std.proofs.Common.{◌≡◌, ℕ, zero, suc, ◌+◌, ◌-◌, ◌≤◌, ◌<◌, List, [], ◌∷◌, ◌++◌, length, get_or, take, drop, min, refl, sym, ap, ◌∙◌, length-append, length-take-le, set, append_assoc, zero-add, ◌*◌, lit≤, arith}
 use Rattle.std.specs.Prelude.{decimal, flat_map}
-use Rattle.std.proofs.lemmas.List.{take_more, take_at, take_min, take_all, append-nil}
+use Rattle.std.proofs.lemmas.List.{take_more, take_at, take_min, take_all, take_more_set, append-nil}
 use Rattle.std.proofs.Math.Seq.{take-append-add}
 use Rattle.gk_terms.specs.Address.{AddressParts, ip_text, address_text}
 use Rattle.gk_terms.specs.Text.{spaced, line_text}
@@ -27,6 +27,22 @@ extended-written bytes more len fits size =
     ∙ ap (λ bytes. front ++ bytes) (take_min room more)
     ∙ sym (take-append-add front more room)
     ∙ ap (λ n. take n (front ++ more)) whole
+
+-- one byte that is written after those that stand there, and one that has no room
+pub byte_written : (bytes : List ℕ) (len byte : ℕ) → len < ROOM_BYTES → length bytes ≡ ROOM_BYTES → take (len + 1) (set bytes len byte) ≡ extended (take len bytes) (byte ∷ [])
+unfolding extended
+byte_written bytes len byte room size =
+    let front = take len bytes in
+    let front_len : length front ≡ len = length-take-le len bytes (omega (arith, room, size)) in
+    let both : length (front ++ byte ∷ []) ≡ len + 1 = omega (arith, length-append front (byte ∷ []), front_len) in
+    take_more_set bytes len byte (omega (arith, room, size)) ∙ sym (take_all ROOM_BYTES (front ++ byte ∷ []) (omega (arith, both, room)))
+
+pub byte_left_out : (bytes more : List ℕ) (len : ℕ) → len ≤ ROOM_BYTES → ¬ (len < ROOM_BYTES) → length bytes ≡ ROOM_BYTES → take len bytes ≡ extended (take len bytes) more
+unfolding extended
+byte_left_out bytes more len fits full size =
+    let front = take len bytes in
+    let front_len : length front ≡ len = length-take-le len bytes (omega (arith, fits, size)) in
+    sym (take_at front more ROOM_BYTES (omega (arith, front_len, fits, full)))
 
 take_twice : (n : ℕ) (front bytes : List ℕ) → take n (take n front ++ bytes) ≡ take n (front ++ bytes)
 take_twice zero front bytes = refl

@@ -1,6 +1,7 @@
 -- A line in a buffer of fixed size, as it is read or made.
 use Rattle.std.specs.Prelude.{ℕ, ◌+◌, List, [], ◌∷◌, ◌++◌, length, take}
 use Rattle.gk_terms.specs.declared.limits.TheConstants.{MOST_LINE_BYTES}
+use Rattle.gk_lines.specs.declared.line_buffer.TheConstants.{NUMBER_ROOM}
 
 -- how many bytes of a line are kept: those of the longest line, its carriage return and its line
 -- feed
@@ -28,4 +29,4 @@ room_of (word ∷ words) = length word + 1 + room_of words
 
 -- how many digits a number of a line has at most
 abbrev pub MOST_DIGITS : ℕ
-MOST_DIGITS = 10
+MOST_DIGITS = NUMBER_ROOM

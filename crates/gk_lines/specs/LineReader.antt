@@ -1,5 +1,5 @@
 -- An input that is read in pieces, line by line.
-use Rattle.std.specs.Prelude.{◌≡◌, ◌⊎◌, ℕ, ◌+◌, ◌*◌, ◌^◌, ◌<◌, ◌==◌, Bool, true, false, IsTrue, List, [], ◌∷◌, ◌++◌, length, take}
+use Rattle.std.specs.Prelude.{◌≡◌, ◌⊎◌, ℕ, ◌+◌, ◌*◌, ◌^◌, ◌<◌, ◌≤◌, ◌==◌, Bool, true, false, IsTrue, List, [], ◌∷◌, ◌++◌, length, take}
 use Rattle.std.specs.List.{position_or_len}
 use Rattle.std.specs.Io.KnownBytes.{prepend_known, IsAtEnd}
 use Rattle.std.specs.declared.option.Option.{Option}
@@ -7,6 +7,7 @@ use Rattle.gk_terms.specs.Text.{raw_lines_of}
 use Rattle.gk_lines.specs.declared.line_reader.ReadFault.{ReadFault}
 use Rattle.gk_lines.specs.declared.line_reader.ReadFault.TheVariants.{Failed, TurnsSpent}
 use Rattle.gk_lines.specs.LineBuffer.{ROOM_BYTES}
+use Rattle.gk_lines.specs.Streams.{KnownStep}
 
 -- what was read and not yet taken, how often the reader may still be called, and whether it came to
 -- its end
@@ -34,6 +35,17 @@ is_failure TurnsSpent = false
 abbrev pub CountsTurns : ℕ → ℕ → ℕ → ℕ → Type 0
 CountsTurns calls_before calls_after turns_before turns_after =
     calls_before + turns_before < 2 ^ 64 → calls_after + turns_after ≡ calls_before + turns_before
+
+-- no more turns were taken than bytes came, if the reader tells what it has left
+abbrev pub GaveBytes : Option (List ℕ) → Option (List ℕ) → ℕ → ℕ → Type 0
+GaveBytes left_before left_after turns_before turns_after =
+    KnownStep left_before left_after
+    (λ bytes rest. turns_before + length rest ≤ length bytes + turns_after)
+
+-- how many calls a fault excuses from giving a byte: the one that failed
+abbrev pub failed_calls : ReadFault → ℕ
+failed_calls Failed = 1
+failed_calls TurnsSpent = 0
 
 -- ---- a line
 -- there is no line feed in these bytes

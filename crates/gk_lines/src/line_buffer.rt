@@ -17,7 +17,7 @@ use std::marker::Model;
 pub const ROOM: usize = MOST_LINE_BYTES + 2;
 
 /// How many digits the longest number of 32 bits has.
-const NUMBER_ROOM: usize = 10;
+pub const NUMBER_ROOM: usize = 10;
 
 /// One line, as it is read or made: its first bytes, `len` of them, are in the array. What has no
 /// room is left out. Takes no memory. A contract sees the line's bytes.
@@ -96,11 +96,22 @@ impl LineBuffer {
         self.len += count;
     }
 
+    /// Adds one byte at the end, if it has room. This is cheaper than `push` of a text of one byte,
+    /// which copies it by a call.
+    pub fn push_byte(&mut self, byte: u8)
+        ensures { self.new ≡ extended self.old (byte ∷ []) }
+    {
+        if self.len < ROOM {
+            self.bytes[self.len] = byte;
+            self.len += 1;
+        }
+    }
+
     /// Adds a word, with a space before it.
     pub fn word(&mut self, word: &[u8])
         ensures { self.new ≡ extended self.old (32 ∷ word.now) }
     {
-        self.push(b" ");
+        self.push_byte(b' ');
         self.push(word);
     }
 
@@ -126,7 +137,7 @@ impl LineBuffer {
         ensures number { self.new ≡ extended self.old (32 ∷ decimal number) }
         ensures short { length (decimal number) ≤ MOST_DIGITS }
     {
-        self.push(b" ");
+        self.push_byte(b' ');
         self.digits(number);
     }
 
@@ -173,7 +184,7 @@ impl LineBuffer {
         ensures octet { self.new ≡ extended self.old (46 ∷ decimal octet) }
         ensures short { length (decimal octet) ≤ MOST_DIGITS }
     {
-        self.push(b".");
+        self.push_byte(b'.');
         self.digits(u32::from(octet));
     }
 
@@ -183,7 +194,7 @@ impl LineBuffer {
         ensures short { length (address_text address.now) ≤ 5 * MOST_DIGITS + 4 }
     {
         self.ip(address.ip());
-        self.push(b":");
+        self.push_byte(b':');
         self.digits(u32::from(address.port()));
     }
 }

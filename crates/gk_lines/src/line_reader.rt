@@ -5,11 +5,11 @@ ghost use Rattle.std.specs.List.{position_or_len};
 ghost use Rattle.std.specs.Io.KnownBytes.{Keeps, IsAtEnd};
 ghost use Rattle.gk_lines.specs.Streams.{NotesIf, KnownStep};
 ghost use Rattle.gk_lines.specs.LineBuffer.{extended};
-ghost use Rattle.gk_lines.specs.LineReader.{work_left, length_in_line, left_of, AtEndIfEnded, CountsTurns, TakesLine, TakesPart, is_failure};
+ghost use Rattle.gk_lines.specs.LineReader.{work_left, length_in_line, left_of, AtEndIfEnded, CountsTurns, GaveBytes, failed_calls, TakesLine, TakesPart, is_failure};
 
 use crate::line_buffer::LineBuffer;
 use crate::streams::Source;
-use memchr::memchr;
+use gk_terms::text_lines::bytes_before_feed;
 use std::marker::Model;
 use thiserror::Error;
 
@@ -107,15 +107,19 @@ impl LineReader {
         ensures none_pending { IfOk result (λ more. more ≡ false → self.new.pending ≡ []) }
         ensures none_to_read { IfOk result
             (λ more. more ≡ false → IsAtEnd (R.remaining reader.new)) }
+        ensures none_left { IfOk result (λ more. more ≡ false → IsTrue self.new.ended) }
 
-        // At a fault, what was taken belongs to a line whose end was not read yet, and nothing is
-        // pending.
+        // At a fault, what was taken belongs to a line whose end was not read yet, nothing is
+        // pending, and no end of the input is noted. No more turns were taken than bytes came, the
+        // call that failed aside.
         ensures part { IfErr result (λ _. KnownStep
             (left_of self.old (R.remaining reader.old))
             (left_of self.new (R.remaining reader.new)) TakesPart) }
         ensures part_read { IfErr result (λ _. self.new.pending ≡ []) }
         ensures unended { IfErr result (λ _. self.old.ended ≡ false) }
         ensures still_unended { IfErr result (λ _. self.new.ended ≡ false) }
+        ensures turns_read { IfErr result (λ fault. GaveBytes (R.remaining reader.old)
+            (R.remaining reader.new) self.old.turns (self.new.turns + failed_calls fault)) }
 
         // An input that came to its end stays there, and gives no further line.
         ensures unended_line { IfOk result (λ more. IsTrue more → self.old.ended ≡ false) }
@@ -157,6 +161,10 @@ impl LineReader {
         ensures part_read { IfErr result (λ _. self.new.pending ≡ []) }
         ensures unended { IfErr result (λ _. self.old.ended ≡ false) }
         ensures still_unended { IfErr result (λ _. self.new.ended ≡ false) }
+        ensures turns_gave { IfOk result (λ more. IsTrue more → GaveBytes (R.remaining reader.old)
+            (R.remaining reader.new) self.old.turns self.new.turns) }
+        ensures turns_read { IfErr result (λ fault. GaveBytes (R.remaining reader.old)
+            (R.remaining reader.new) self.old.turns (self.new.turns + failed_calls fault)) }
         ensures left { Keeps (left_of self.old (R.remaining reader.old))
             (left_of self.new (R.remaining reader.new)) }
         ensures ended { AtEndIfEnded self.new (R.remaining reader.new) }
@@ -221,16 +229,5 @@ impl LineReader {
         ensures { self.new ≡ record self.old { pending = drop count self.old.pending } }
     {
         self.start += count;
-    }
-}
-
-/// How many bytes come before the first line feed.
-fn bytes_before_feed(bytes: &[u8]) -> usize
-    ensures value { result ≡ position_or_len (λ b. b == 10) bytes.now }
-    ensures within { result ≤ length bytes.now }
-{
-    match memchr(b'\n', bytes) {
-        Some(place) => place,
-        None => bytes.len(),
     }
 }

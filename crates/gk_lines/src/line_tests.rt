@@ -259,7 +259,7 @@ fn makes_numbers_and_addresses(rt: HostRuntime) -> Result<(), Fail> {
         line.begin(b"at");
         line.address(&address);
         line.ip(address.ip());
-        line.push(b"\n");
+        line.push_byte(b'\n');
         assert_eq!(rt; line.as_bytes(), want);
     }
     Ok(())

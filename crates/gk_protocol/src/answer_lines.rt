@@ -26,7 +26,7 @@ pub fn show(line: &mut LineBuffer, answer: &Answer)
     ensures { line.new ≡ Spec.line_of answer.now }
 {
     show_words(line, answer);
-    line.push(b"\n");
+    line.push_byte(b'\n');
 }
 
 /// Makes it the words of an answer.

@@ -1,4 +1,5 @@
 pub mod Digits
+pub mod FeedLemmas
 pub mod Visible
 pub mod WordsLemmas
 pub mod LinesLemmas

@@ -1,5 +1,5 @@
 -- Choices from a list: the order in the list decides between equals.
-use Rattle.std.specs.Prelude.{◌≡◌, ℕ, ◌<◌, Bool, true, false, not, List, Option, Some, None, fold, slice_get, find}
+use Rattle.std.specs.Prelude.{◌≡◌, ℕ, ◌<◌, Bool, true, false, not, List, Option, Some, None, slice_get, find}
 use Rattle.std.specs.List.{list_any, All}
 
 -- the first element that no element beats
@@ -13,10 +13,6 @@ pub record IsFirstUnbeaten {X : Type 0} (beats : X → X → Bool) (xs : List X)
   pub unbeaten : All (λ y. beats y x ≡ false) xs
   pub first : (k : ℕ) (z : X) → k < place → slice_get xs k ≡ Some z
       → list_any (λ y. beats y z) xs ≡ true
-
--- the last element, or else d
-abbrev pub last_of : {X : Type 0} → X → List X → X
-last_of d xs = fold (λ _ x. x) d xs
 
 -- the one of two that is kept when a list is gone through once: the later only if it beats the
 -- earlier

@@ -20,8 +20,8 @@ pub fn read_number(text: &[u8], least: u32, most: u32) -> Result<u32, TermFault>
     }
 }
 
-/// What a numeral says: one or more digits with no zero in front of another digit. Nothing of any
-/// other text, and if it is 2 ^ 32 or more.
+/// The value of a numeral: one or more digits, without a leading zero except in `0` itself. None
+/// for any other text, and for a value of 2 ^ 32 or more.
 fn value_of_numeral(text: &[u8]) -> Option<u32>
     ensures { SomeIff result (IsTrue (is_numeral text.now) × (value_of text.now < 2 ^ 32))
         (value_of text.now) }
@@ -33,7 +33,8 @@ fn value_of_numeral(text: &[u8]) -> Option<u32>
 }
 
 #[tactic(auto, using(crate::proofs::Digits::one_digit_more))]
-/// What digits say, or nothing if a byte is not a digit or that is 2 ^ 32 or more.
+/// The value of a text of digits, 0 if it is empty. None if a byte is not a digit, and for a value
+/// of 2 ^ 32 or more.
 fn value_of(text: &[u8]) -> Option<u32>
     ensures { SomeIff result
         (IsTrue (list_all is_ascii_digit text.now) × (value_of text.now < 2 ^ 32))

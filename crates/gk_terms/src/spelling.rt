@@ -114,9 +114,7 @@ fn filled<const SIZE: usize>(text: &[u8]) -> [u8; SIZE]
     ensures { result ≡ padded SIZE text.now }
 {
     let mut bytes = [0; SIZE];
-    for (place, byte) in text.iter().enumerate() {
-        bytes[place] = *byte;
-    }
+    bytes[..text.len()].copy_from_slice(text);
     bytes
 }
 

@@ -1,10 +1,11 @@
 //! The lines of a text.
 
-ghost use Rattle.std.specs.Prelude.{◌≡◌, ℕ, ◌<◌, ◌==◌, List, [], ◌∷◌, length};
+ghost use Rattle.std.specs.Prelude.{◌≡◌, ℕ, ◌<◌, ◌≤◌, ◌==◌, List, [], ◌∷◌, length};
 ghost use Rattle.std.specs.List.{position_or_len};
 ghost use Rattle.std.specs.Iterator.{YieldsFirstBy, item_count};
 ghost use Rattle.gk_terms.specs.Text.{raw_lines_of, content_of};
 
+use memchr::memchr;
 use std::marker::Model;
 
 /// The lines of a text, from the first, each with its line feed; the last may have none.
@@ -53,7 +54,7 @@ fn first_line(text: &[u8]) -> (&[u8], &[u8])
     requires { 0 < length text.now }
     ensures { raw_lines_of text.now ≡ result.0.now ∷ raw_lines_of result.1.now }
 {
-    let end = length_of_line(text);
+    let end = bytes_before_feed(text);
     if end < text.len() {
         text.split_at(end + 1)
     } else {
@@ -61,11 +62,15 @@ fn first_line(text: &[u8]) -> (&[u8], &[u8])
     }
 }
 
-/// How many bytes come before the first line feed.
-fn length_of_line(text: &[u8]) -> usize
-    ensures { result ≡ position_or_len (λ b. b == 10) text.now }
+/// How many bytes come before the first line feed; all of them if there is none.
+pub fn bytes_before_feed(text: &[u8]) -> usize
+    ensures value { result ≡ position_or_len (λ b. b == 10) text.now }
+    ensures within { result ≤ length text.now }
 {
-    text.iter().take_while(|byte| **byte != b'\n').count()
+    match memchr(b'\n', text) {
+        Some(place) => place,
+        None => text.len(),
+    }
 }
 
 /// What a line says: without its line feed and one carriage return just before that. A last line

@@ -5,7 +5,7 @@ use Rattle.std.specs.List.{position_or_len}
 use Rattle.command_reader.specs.declared.commands.Command.{Command}
 use Rattle.command_reader.specs.declared.faults.FaultKind.TheVariants.{UnknownZone}
 use Rattle.command_reader.specs.Progress.{Progress, line_count, commands_in, with_numbers}
-use Rattle.command_reader.specs.Reading.{fault_at, names_unknown, unknown_zone}
+use Rattle.command_reader.specs.Reading.{fault_at, with_command, names_unknown, unknown_zone}
 
 -- the commands alone
 pub commands_with_numbers : (numbers : List ℕ) (commands : List Command) → length numbers ≡ length commands → map (λ n. n.command) (with_numbers numbers commands) ≡ commands
@@ -68,3 +68,11 @@ held_unknown numbers commands passed read h is =
     ap (λ cs. option_map (λ number. fault_at number UnknownZone) (slice_get numbers (position_or_len p cs))) (held_commands numbers commands passed read h is)
     ∙ first_number p numbers commands h
     ∙ ap (λ (r : Progress). option_map (λ n. fault_at n.line UnknownZone) (find (λ n. p n.command) r.kept)) is
+
+-- with one more command and its number
+pub held_more : (numbers new_numbers : List ℕ) (commands new_commands : List Command) (passed count : ℕ) (read : Progress) (command : Command) → length numbers ≡ length commands
+    → record { kept = with_numbers numbers commands; passed = passed } ≡ read → count ≡ line_count read
+    → new_commands ≡ commands ++ command ∷ [] → new_numbers ≡ numbers ++ (count + 1) ∷ []
+    → with_command read command ≡ record { kept = with_numbers new_numbers new_commands; passed = passed }
+held_more numbers new_numbers commands new_commands passed count read command h is counted one_command one_number =
+    rw (one_command, one_number, counted, one_more_number _ _ _ _ h, ← is) refl

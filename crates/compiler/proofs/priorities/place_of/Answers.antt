@@ -6,16 +6,16 @@ use Rattle.compiler.proofs.priorities.place_of.Goals as goal
 pub returns-in_err-place : goal.returns-in_err-place
 returns-in_err-place c = λ place row at.
     let zones = c.args.zones.now.entries in
-    ap (is_about zones row) (sym c.row_of.ensures ∙ c.in_ok-row.was)
-    ∙ about_none zones c.args.rows.now.entries c.in_ok-row.row
+    ap (is_about zones row) c.in_ok-row.ensures
+    ∙ about_none zones c.args.rows.now.entries (c.in_ok-row.row.0.now, c.in_ok-row.row.1.now)
     (sym c.get_index_of.ensures.index ∙ c.in_err-place.was) place row at
     ∙ ap (λ found. is_place found place) (sym c.from_residual-in_err-place.ensures)
 
 pub returns-then-eq : goal.returns-then-eq
 returns-then-eq c = λ place row at.
     let zones = c.args.zones.now.entries in
-    ap (is_about zones row) (sym c.row_of.ensures ∙ c.in_ok-row.was)
-    ∙ about_some zones c.args.rows.now.entries c.in_ok-row.row c.in_ok-place.place
+    ap (is_about zones row) c.in_ok-row.ensures
+    ∙ about_some zones c.args.rows.now.entries (c.in_ok-row.row.0.now, c.in_ok-row.row.1.now) c.in_ok-place.place
     c.in_ok-picked.field-0-0.now c.in_ok-picked.picked.now _ c.get_index_of.ensures.unique
     (sym c.get_index_of.ensures.index ∙ c.in_ok-place.was)
     (sym c.in_ok-picked.ensures.entry)
@@ -25,8 +25,8 @@ returns-then-eq c = λ place row at.
 pub returns-else-eq : goal.returns-else-eq
 returns-else-eq c = λ place row at.
     let zones = c.args.zones.now.entries in
-    ap (is_about zones row) (sym c.row_of.ensures ∙ c.in_ok-row.was)
-    ∙ about_some zones c.args.rows.now.entries c.in_ok-row.row c.in_ok-place.place
+    ap (is_about zones row) c.in_ok-row.ensures
+    ∙ about_some zones c.args.rows.now.entries (c.in_ok-row.row.0.now, c.in_ok-row.row.1.now) c.in_ok-place.place
     c.in_ok-picked.field-0-0.now c.in_ok-picked.picked.now _ c.get_index_of.ensures.unique
     (sym c.get_index_of.ensures.index ∙ c.in_ok-place.was)
     (sym c.in_ok-picked.ensures.entry)

@@ -6,4 +6,4 @@ use Rattle.compiler.proofs.rows.add_row.Goals as goal
 pub returns-clause-patterns : goal.returns-clause-patterns
 returns-clause-patterns c =
     ap keys_of c.in_ok-insert.ensures.entries
-    ∙ patterns-insert c.args.rows.now.entries c.args.row.0 c.better-best.result
+    ∙ patterns-insert c.args.rows.now.entries c.args.pattern.now c.better-best.result

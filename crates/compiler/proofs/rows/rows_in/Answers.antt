@@ -1,4 +1,4 @@
-use Rattle.std.proofs.Common.{◌≡◌, ap, sym, ◌∙◌, take, length, ◌+◌, ◌++◌, ◌∷◌, [], arith}
+use Rattle.std.proofs.Common.{◌≡◌, ap, take, length, ◌+◌, ◌++◌, ◌∷◌, [], arith}
 use Rattle.compiler.proofs.FirstRows.{same_pattern-same}
 use Rattle.compiler.proofs.StepLemmas.{take_with, rows_same, rows_more}
 use Rattle.compiler.proofs.rows.rows_in.Goals as goal
@@ -15,9 +15,9 @@ loop-command-preserved c =
       | in-Some+in_ok-add_row w ↦ record {
         rows = rw (more, w.rows-is)
             (rows_more zones (take place commands) c.command-item.result
-            w.in-Some.row c.loop-command.rows.entries
+            (w.in-Some.pattern.now, w.in-Some.zone.now) c.loop-command.rows.entries
             w.add_row.new.rows.entries c.loop-command.invariant.rows
-            (sym c.row_of.ensures ∙ w.in-Some.is)
+            w.in-Some.ensures
             w.in_ok-add_row.ensures.picked
             w.in_ok-add_row.ensures.patterns same_pattern-same);
         distinct = rw w.rows-is w.in_ok-add_row.ensures.distinct;
@@ -27,7 +27,7 @@ loop-command-preserved c =
       | in_default w ↦ record {
         rows = rw (more, w.rows-is)
             (rows_same zones (take place commands) c.command-item.result c.loop-command.rows.entries
-            c.loop-command.invariant.rows (sym c.row_of.ensures ∙ w.in_default.is));
+            c.loop-command.invariant.rows w.in_default.ensures);
         distinct = rw w.rows-is c.loop-command.invariant.distinct;
         few = let e = ap (λ rows. length rows.entries) w.rows-is in omega
             (arith, c.loop-command.invariant.few);

@@ -8,7 +8,7 @@ use Rattle.command_reader.proofs.draft.Draft.into_commands.Goals as goal
 
 pub new-requires-clause-accepted : goal.new-requires-clause-accepted
 new-requires-clause-accepted c =
-    let same = held_commands c.self.inside.numbers.items _ _ _ c.self.invariant.0 c.self.view_is in
+    let same = held_commands c.self.inside.kept.numbers.items _ _ _ c.self.invariant.0 c.self.view_is in
     subst IsAccepted same (accepted_lines c.args.self (subst IsPrintable (sym same) c.self.invariant.3) c.requires.declared c.requires.has_local)
 
 -- both parts of a configuration
@@ -19,5 +19,5 @@ same_parts configuration read commands passed =
 
 pub returns : goal.returns
 returns c =
-    let same = held_commands c.self.inside.numbers.items _ _ _ c.self.invariant.0 c.self.view_is in
+    let same = held_commands c.self.inside.kept.numbers.items _ _ _ c.self.invariant.0 c.self.view_is in
     same_parts c.new.result c.args.self (c.new.ensures.commands ∙ sym same) (c.new.ensures.passed ∙ ap (λ (read : Progress). read.passed) c.self.view_is)

@@ -1,7 +1,7 @@
 use Rattle.std.proofs.Common.{sym, ◌∙◌, ltb-true, ltb-false, length-drop, arith}
 use Rattle.gk_lines.specs.LineReader.{length_in_line}
 use Rattle.gk_lines.proofs.LinesRead.{line_at_feed, line_at_end, line_goes_on, part_taken, still_left}
-use Rattle.gk_lines.proofs.PendingLemmas.{turns_then}
+use Rattle.gk_lines.proofs.PendingLemmas.{turns_then, gave_then}
 use Rattle.std.proofs.lemmas.Result.{err_from_is_err_and}
 use Rattle.gk_lines.proofs.line_reader.LineReader.next_line.Goals as goal
 
@@ -25,6 +25,11 @@ returns-in_err-fill-clause-part g c =
     let p = err_from_is_err_and c.from_residual.result c.from_residual.ensures.1 in
     rw (p.1) (part_taken _ _ _ _ _ c.loop-more.invariant.line c.fill.ensures.left)
 
+pub returns-in_err-fill-clause-turns_read : goal.returns-in_err-fill-clause-turns_read
+returns-in_err-fill-clause-turns_read g c =
+    let p = err_from_is_err_and c.from_residual.result c.from_residual.ensures.1 in
+    rw (p.1, p.2) (gave_then _ _ _ _ _ _ c.loop-more.invariant.gave c.in_err-fill.ensures.turns_read)
+
 pub loop-more-preserved : goal.loop-more-preserved
 loop-more-preserved g c =
     let some = c.in_ok-fill.ensures.more c.if-branch.true in
@@ -37,5 +42,6 @@ loop-more-preserved g c =
       stays_ended = λ open_still. c.loop-more.invariant.stays_ended (c.fill.ensures.stays_ended (sym c.take_part.ensures.same_end ∙ open_still));
       line = rw (c.take_part.ensures.taken, c.take_part.ensures.kept) (line_goes_on _ _ _ _ _ _ c.loop-more.invariant.line c.fill.ensures.left some past);
       turns = rw (c.take_part.ensures.turns) (turns_then _ _ _ _ _ _ c.loop-more.invariant.turns c.fill.ensures.turns);
+      gave = rw (c.take_part.ensures.turns) (gave_then _ _ _ _ _ _ c.loop-more.invariant.gave (c.in_ok-fill.ensures.turns_gave c.if-branch.true));
       noted = c.in_ok-fill.ensures.noted ∙ c.loop-more.invariant.noted;
     }

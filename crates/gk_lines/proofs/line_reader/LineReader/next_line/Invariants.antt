@@ -1,5 +1,5 @@
 use Rattle.std.proofs.Common.{◌≡◌, ◌<◌, ◌≤◌, IsTrue, false}
-use Rattle.gk_lines.specs.LineReader.{work_left, left_of, AtEndIfEnded, CountsTurns}
+use Rattle.gk_lines.specs.LineReader.{work_left, left_of, AtEndIfEnded, CountsTurns, GaveBytes}
 use Rattle.gk_lines.proofs.LinesRead.{LineSoFar}
 use Rattle.gk_lines.proofs.line_reader.LineReader.next_line.Given as goal
 
@@ -12,6 +12,7 @@ invariant-loop-more g l = record {
   stays_ended : l.self.ended ≡ false → l.fn.self.ended ≡ false;
   line : LineSoFar (left_of l.fn.self (g.R.Source.remaining l.fn.reader)) (left_of l.self (g.R.Source.remaining l.reader)) l.line l.more;
   turns : CountsTurns (g.R.Source.calls l.fn.reader) (g.R.Source.calls l.reader) l.fn.self.turns l.self.turns;
+  gave : GaveBytes (g.R.Source.remaining l.fn.reader) (g.R.Source.remaining l.reader) l.fn.self.turns l.self.turns;
   noted : g.R.Source.has_failed l.reader ≡ g.R.Source.has_failed l.fn.reader;
 }
 
