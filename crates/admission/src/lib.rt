@@ -7,7 +7,7 @@ pub mod laws;
 mod settling;
 
 pub use cores::{Core, OpeningFault};
-pub use decision_record::{Entry, EntryEvent, Receipt, Record};
+pub use decision_record::{Entry, EntryEvent, Receipt, Record, ReloadedCommands};
 pub use rulings::{
     AdmitRefusal, ChangeRefusal, Destination, Duplicate, Event, EventKind, Limits, RegisterRefusal,
     ReleaseRefusal, ReloadRefusal, Reply, Route, RouteRefusal, STATED_LIMITS, UnregisterRefusal,

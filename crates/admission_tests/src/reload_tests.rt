@@ -4,8 +4,8 @@ use crate::test_cores::{
     admission, away, core_within, entry, other_tables, receipt_of, tables, terminal,
 };
 use admission::{
-    Core, EntryEvent, Event, EventKind, Limits, Receipt, Record, ReloadRefusal, Reply,
-    STATED_LIMITS, UnregisterRefusal,
+    Core, EntryEvent, Event, EventKind, Limits, Receipt, Record, ReloadRefusal, ReloadedCommands,
+    Reply, STATED_LIMITS, UnregisterRefusal,
 };
 use compiler::Tables;
 use gk_terms::{Dialled, Name, Units, Version};
@@ -96,10 +96,10 @@ fn assert_held_reload(
     reloaded(core, alloc)?;
     core.reload(Arc::try_clone(held)?)?;
     reloaded(core, alloc)?;
-    for (number, lines) in [(1, 3), (2, 4), (3, 3)] {
+    for (number, as_lines, commands) in [(1, true, 3), (2, false, 4), (3, false, 3)] {
         assert_eq!(rt;
-            lines_asked_for(core.record(), number)?,
-            lines,
+            commands_reloaded(core.record(), alloc, number)?,
+            (as_lines, commands),
             "entry {number}"
         );
     }
@@ -107,10 +107,14 @@ fn assert_held_reload(
     Ok(())
 }
 
-/// How many commands the entry of this number put in force.
-fn lines_asked_for(record: &Record, number: u32) -> Result<usize, Fail> {
+/// Whether the entry of this number has the lines of its commands alone, and how many commands it
+/// put in force.
+fn commands_reloaded(record: &Record, alloc: Global, number: u32) -> Result<(bool, usize), Fail> {
     match &entry(record, number)?.event {
-        EntryEvent::Reload(commands) => Ok(commands.len()),
+        EntryEvent::Reload(reloaded) => {
+            let as_lines = matches!(reloaded, ReloadedCommands::Lines(_));
+            Ok((as_lines, reloaded.commands(alloc)?.len()))
+        }
         EntryEvent::Asked(_) => Err(Fail::new("not a reload")),
     }
 }

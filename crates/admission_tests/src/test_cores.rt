@@ -18,7 +18,7 @@ const ZONES: &[u8] = b"zone local gk-a example.com\n\
     zone prefix gk-x 9*\n";
 
 /// Limits of which one is 0 or above the stated one.
-pub const BAD_LIMITS: [Limits; 8] = [
+pub(crate) const BAD_LIMITS: [Limits; 8] = [
     Limits {
         endpoints: 0,
         ..STATED_LIMITS
@@ -65,27 +65,32 @@ fn tables_of(alloc: Global, configuration: &[u8]) -> Result<Arc<Tables>, Fail> {
 }
 
 /// The tables that a core opens with.
-pub fn tables(alloc: Global) -> Result<Arc<Tables>, Fail> {
+pub(crate) fn tables(alloc: Global) -> Result<Arc<Tables>, Fail> {
     tables_of(alloc, ZONES)
 }
 
 /// The tables of the other zones.
-pub fn other_tables(alloc: Global) -> Result<Arc<Tables>, Fail> {
+pub(crate) fn other_tables(alloc: Global) -> Result<Arc<Tables>, Fail> {
     tables_of(alloc, OTHER_ZONES)
 }
 
 /// What opening a core with these limits answers.
-pub fn opening(alloc: Global, limits: Limits) -> Result<Result<Core, OpeningFault>, Fail> {
+pub(crate) fn opening(alloc: Global, limits: Limits) -> Result<Result<Core, OpeningFault>, Fail> {
     Ok(Core::new(alloc, tables(alloc)?, limits))
 }
 
 /// A core with these limits.
-pub fn core_within(alloc: Global, limits: Limits) -> Result<Core, Fail> {
+pub(crate) fn core_within(alloc: Global, limits: Limits) -> Result<Core, Fail> {
     Ok(opening(alloc, limits)??)
 }
 
 /// A terminal of `gk-a` at 10.0.1.HOST, with these aliases.
-pub fn terminal(alloc: Global, id: &[u8], host: u8, aliases: &[&[u8]]) -> Result<Endpoint, Fail> {
+pub(crate) fn terminal(
+    alloc: Global,
+    id: &[u8],
+    host: u8,
+    aliases: &[&[u8]],
+) -> Result<Endpoint, Fail> {
     let mut endpoint = Endpoint::new(
         alloc,
         EndpointKind::Terminal,
@@ -100,7 +105,7 @@ pub fn terminal(alloc: Global, id: &[u8], host: u8, aliases: &[&[u8]]) -> Result
 }
 
 /// The admission of a call of 640 units.
-pub fn admission(id: &[u8], call: u32, digits: &[u8]) -> Result<Event, Fail> {
+pub(crate) fn admission(id: &[u8], call: u32, digits: &[u8]) -> Result<Event, Fail> {
     Ok(Event::Admit {
         id: Name::read(id)?,
         call,
@@ -110,7 +115,7 @@ pub fn admission(id: &[u8], call: u32, digits: &[u8]) -> Result<Event, Fail> {
 }
 
 /// The receipt of an event that is recorded.
-pub fn receipt_of(core: &mut Core, event: Event) -> Result<Receipt, Fail> {
+pub(crate) fn receipt_of(core: &mut Core, event: Event) -> Result<Receipt, Fail> {
     let (reply, receipt) = core.answer(event)?;
     if reply != receipt.reply {
         return Err(Fail::new("the receipt has another reply"));
@@ -119,7 +124,7 @@ pub fn receipt_of(core: &mut Core, event: Event) -> Result<Receipt, Fail> {
 }
 
 /// The reply to an event that is not recorded.
-pub fn reply_of_unrecorded(core: &mut Core, event: Event) -> Result<Reply, Fail> {
+pub(crate) fn reply_of_unrecorded(core: &mut Core, event: Event) -> Result<Reply, Fail> {
     match core.answer(event) {
         Ok(_) => Err(Fail::new("the event is recorded")),
         Err(reply) => Ok(reply),
@@ -128,7 +133,7 @@ pub fn reply_of_unrecorded(core: &mut Core, event: Event) -> Result<Reply, Fail>
 
 /// A registration, an admission, the same admission again, and an unregistration of each of two
 /// IDs.
-pub fn five_events(alloc: Global, core: &mut Core) -> Result<[Receipt; 5], Fail> {
+pub(crate) fn five_events(alloc: Global, core: &mut Core) -> Result<[Receipt; 5], Fail> {
     let ta = Name::read(b"ta")?;
     let tb = Name::read(b"tb")?;
     let endpoint = terminal(alloc, b"ta", 1, &[b"4085551000"])?;
@@ -142,7 +147,7 @@ pub fn five_events(alloc: Global, core: &mut Core) -> Result<[Receipt; 5], Fail>
 }
 
 /// The remote zone as a destination.
-pub fn away() -> Result<Destination, Fail> {
+pub(crate) fn away() -> Result<Destination, Fail> {
     Ok(Destination::Zone {
         name: Name::read(b"gk-x")?,
         address: Address::new([10, 9, 0, 1], 1719),
@@ -150,7 +155,7 @@ pub fn away() -> Result<Destination, Fail> {
 }
 
 /// The entry of this number.
-pub fn entry(record: &Record, number: u32) -> Result<Entry<'_>, Fail> {
+pub(crate) fn entry(record: &Record, number: u32) -> Result<Entry<'_>, Fail> {
     match record.get(number) {
         Some(entry) => Ok(entry),
         None => Err(Fail::new("no such entry")),

@@ -1,7 +1,7 @@
 //! Whether a call fits the limits in force. From Cisco's `bandwidth` command; the order in which
 //! the sums are tried is this project's profile.
 
-ghost use Rattle.std.specs.Prelude.{◌≡◌, ◌≤◌, ◌<◌, ◌+◌, ◌^◌, None, false, option_map, if◌then◌else◌};
+ghost use Rattle.std.specs.Prelude.{◌≡◌, ◌<◌, ◌+◌, ◌^◌, None, false, option_map, if◌then◌else◌};
 ghost use Rattle.std.specs.Option.{option_copied};
 ghost use Rattle.std.specs.Result.{result_err};
 ghost use Rattle.command_reader.specs.declared.commands.LimitKind.TheVariants.{Interzone};

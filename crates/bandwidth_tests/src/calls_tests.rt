@@ -6,7 +6,12 @@ use std::process::Abort;
 use std::test::Fail;
 
 /// A call of `ta` between these zones.
-pub fn call_between(number: u32, source: &str, target: &str, units: u32) -> Result<OpenCall, Fail> {
+pub(crate) fn call_between(
+    number: u32,
+    source: &str,
+    target: &str,
+    units: u32,
+) -> Result<OpenCall, Fail> {
     Ok(OpenCall {
         number,
         owner: Name::read(b"ta")?,
@@ -18,7 +23,7 @@ pub fn call_between(number: u32, source: &str, target: &str, units: u32) -> Resu
 }
 
 /// The zone has these sums.
-pub fn assert_sums(
+pub(crate) fn assert_sums(
     rt: &impl Abort,
     calls: &OpenCalls,
     zone: &str,

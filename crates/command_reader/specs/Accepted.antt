@@ -29,13 +29,17 @@ pub record PrintsBack (command : Command) : Type 0 where
   pub words : list_all is_word (command_words command) ≡ true
   pub fits : length (canonical_line command) ≤ MOST_LINE_BYTES
 
--- commands whose canonical lines are read one after another as these commands
-pub record IsPrintable (commands : List Command) : Type 0 where
-  pub each : All PrintsBack commands
+-- lines that say these commands, one each, if they are read one after another
+pub record LinesSay (lines : List (List ℕ)) (commands : List Command) : Type 0 where
   pub read : Progress
-  pub whole : lines_after nothing_read (map canonical_line commands) ≡ Ok read
+  pub whole : lines_after nothing_read lines ≡ Ok read
   pub same : commands_in read ≡ commands
   pub none_passed : read.passed ≡ 0
+
+-- commands that their canonical lines say
+pub record IsPrintable (commands : List Command) : Type 0 where
+  pub each : All PrintsBack commands
+  pub again : LinesSay (map canonical_line commands) commands
 
 -- commands of an accepted configuration: each zone that one names is declared by one, and one is
 -- local

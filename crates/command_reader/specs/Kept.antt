@@ -13,12 +13,14 @@ pub record AddsCommand (old new : Kept) (command : Command) : Type 0 where
   pub declared : AddsDeclared (keys old.declared) (keys new.declared) command
   pub commands : new.commands.items ≡ old.commands.items ++ command ∷ []
   pub numbers : new.numbers.items ≡ old.numbers.items ++ old.line ∷ []
+  pub line : new.line ≡ old.line
 
 -- the same is kept
 pub record KeepsAll (old new : Kept) : Type 0 where
   pub commands : new.commands.items ≡ old.commands.items
   pub numbers : new.numbers.items ≡ old.numbers.items
   pub declared : keys new.declared ≡ keys old.declared
+  pub line : new.line ≡ old.line
 
 -- what a line says was added: its command, or nothing if it is passed over
 abbrev pub AddsSaid : Kept → Kept → Option Command → Type 0

@@ -11,5 +11,6 @@ pub mod Printing
 pub mod Progress
 pub mod Reading
 pub mod TechnologyLine
+pub mod WholeLines
 pub mod ZoneLine
 pub mod Zones

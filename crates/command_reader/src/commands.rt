@@ -1,10 +1,12 @@
 //! The commands of a configuration.
 
-ghost use Rattle.std.specs.Prelude.{◌≡◌, ◌==◌, ◌≤◌, length, slice_get};
+ghost use Rattle.std.specs.Prelude.{◌≡◌, ◌==◌, ◌≤◌, length, slice_get, IfSome, MatchResult};
 ghost use Rattle.std.specs.Option.{option_copied};
-ghost use Rattle.command_reader.specs.Accepted.{IsAccepted};
+ghost use Rattle.command_reader.specs.Accepted.{IsAccepted, LinesSay};
 
+use crate::command_lines::CommandLines;
 use crate::names::Names;
+use crate::whole_lines::WholeLines;
 use crate::zones::ZoneKind;
 use digit_patterns::Pattern;
 use gk_terms::limits::MOST_LINES;
@@ -115,6 +117,16 @@ impl Command {
     }
 }
 
+/// Kept lines without room for more.
+fn shrunk(lines: Option<WholeLines>) -> Option<WholeLines>
+    ensures { result ≡ lines }
+{
+    match lines {
+        Some(lines) => Some(lines.shrunk()),
+        None => None,
+    }
+}
+
 /// What a bandwidth limit bounds.
 #[derive(Clone, Copy, Debug, PartialEq, Eq)]
 pub enum LimitKind {
@@ -146,30 +158,41 @@ pub struct LocalAddress {
 
 /// The commands of an accepted configuration, in line order, and how many of its lines were passed
 /// over. A contract sees both as a `Configuration`.
+///
+/// `lines` are the lines that said the commands, if they were kept.
 #[derive(Drop)]
 pub struct Commands {
     commands: Vec<Command>,
     passed_over: u32,
+    lines: Option<WholeLines>,
 }
 
 impl Model for Commands {
-    ghost use Rattle.std.specs.Prelude.{◌≤◌, length};
+    ghost use Rattle.std.specs.Prelude.{◌≤◌, length, IfSome};
     ghost use Rattle.gk_terms.specs.declared.limits.TheConstants.{MOST_LINES};
-    ghost use Rattle.command_reader.specs.Accepted.{IsAccepted};
+    ghost use Rattle.command_reader.specs.Accepted.{IsAccepted, LinesSay};
     ghost use Rattle.command_reader.specs.Configuration.{Configuration};
 
     ghost Value = { Configuration };
 
     ghost view = { λ c. record { commands = c.commands.items; passed = c.passed_over } };
 
-    ghost invariant = { λ c. (length c.commands.items ≤ MOST_LINES) × IsAccepted c.commands.items };
+    ghost invariant = { λ c. (length c.commands.items ≤ MOST_LINES)
+        × IsAccepted c.commands.items
+        × IfSome c.lines (λ lines. LinesSay lines c.commands.items) };
 }
 
 impl Commands {
-    /// Commands that were accepted. Room for more of them is freed, if the smaller block is given.
-    pub(crate) fn new(mut commands: Vec<Command>, passed_over: u32) -> Commands
+    /// Commands that were accepted, and the lines that said them, if they were kept. Room for more
+    /// of either is freed, if the smaller block is given.
+    pub(crate) fn new(
+        mut commands: Vec<Command>,
+        passed_over: u32,
+        lines: Option<WholeLines>,
+    ) -> Commands
         requires within { length commands.items ≤ MOST_LINES }
         requires accepted { IsAccepted commands.items }
+        requires said { IfSome lines (λ lines. LinesSay lines commands.items) }
         ensures commands { result.commands ≡ commands.items }
         ensures passed { result.passed ≡ passed_over }
     {
@@ -177,6 +200,30 @@ impl Commands {
         Commands {
             commands,
             passed_over,
+            lines: shrunk(lines),
+        }
+    }
+
+    /// The lines of the commands in place of the commands, which are read again from them when they
+    /// are asked for. A line takes some 35 bytes, and at most 513, and a command 272. If the lines
+    /// were not kept, the commands are handed back. It takes no memory.
+    pub fn into_lines(self) -> Result<CommandLines, Commands>
+        ensures { MatchResult result
+            (λ lines. lines ≡ self.commands)
+            (λ commands. commands ≡ self) }
+    {
+        let Commands {
+            commands,
+            passed_over,
+            lines,
+        } = self;
+        match lines {
+            Some(lines) => Ok(CommandLines::new(lines)),
+            None => Err(Commands {
+                commands,
+                passed_over,
+                lines: None,
+            }),
         }
     }
 

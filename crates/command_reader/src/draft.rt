@@ -5,11 +5,13 @@ ghost use Rattle.std.specs.List.{list_any, position_or_len};
 ghost use Rattle.command_reader.specs.Progress.{line_count, commands_in};
 ghost use Rattle.command_reader.specs.Zones.{first_local_of, is_declared, is_local_command};
 ghost use Rattle.command_reader.specs.Reading.{nothing_read, line_after, fault_at, finished, names_unknown, unknown_zone, LacksMemoryFor, MayReadLine, ReadsLine};
+ghost use Rattle.command_reader.specs.WholeLines.{KeepsLine};
 
 use crate::commands::{Command, Commands};
 use crate::faults::{FaultKind, LineFault};
 use crate::first_words::add_line;
 use crate::kept::Kept;
+use crate::whole_lines::WholeLines;
 use gk_terms::Name;
 use gk_terms::limits::MOST_LINES;
 use std::alloc::Global;
@@ -18,18 +20,22 @@ use std::marker::Model;
 
 /// The lines read so far: the kept commands, the number of each one's line, how many lines were
 /// passed over, and the names of the declared zones. A contract sees them as `Progress`.
+///
+/// `command_lines` are the lines that said the commands, if they are kept: from the first one that
+/// finds no memory on, they are not.
 #[derive(Drop)]
 pub struct Draft {
     alloc: Global,
     kept: Kept,
     passed: u32,
+    command_lines: Option<WholeLines>,
 }
 
 impl Model for Draft {
-    ghost use Rattle.std.specs.Prelude.{◌≡◌, ◌+◌, ◌≤◌, length};
+    ghost use Rattle.std.specs.Prelude.{◌≡◌, ◌+◌, ◌≤◌, length, IfSome};
     ghost use Rattle.std.specs.HashSet.{keys};
     ghost use Rattle.gk_terms.specs.declared.limits.TheConstants.{MOST_LINES};
-    ghost use Rattle.command_reader.specs.Accepted.{IsPrintable};
+    ghost use Rattle.command_reader.specs.Accepted.{IsPrintable, LinesSay};
     ghost use Rattle.command_reader.specs.Index.{AreDeclared};
     ghost use Rattle.command_reader.specs.Progress.{Progress, with_numbers};
 
@@ -43,12 +49,13 @@ impl Model for Draft {
     ghost invariant = { λ d. (length d.kept.numbers.items ≡ length d.kept.commands.items)
         × (length d.kept.commands.items + d.passed ≤ MOST_LINES)
         × AreDeclared (keys d.kept.declared) d.kept.commands.items
-        × IsPrintable d.kept.commands.items };
+        × IsPrintable d.kept.commands.items
+        × IfSome d.command_lines (λ lines. LinesSay lines d.kept.commands.items) };
 }
 
 impl Draft {
     #[tactic(auto, using(crate::proofs::read_back::File::none_printable))]
-    /// Nothing read yet.
+    /// Nothing read yet. The lines that say the commands will not be kept.
     pub fn new(alloc: Global) -> Draft
         ensures { result ≡ nothing_read }
     {
@@ -61,13 +68,15 @@ impl Draft {
                 line: 0,
             },
             passed: 0,
+            command_lines: None,
         }
     }
 
-    #[tactic(auto, using(crate::proofs::read_back::File::none_printable))]
-    /// The same with room for so many commands, if there is memory for it: else the draft takes
-    /// memory as it is read, so that only a line that finds none is refused.
-    pub fn with_room(alloc: Global, commands: usize) -> Draft
+    #[tactic(auto, using(crate::proofs::read_back::File::none_printable, crate::proofs::read_back::File::none_said))]
+    /// Nothing read yet, with room for so many commands, if there is memory for it: else the draft
+    /// takes memory as it is read, so that only a line that finds none is refused. The lines that
+    /// say the commands will be kept, if there is memory for them.
+    pub fn keeping_lines(alloc: Global, commands: usize) -> Draft
         ensures { result ≡ nothing_read }
     {
         Draft {
@@ -79,6 +88,7 @@ impl Draft {
                 line: 0,
             },
             passed: 0,
+            command_lines: Some(WholeLines::new(alloc)),
         }
     }
 
@@ -123,10 +133,11 @@ impl Draft {
         if before >= MOST_LINES {
             return Err(FaultKind::TooMany);
         }
-        let kept = self.kept.commands.len();
+        let commands_before = self.kept.commands.len();
         self.kept.line = before as u32 + 1;
         add_line(&mut self.kept, self.alloc, line)?;
-        if self.kept.commands.len() > kept {
+        if self.kept.commands.len() > commands_before {
+            self.command_lines = keep_line(self.command_lines.take(), line);
             return Ok(());
         }
         self.passed += 1;
@@ -203,9 +214,21 @@ impl Draft {
         requires has_local { is_some (first_local_of (commands_in self)) ≡ true }
         ensures { result ≡ record { commands = commands_in self; passed = self.passed } }
     {
-        let Draft { kept, passed, .. } = self;
-        Commands::new(kept.commands, passed)
+        let Draft {
+            kept,
+            passed,
+            command_lines,
+            ..
+        } = self;
+        Commands::new(kept.commands, passed, command_lines)
     }
+}
+
+/// The lines with one more; nothing from the first one on that cannot be kept.
+fn keep_line(lines: Option<WholeLines>, line: &[u8]) -> Option<WholeLines>
+    ensures { KeepsLine lines line.now result }
+{
+    lines?.with_line(line)
 }
 
 /// No items, and room for so many if there is memory for it.

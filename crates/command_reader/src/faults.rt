@@ -1,7 +1,7 @@
 //! Why a configuration is refused.
 
 use gk_terms::fields::FieldFault;
-use std::alloc::{AllocError, AllocFailed};
+use std::alloc::AllocError;
 use thiserror::Error;
 
 /// The kind of a fault of a configuration line.
@@ -64,17 +64,6 @@ impl FieldFault for FaultKind {
 
     fn extra() -> FaultKind {
         FaultKind::Extra
-    }
-}
-
-impl<T: Drop> From<AllocFailed<T>> for FaultKind {
-    ghost use Rattle.std.specs.Prelude.{◌≡◌};
-    ghost use Rattle.command_reader.specs.declared.faults.FaultKind.TheVariants.{NoMemory};
-
-    ghost from_gives = { λ _ kind. kind ≡ NoMemory };
-
-    fn from(_refused: AllocFailed<T>) -> FaultKind {
-        FaultKind::NoMemory
     }
 }
 

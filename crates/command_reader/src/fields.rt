@@ -1,6 +1,6 @@
 //! The fields of a line.
 
-ghost use Rattle.std.specs.Prelude.{◌≡◌, ◌≤◌, [], ◌∷◌, ◌++◌, IsErr, MatchResult};
+ghost use Rattle.std.specs.Prelude.{◌≡◌, [], ◌∷◌, ◌++◌, IsErr, MatchResult};
 ghost use Rattle.std.specs.Option.{ok_or};
 ghost use Rattle.gk_terms.specs.Text.{words_of};
 ghost use Rattle.gk_terms.specs.Name.{name_of};

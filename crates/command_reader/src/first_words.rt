@@ -1,7 +1,7 @@
 //! What one line says, by its first word. Here and in the modules of each kind of line, words are
 //! compared by guards: with several byte strings as patterns of one `match`, no proof is found.
 
-ghost use Rattle.std.specs.Prelude.{◌≡◌, None, ◌∷◌};
+ghost use Rattle.std.specs.Prelude.{◌≡◌, None};
 ghost use Rattle.gk_terms.specs.Text.{words_of};
 ghost use Rattle.gk_terms.specs.Fields.{nothing_more};
 ghost use Rattle.command_reader.specs.Fields.{is_one_of};

@@ -3,6 +3,7 @@
 
 mod bandwidth_lines;
 mod canonical_lines;
+pub mod command_lines;
 pub mod commands;
 pub mod draft;
 pub mod faults;
@@ -14,9 +15,11 @@ pub mod names;
 pub mod printing;
 mod reading;
 mod technology_lines;
+mod whole_lines;
 mod zone_lines;
 pub mod zones;
 
+pub use command_lines::CommandLines;
 pub use commands::{Command, Commands, GatewayPriority, LimitKind, LocalAddress};
 pub use draft::Draft;
 pub use faults::{FaultKind, LineFault};

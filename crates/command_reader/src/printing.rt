@@ -1,6 +1,6 @@
 //! Commands, printed as canonical lines.
 
-ghost use Rattle.std.specs.Prelude.{◌≡◌, ◌∷◌, Ok, OnOk, OnErr};
+ghost use Rattle.std.specs.Prelude.{◌≡◌, Ok, OnOk, OnErr};
 ghost use Rattle.std.specs.List.{All};
 ghost use Rattle.std.specs.Io.KnownBytes.{Appends};
 ghost use Rattle.gk_lines.specs.Streams.{Notes, AppendsFront};

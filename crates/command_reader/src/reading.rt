@@ -36,7 +36,7 @@ fn lines_expected(bytes: &[u8]) -> usize {
 fn lines_in(alloc: Global, bytes: &[u8]) -> Result<Draft, LineFault>
     ensures { MayReadOn nothing_read (lines_of bytes.now) result }
 {
-    let mut draft = Draft::with_room(alloc, lines_expected(bytes));
+    let mut draft = Draft::keeping_lines(alloc, lines_expected(bytes));
     for line in RawLines::of(bytes) {
         draft.read_line(content(line))?;
     }

@@ -3,9 +3,8 @@
 ghost use Rattle.std.specs.Prelude.{◌≡◌, ◌≤◌, [], ◌∷◌, codes, MatchOption, MatchResult, Ok, Err};
 ghost use Rattle.std.specs.Option.{option_copied};
 ghost use Rattle.gk_terms.specs.Text.{words_of};
-ghost use Rattle.gk_terms.specs.Address.{port_of};
 ghost use Rattle.gk_terms.specs.Fields.{Gives};
-ghost use Rattle.command_reader.specs.Fields.{is_one_of, value_but, field_but, nothing_more_but};
+ghost use Rattle.command_reader.specs.Fields.{is_one_of, field_but};
 ghost use Rattle.command_reader.specs.Memory.{UnlessMemory, Any};
 ghost use Rattle.command_reader.specs.Line.{kept_command_of};
 ghost use Rattle.command_reader.specs.Kept.{MayAdd};

@@ -10,6 +10,8 @@ mod fault_tests;
 #[cfg(test)]
 mod limit_tests;
 #[cfg(test)]
+mod lines_tests;
+#[cfg(test)]
 mod print_tests;
 #[cfg(test)]
 mod test_texts;

@@ -14,13 +14,19 @@ const ZONES: &str = "zone local a d\nzone local b d\nzone local seq d\nzone loca
     zone local gw d\nzone local hopoff d\nzone local default-technology d\n";
 
 /// The text has this fault.
-pub fn assert_fault(rt: &impl Abort, alloc: Global, text: &[u8], line: u32, kind: FaultKind) {
+pub(crate) fn assert_fault(
+    rt: &impl Abort,
+    alloc: Global,
+    text: &[u8],
+    line: u32,
+    kind: FaultKind,
+) {
     let want = Some(LineFault { line, kind });
     assert_eq!(rt; read(alloc, text).err(), want, "at {}", text.escape_ascii());
 }
 
 /// The line has this fault, wherever it is; an earlier fault comes before it.
-pub fn assert_line_fault(
+pub(crate) fn assert_line_fault(
     rt: &impl Abort,
     alloc: Global,
     line: &str,
@@ -46,8 +52,16 @@ fn assert_read(rt: &impl Abort, read: &Commands, commands: &[Command], passed: u
     assert_eq!(rt; read.get(commands.len()), None);
 }
 
+/// Both are the same commands in the same order.
+pub(crate) fn assert_same_commands(rt: &impl Abort, read: &Commands, wanted: &Commands) {
+    assert_eq!(rt; read.len(), wanted.len());
+    for place in 0..wanted.len() {
+        assert_eq!(rt; read.get(place), wanted.get(place), "command {place}");
+    }
+}
+
 /// The text is accepted as these commands, with so many lines passed over.
-pub fn assert_accepted(
+pub(crate) fn assert_accepted(
     rt: &impl Abort,
     alloc: Global,
     text: &[u8],
@@ -65,7 +79,7 @@ fn assert_last(rt: &impl Abort, read: &Commands, line: &str, command: &Command) 
 }
 
 /// After the zones `a`, `b`, and those that are named as option words, the line says this command.
-pub fn assert_says(
+pub(crate) fn assert_says(
     rt: &impl Abort,
     alloc: Global,
     line: &str,
@@ -77,7 +91,7 @@ pub fn assert_says(
 }
 
 /// After one zone the line is passed over.
-pub fn assert_passed(rt: &impl Abort, alloc: Global, line: &str) -> Result<(), Fail> {
+pub(crate) fn assert_passed(rt: &impl Abort, alloc: Global, line: &str) -> Result<(), Fail> {
     let text = format!(in alloc; "zone local a d\n{line}\n")?;
     let read = read(alloc, text.as_bytes())?;
     assert_eq!(rt; (read.len(), read.passed()), (1, 1), "at {line}");
@@ -85,7 +99,7 @@ pub fn assert_passed(rt: &impl Abort, alloc: Global, line: &str) -> Result<(), F
 }
 
 /// A text, and after it another so many times over.
-pub fn repeated(
+pub(crate) fn repeated(
     alloc: Global,
     first: &str,
     text: &str,
@@ -99,7 +113,7 @@ pub fn repeated(
 }
 
 /// A zone that is controlled here.
-pub fn local(name: &str, address: Option<LocalAddress>) -> Result<Command, Fail> {
+pub(crate) fn local(name: &str, address: Option<LocalAddress>) -> Result<Command, Fail> {
     Ok(Command::ZoneLocal {
         name: Name::read(name.as_bytes())?,
         domain: Name::read(b"d".as_slice())?,
@@ -108,7 +122,7 @@ pub fn local(name: &str, address: Option<LocalAddress>) -> Result<Command, Fail>
 }
 
 /// A zone of another gatekeeper, at 10.9.0.1.
-pub fn remote(name: &str, port: u16, cost: u8, priority: u8) -> Result<Command, Fail> {
+pub(crate) fn remote(name: &str, port: u16, cost: u8, priority: u8) -> Result<Command, Fail> {
     let port = port.max(1);
     Ok(Command::ZoneRemote {
         name: Name::read(name.as_bytes())?,
@@ -120,7 +134,7 @@ pub fn remote(name: &str, port: u16, cost: u8, priority: u8) -> Result<Command, 
 }
 
 /// Names, separated by a blank.
-pub fn names(alloc: Global, text: &str) -> Result<Names, Fail> {
+pub(crate) fn names(alloc: Global, text: &str) -> Result<Names, Fail> {
     let mut names = Names::new(alloc);
     for name in text.split_ascii_whitespace() {
         names = names.with(Name::read(name.as_bytes())?)?;
@@ -129,7 +143,7 @@ pub fn names(alloc: Global, text: &str) -> Result<Names, Fail> {
 }
 
 /// A pattern of a zone without gateways.
-pub fn prefix(zone: &str, pattern: &str) -> Result<Command, Fail> {
+pub(crate) fn prefix(zone: &str, pattern: &str) -> Result<Command, Fail> {
     Ok(Command::ZonePrefix {
         zone: Name::read(zone.as_bytes())?,
         pattern: Pattern::parse(pattern.as_bytes())?,
@@ -138,7 +152,7 @@ pub fn prefix(zone: &str, pattern: &str) -> Result<Command, Fail> {
 }
 
 /// The pattern `9*` of zone `a` with gateways.
-pub fn gateways(alloc: Global, priority: u8, gateways: &str) -> Result<Command, Fail> {
+pub(crate) fn gateways(alloc: Global, priority: u8, gateways: &str) -> Result<Command, Fail> {
     let zone = Name::read(b"a".as_slice())?;
     let pattern = Pattern::parse(b"9*".as_slice())?;
     let gateways = names(alloc, gateways)?;
@@ -150,7 +164,7 @@ pub fn gateways(alloc: Global, priority: u8, gateways: &str) -> Result<Command, 
 }
 
 /// A technology prefix.
-pub fn technology(
+pub(crate) fn technology(
     alloc: Global,
     prefix: &str,
     hopoffs: &str,

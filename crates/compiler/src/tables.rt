@@ -1,8 +1,7 @@
 //! The configuration in force, made ready for look-ups.
 
-ghost use Rattle.std.specs.Prelude.{◌≡◌, ℕ, ◌<◌, ◌≤◌, List, [], length, drop, IfOk, IfSome, Some, None, option_map, unwrap_or, if◌then◌else◌};
+ghost use Rattle.std.specs.Prelude.{◌≡◌, ◌<◌, ◌≤◌, length, drop, IfOk, IfSome, Some, None, option_map, unwrap_or};
 ghost use Rattle.std.specs.Option.{option_copied};
-ghost use Rattle.std.specs.List.{IsDistinct};
 ghost use Rattle.command_reader.specs.Zones.{zones_of, first_local_of, is_local_option};
 ghost use Rattle.compiler.specs.Limit.{limits_of, limit_of, remote_limit_of};
 ghost use Rattle.compiler.specs.Plan.{plan_of, target_of, row_meant, rejects_unknown, is_reject, by_row};

@@ -1,7 +1,7 @@
 //! Technology prefixes and their hop-off zones. From Cisco's `gw-type-prefix`.
 
-ghost use Rattle.std.specs.Prelude.{◌≡◌, ◌≤◌, ◌<◌, ℕ, ◌-◌, List, length, take, true, IfOk, OnOk, Some, None, is_some, bytes_eq, if◌then◌else◌};
-ghost use Rattle.std.specs.List.{list_all, prefix_len};
+ghost use Rattle.std.specs.Prelude.{◌≡◌, ◌≤◌, ◌<◌, ℕ, ◌-◌, List, length, true, IfOk, OnOk, Some, None, is_some, bytes_eq, if◌then◌else◌};
+ghost use Rattle.std.specs.List.{prefix_len};
 ghost use Rattle.gk_terms.specs.declared.limits.TheConstants.{MOST_ZONES, MOST_TECHNOLOGY};
 ghost use Rattle.gk_terms.specs.TechPrefix.{is_technology_byte, is_tech_prefix};
 ghost use Rattle.compiler.specs.Technology.{prefix_in, default_in, default_technology_of};

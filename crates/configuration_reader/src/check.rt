@@ -1,6 +1,6 @@
 //! Whether a configuration is accepted, and its canonical form.
 
-ghost use Rattle.std.specs.Prelude.{◌≡◌, ◌≢◌, ◌+◌, ◌^◌, ◌<◌, ◌≤◌, ◌++◌, Ok, Err, IfErr, IfOk, IfSome, OnErr, OnOk};
+ghost use Rattle.std.specs.Prelude.{◌≡◌, ◌≢◌, ◌+◌, ◌^◌, ◌<◌, ◌≤◌, ◌++◌, Ok, Err, IfOk, IfSome, OnErr, OnOk};
 ghost use Rattle.std.specs.Io.KnownBytes.{Appends};
 ghost use Rattle.gk_terms.specs.Text.{lines_of, line_text};
 ghost use Rattle.gk_lines.specs.Streams.{Notes, NotesIf, AppendsFront};

@@ -67,8 +67,11 @@ pub slot_puts_none : (s : Slot) (e : PlainEntry) → entry_meant [] [] [] s ≡ 
     → put_in_force e.event ≡ None
 slot_puts_none (slot.Admitted call units id digits zone to at) e h = puts_as _ e h refl
 slot_puts_none (slot.OverLimit call units id digits zone to at over) e h = puts_as _ e h refl
+slot_puts_none (slot.OtherLimit call units id digits zone to at over) e h = puts_as _ e h refl
 slot_puts_none (slot.Refused call units id digits cause) e h = puts_as _ e h refl
 slot_puts_none (slot.Change id call units) e h = puts_as _ e h refl
+slot_puts_none (slot.RefusedChange id call units cause) e h = puts_as _ e h refl
+slot_puts_none (slot.OverChange id call units over) e h = puts_as _ e h refl
 slot_puts_none (slot.Release id call) e h = puts_as _ e h refl
 slot_puts_none (slot.Unregistration id) e h = puts_as _ e h refl
 slot_puts_none (slot.Registration place replied) e h =

@@ -5,11 +5,12 @@ use Rattle.std.specs.Option.{option_map, option_and_then}
 use Rattle.std.specs.List.{cons_option}
 use Rattle.command_reader.specs.declared.commands.LimitKind.TheVariants as kind
 use Rattle.pieces.specs.Pieces.{PiecesParts}
-use Rattle.decision_record.specs.SlotList.{admitted_slot, over_slot, refused_slot, brief_slot, over_place, place_meant, slots_told, AreHeld}
+use Rattle.decision_record.specs.SlotList.{admitted_slot, over_slot, refused_slot, brief_slot, wide_slot, over_place, place_meant, slots_told, AreHeld}
 use Rattle.decision_record.specs.declared.slots.ShortOver.{ShortOver}
 use Rattle.decision_record.specs.declared.slots.ShortOver.TheVariants as limit
 use Rattle.decision_record.specs.declared.slots.Slot.{Slot}
 use Rattle.decision_record.specs.declared.slot_kinds.BriefSlot.{BriefSlot}
+use Rattle.decision_record.specs.declared.slot_kinds.WideSlot.{WideSlot}
 use Rattle.decision_record.specs.declared.slot_kinds.RefusedAdmission.{RefusedAdmission}
 use Rattle.decision_record.specs.declared.slot_kinds.RoutedAdmission.{RoutedAdmission}
 use Rattle.decision_record.specs.declared.slot_places.SlotPlace.{SlotPlace}
@@ -18,9 +19,9 @@ use Rattle.decision_record.proofs.ToldLemmas.{TellsAlso, still_made, next_is, on
 
 -- ---- what a place means stays if there are more slots of a kind
 module _ (routed : List RoutedAdmission) (refused : List RefusedAdmission)
-    (brief : List BriefSlot) where
+    (brief : List BriefSlot) (wide : List WideSlot) where
   with_routed : (more : List RoutedAdmission)
-      → TellsAlso (place_meant routed refused brief) (place_meant (routed ++ more) refused brief)
+      → TellsAlso (place_meant routed refused brief wide) (place_meant (routed ++ more) refused brief wide)
   with_routed more (place_of.Admitted place) s h =
       still_made admitted_slot routed more place s h
   with_routed more (place_of.OverSession place) s h =
@@ -33,12 +34,13 @@ module _ (routed : List RoutedAdmission) (refused : List RefusedAdmission)
       still_made (over_slot limit.Remote) routed more place s h
   with_routed more (place_of.Refused place) s h = h
   with_routed more (place_of.Brief place) s h = h
+  with_routed more (place_of.Wide place) s h = h
   with_routed more (place_of.Registered place) s h = h
   with_routed more (place_of.Aside place) s h = h
   with_routed more (place_of.Reload place) s h = h
 
   with_refused : (more : List RefusedAdmission)
-      → TellsAlso (place_meant routed refused brief) (place_meant routed (refused ++ more) brief)
+      → TellsAlso (place_meant routed refused brief wide) (place_meant routed (refused ++ more) brief wide)
   with_refused more (place_of.Admitted place) s h = h
   with_refused more (place_of.OverSession place) s h = h
   with_refused more (place_of.OverTotal place) s h = h
@@ -47,12 +49,13 @@ module _ (routed : List RoutedAdmission) (refused : List RefusedAdmission)
   with_refused more (place_of.Refused place) s h =
       still_made refused_slot refused more place s h
   with_refused more (place_of.Brief place) s h = h
+  with_refused more (place_of.Wide place) s h = h
   with_refused more (place_of.Registered place) s h = h
   with_refused more (place_of.Aside place) s h = h
   with_refused more (place_of.Reload place) s h = h
 
   with_brief : (more : List BriefSlot)
-      → TellsAlso (place_meant routed refused brief) (place_meant routed refused (brief ++ more))
+      → TellsAlso (place_meant routed refused brief wide) (place_meant routed refused (brief ++ more) wide)
   with_brief more (place_of.Admitted place) s h = h
   with_brief more (place_of.OverSession place) s h = h
   with_brief more (place_of.OverTotal place) s h = h
@@ -61,13 +64,30 @@ module _ (routed : List RoutedAdmission) (refused : List RefusedAdmission)
   with_brief more (place_of.Refused place) s h = h
   with_brief more (place_of.Brief place) s h =
       still_made brief_slot brief more place s h
+  with_brief more (place_of.Wide place) s h = h
   with_brief more (place_of.Registered place) s h = h
   with_brief more (place_of.Aside place) s h = h
   with_brief more (place_of.Reload place) s h = h
 
+  with_wide : (more : List WideSlot)
+      → TellsAlso (place_meant routed refused brief wide)
+      (place_meant routed refused brief (wide ++ more))
+  with_wide more (place_of.Admitted place) s h = h
+  with_wide more (place_of.OverSession place) s h = h
+  with_wide more (place_of.OverTotal place) s h = h
+  with_wide more (place_of.OverInterzone place) s h = h
+  with_wide more (place_of.OverRemote place) s h = h
+  with_wide more (place_of.Refused place) s h = h
+  with_wide more (place_of.Brief place) s h = h
+  with_wide more (place_of.Wide place) s h =
+      still_made wide_slot wide more place s h
+  with_wide more (place_of.Registered place) s h = h
+  with_wide more (place_of.Aside place) s h = h
+  with_wide more (place_of.Reload place) s h = h
+
   -- and what it means with none of any kind
-  alone_meant : (p : SlotPlace) (s : Slot) → place_meant [] [] [] p ≡ Some s
-      → place_meant routed refused brief p ≡ Some s
+  alone_meant : (p : SlotPlace) (s : Slot) → place_meant [] [] [] [] p ≡ Some s
+      → place_meant routed refused brief wide p ≡ Some s
   alone_meant (place_of.Admitted place) s h =
       still_made admitted_slot [] routed place s h
   alone_meant (place_of.OverSession place) s h =
@@ -82,13 +102,15 @@ module _ (routed : List RoutedAdmission) (refused : List RefusedAdmission)
       still_made refused_slot [] refused place s h
   alone_meant (place_of.Brief place) s h =
       still_made brief_slot [] brief place s h
+  alone_meant (place_of.Wide place) s h =
+      still_made wide_slot [] wide place s h
   alone_meant (place_of.Registered place) s h = h
   alone_meant (place_of.Aside place) s h = h
   alone_meant (place_of.Reload place) s h = h
 
   -- that of an admission which was refused for a limit
   over_meant : (over : ShortOver) (place : ℕ)
-      → place_meant routed refused brief (over_place over place)
+      → place_meant routed refused brief wide (over_place over place)
       ≡ option_map (over_slot over) (slice_get routed place)
   over_meant (limit.OwnZone kind.Session) place = refl
   over_meant (limit.OwnZone kind.Total) place = refl
@@ -116,43 +138,49 @@ grows {X} old new x put = record {
 }
 
 module _ (places : PiecesParts SlotPlace) (routed : PiecesParts RoutedAdmission)
-    (refused : PiecesParts RefusedAdmission) (brief : PiecesParts BriefSlot) (slots : List Slot)
-    (room : ℕ) (held : AreHeld places routed refused brief slots room) where
-  pub told_are : slots_told places routed refused brief ≡ slots
+    (refused : PiecesParts RefusedAdmission) (brief : PiecesParts BriefSlot)
+    (wide : PiecesParts WideSlot) (slots : List Slot) (room : ℕ)
+    (held : AreHeld places routed refused brief wide slots room) where
+  pub told_are : slots_told places routed refused brief wide ≡ slots
   told_are =
-      all_told (place_meant routed.items refused.items brief.items) places.items slots held.meant
+      all_told (place_meant routed.items refused.items brief.items wide.items) places.items slots held.meant
 
-  pub held_told : AreHeld places routed refused brief (slots_told places routed refused brief) room
-  held_told = subst (λ ss. AreHeld places routed refused brief ss room) (sym told_are) held
+  pub held_told :
+      AreHeld places routed refused brief wide (slots_told places routed refused brief wide) room
+  held_told = subst (λ ss. AreHeld places routed refused brief wide ss room) (sym told_are) held
 
   pub read_at : (place : ℕ)
-      → option_and_then (place_meant routed.items refused.items brief.items)
+      → option_and_then (place_meant routed.items refused.items brief.items wide.items)
       (slice_get places.items place)
       ≡ slice_get slots place
   read_at =
-      told_at (place_meant routed.items refused.items brief.items) places.items slots held.meant
+      told_at (place_meant routed.items refused.items brief.items wide.items) places.items slots held.meant
 
   module _ (one : 1 ≤ room) where
     one_held : (p : SlotPlace) (s : Slot) (new : PiecesParts SlotPlace)
         (more_routed : PiecesParts RoutedAdmission) (more_refused : PiecesParts RefusedAdmission)
-        (more_brief : PiecesParts BriefSlot)
+        (more_brief : PiecesParts BriefSlot) (more_wide : PiecesParts WideSlot)
         → new ≡ with_item places p
-        → TellsAlso (place_meant routed.items refused.items brief.items)
-        (place_meant more_routed.items more_refused.items more_brief.items)
-        → place_meant more_routed.items more_refused.items more_brief.items p ≡ Some s
+        → TellsAlso (place_meant routed.items refused.items brief.items wide.items)
+        (place_meant more_routed.items more_refused.items more_brief.items more_wide.items)
+        → place_meant more_routed.items more_refused.items more_brief.items more_wide.items p
+        ≡ Some s
         → MayGrow routed more_routed → MayGrow refused more_refused → MayGrow brief more_brief
-        → AreHeld new more_routed more_refused more_brief (slots ++ s ∷ []) (room - 1)
-    one_held p s new more_routed more_refused more_brief put also is a r b =
-        let meaning = place_meant more_routed.items more_refused.items more_brief.items in
+        → MayGrow wide more_wide
+        → AreHeld new more_routed more_refused more_brief more_wide (slots ++ s ∷ []) (room - 1)
+    one_held p s new more_routed more_refused more_brief more_wide put also is a r b w =
+        let meaning =
+        place_meant more_routed.items more_refused.items more_brief.items more_wide.items in
         let more = length-append slots (s ∷ []) in
         record {
           meant =
               ap (λ (n : PiecesParts SlotPlace). map meaning n.items) put
-              ∙ one_more (place_meant routed.items refused.items brief.items) meaning also
+              ∙ one_more (place_meant routed.items refused.items brief.items wide.items) meaning also
               places.items slots p s held.meant is;
           few_routed = omega (arith, more, held.few_routed, a.few);
           few_refused = omega (arith, more, held.few_refused, r.few);
           few_brief = omega (arith, more, held.few_brief, b.few);
+          few_wide = omega (arith, more, held.few_wide, w.few);
           room_places =
               omega (
                 arith,
@@ -163,30 +191,31 @@ module _ (places : PiecesParts SlotPlace) (routed : PiecesParts RoutedAdmission)
           room_routed = omega (arith, held.room_routed, one, a.room);
           room_refused = omega (arith, held.room_refused, one, r.room);
           room_brief = omega (arith, held.room_brief, one, b.room);
+          room_wide = omega (arith, held.room_wide, one, w.room);
         }
 
     -- of an admission with a destination, by a place that makes this of it
     routed_held : (p : SlotPlace) (place : ℕ) (make : RoutedAdmission → Slot)
-        → ((known : List RoutedAdmission) → place_meant known refused.items brief.items p
+        → ((known : List RoutedAdmission) → place_meant known refused.items brief.items wide.items p
         ≡ option_map make (slice_get known place))
         → (a : RoutedAdmission) (wider : PiecesParts RoutedAdmission)
         (new : PiecesParts SlotPlace)
         → place ≡ length routed.items → wider ≡ with_item routed a → new ≡ with_item places p
-        → AreHeld new wider refused brief (slots ++ make a ∷ []) (room - 1)
+        → AreHeld new wider refused brief wide (slots ++ make a ∷ []) (room - 1)
     routed_held p place make means a wider new at also put =
-        one_held p (make a) new wider refused brief put
-        (rw also (with_routed routed.items refused.items brief.items (a ∷ [])))
+        one_held p (make a) new wider refused brief wide put
+        (rw also (with_routed routed.items refused.items brief.items wide.items (a ∷ [])))
         (rw also
         (means (routed.items ++ a ∷ [])
         ∙ ap (option_map make) (next_is routed.items a place at)))
-        (grows routed wider a also) (stays refused) (stays brief)
+        (grows routed wider a also) (stays refused) (stays brief) (stays wide)
 
     -- granted
     pub admitted_held : (place : ℕ) (a : RoutedAdmission) (wider : PiecesParts RoutedAdmission)
         (new : PiecesParts SlotPlace)
         → place ≡ length routed.items → wider ≡ with_item routed a
         → new ≡ with_item places (place_of.Admitted place)
-        → AreHeld new wider refused brief (slots ++ admitted_slot a ∷ []) (room - 1)
+        → AreHeld new wider refused brief wide (slots ++ admitted_slot a ∷ []) (room - 1)
     admitted_held place a wider new at also put =
         routed_held (place_of.Admitted place) place admitted_slot (λ _. refl) a wider new at also
         put
@@ -196,46 +225,58 @@ module _ (places : PiecesParts SlotPlace) (routed : PiecesParts RoutedAdmission)
         (wider : PiecesParts RoutedAdmission) (new : PiecesParts SlotPlace)
         → place ≡ length routed.items → wider ≡ with_item routed a
         → new ≡ with_item places (over_place over place)
-        → AreHeld new wider refused brief (slots ++ over_slot over a ∷ []) (room - 1)
+        → AreHeld new wider refused brief wide (slots ++ over_slot over a ∷ []) (room - 1)
     over_held over place a wider new at also put =
         routed_held (over_place over place) place (over_slot over)
-        (λ known. over_meant known refused.items brief.items over place) a wider new at also put
+        (λ known. over_meant known refused.items brief.items wide.items over place) a wider new at also put
 
     -- of one without a destination
     pub refused_held : (place : ℕ) (a : RefusedAdmission) (wider : PiecesParts RefusedAdmission)
         (new : PiecesParts SlotPlace)
         → place ≡ length refused.items → wider ≡ with_item refused a
         → new ≡ with_item places (place_of.Refused place)
-        → AreHeld new routed wider brief (slots ++ refused_slot a ∷ []) (room - 1)
+        → AreHeld new routed wider brief wide (slots ++ refused_slot a ∷ []) (room - 1)
     refused_held place a wider new at also put =
-        one_held (place_of.Refused place) (refused_slot a) new routed wider brief put
-        (rw also (with_refused routed.items refused.items brief.items (a ∷ [])))
+        one_held (place_of.Refused place) (refused_slot a) new routed wider brief wide put
+        (rw also (with_refused routed.items refused.items brief.items wide.items (a ∷ [])))
         (rw also (ap (option_map refused_slot) (next_is refused.items a place at)))
-        (stays routed) (grows refused wider a also) (stays brief)
+        (stays routed) (grows refused wider a also) (stays brief) (stays wide)
 
     -- a brief one
     pub brief_held : (place : ℕ) (b : BriefSlot) (wider : PiecesParts BriefSlot)
         (new : PiecesParts SlotPlace)
         → place ≡ length brief.items → wider ≡ with_item brief b
         → new ≡ with_item places (place_of.Brief place)
-        → AreHeld new routed refused wider (slots ++ brief_slot b ∷ []) (room - 1)
+        → AreHeld new routed refused wider wide (slots ++ brief_slot b ∷ []) (room - 1)
     brief_held place b wider new at also put =
-        one_held (place_of.Brief place) (brief_slot b) new routed refused wider put
-        (rw also (with_brief routed.items refused.items brief.items (b ∷ [])))
+        one_held (place_of.Brief place) (brief_slot b) new routed refused wider wide put
+        (rw also (with_brief routed.items refused.items brief.items wide.items (b ∷ [])))
         (rw also (ap (option_map brief_slot) (next_is brief.items b place at)))
-        (stays routed) (stays refused) (grows brief wider b also)
+        (stays routed) (stays refused) (grows brief wider b also) (stays wide)
+
+    -- one with the name of the zone of a limit
+    pub wide_held : (place : ℕ) (w : WideSlot) (wider : PiecesParts WideSlot)
+        (new : PiecesParts SlotPlace)
+        → place ≡ length wide.items → wider ≡ with_item wide w
+        → new ≡ with_item places (place_of.Wide place)
+        → AreHeld new routed refused brief wider (slots ++ wide_slot w ∷ []) (room - 1)
+    wide_held place w wider new at also put =
+        one_held (place_of.Wide place) (wide_slot w) new routed refused brief wider put
+        (rw also (with_wide routed.items refused.items brief.items wide.items (w ∷ [])))
+        (rw also (ap (option_map wide_slot) (next_is wide.items w place at)))
+        (stays routed) (stays refused) (stays brief) (grows wide wider w also)
 
     -- or one that has a place alone
     pub alone_held : (p : SlotPlace) (new : PiecesParts SlotPlace)
-        → IsSome (place_meant [] [] [] p) → new ≡ with_item places p
-        → AreHeld new routed refused brief (slots ++ cons_option (place_meant [] [] [] p) [])
+        → IsSome (place_meant [] [] [] [] p) → new ≡ with_item places p
+        → AreHeld new routed refused brief wide (slots ++ cons_option (place_meant [] [] [] [] p) [])
         (room - 1)
-    alone_held p new some put = by (place_meant [] [] [] p) refl some
+    alone_held p new some put = by (place_meant [] [] [] [] p) refl some
       where
-        by : (o : Option Slot) → place_meant [] [] [] p ≡ o → IsSome o
-            → AreHeld new routed refused brief (slots ++ cons_option o []) (room - 1)
+        by : (o : Option Slot) → place_meant [] [] [] [] p ≡ o → IsSome o
+            → AreHeld new routed refused brief wide (slots ++ cons_option o []) (room - 1)
         by None h some = let impossible : ⊥ = cc in absurd impossible
         by (Some s) h some =
-            one_held p s new routed refused brief put (λ q t told. told)
-            (alone_meant routed.items refused.items brief.items p s h)
-            (stays routed) (stays refused) (stays brief)
+            one_held p s new routed refused brief wide put (λ q t told. told)
+            (alone_meant routed.items refused.items brief.items wide.items p s h)
+            (stays routed) (stays refused) (stays brief) (stays wide)

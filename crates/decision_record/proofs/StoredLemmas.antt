@@ -29,8 +29,12 @@ still_meant aside more events others reloads further
 still_meant aside more events others reloads further
     (slot.OverLimit call units id digits zone to at over) e h = h
 still_meant aside more events others reloads further
+    (slot.OtherLimit call units id digits zone to at over) e h = h
+still_meant aside more events others reloads further
     (slot.Refused call units id digits cause) e h = h
 still_meant aside more events others reloads further (slot.Change id call units) e h = h
+still_meant aside more events others reloads further (slot.RefusedChange id call units cause) e h = h
+still_meant aside more events others reloads further (slot.OverChange id call units over) e h = h
 still_meant aside more events others reloads further (slot.Release id call) e h = h
 still_meant aside more events others reloads further (slot.Unregistration id) e h = h
 still_meant aside more events others reloads further (slot.Registration place replied) e h =

@@ -2,6 +2,7 @@
 use Rattle.std.specs.Prelude.{◌≡◌, ◌⊎◌, ℕ, ◌+◌, ◌-◌, ◌==◌, Bool, true, false, IsTrue, ⊤, List, [], ◌∷◌, ◌++◌, length, filter_map, slice_get, Option, Some, None, Result, MatchResult, if◌then◌else◌}
 use Rattle.std.specs.Cow.{cow_value}
 use Rattle.command_reader.specs.declared.commands.Command.{Command}
+use Rattle.command_reader.specs.Configuration.{Configuration}
 use Rattle.rulings.specs.State.{State}
 use Rattle.rulings.specs.Events.{PlainEvent, Reloading, plain, kind_of, id_of, call_number_of, put_in_force}
 use Rattle.rulings.specs.Ruling.{ruling_of}
@@ -12,6 +13,8 @@ use Rattle.rulings.specs.declared.routes.Route.{Route}
 use Rattle.decision_record.specs.declared.entries.Entry.{Entry}
 use Rattle.decision_record.specs.declared.entries.EntryEvent.{EntryEvent}
 use Rattle.decision_record.specs.declared.entries.EntryEvent.TheVariants as in_entry
+use Rattle.decision_record.specs.declared.entries.ReloadedCommands.{ReloadedCommands}
+use Rattle.decision_record.specs.declared.entries.ReloadedCommands.TheVariants as kept_as
 use Rattle.decision_record.specs.declared.entries.Receipt.{Receipt}
 
 -- ---- entries
@@ -22,10 +25,25 @@ pub record PlainEntry : Type 0 where
   pub zone : Option (List ℕ)
   pub route : Option Route
 
+-- what the record has of a reload: its commands, with the count of the lines that were passed over;
+-- or the lines of the commands alone
+abbrev pub configuration_reloaded : ReloadedCommands → Configuration
+configuration_reloaded (kept_as.Commands commands) = commands.now
+configuration_reloaded (kept_as.Lines lines) = record { commands = lines.now; passed = 0 }
+
+-- the commands of a reload
+abbrev pub commands_reloaded : ReloadedCommands → List Command
+commands_reloaded reloaded = (configuration_reloaded reloaded).commands
+
+-- the record has lines, so it takes memory to read the commands
+abbrev pub AreKeptAsLines : ReloadedCommands → Type 0
+AreKeptAsLines (kept_as.Commands commands) = ⊥
+AreKeptAsLines (kept_as.Lines lines) = ⊤
+
 -- the values of its event
 abbrev pub event_in : EntryEvent → PlainEvent
 event_in (in_entry.Asked event) = plain (cow_value event)
-event_in (in_entry.Reload commands) = Reloading commands.now.commands
+event_in (in_entry.Reload commands) = Reloading (commands_reloaded commands)
 
 -- the values of an entry
 abbrev pub plain_entry : Entry → PlainEntry

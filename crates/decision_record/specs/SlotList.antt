@@ -10,6 +10,8 @@ use Rattle.decision_record.specs.declared.slots.ShortOver.TheVariants as limit
 use Rattle.decision_record.specs.declared.slots.ShortReply.TheVariants as short_reply
 use Rattle.decision_record.specs.declared.slot_kinds.BriefSlot.{BriefSlot}
 use Rattle.decision_record.specs.declared.slot_kinds.BriefSlot.TheVariants as brief_of
+use Rattle.decision_record.specs.declared.slot_kinds.WideSlot.{WideSlot}
+use Rattle.decision_record.specs.declared.slot_kinds.WideSlot.TheVariants as wide_of
 use Rattle.decision_record.specs.declared.slot_kinds.RefusedAdmission.{RefusedAdmission}
 use Rattle.decision_record.specs.declared.slot_kinds.RoutedAdmission.{RoutedAdmission}
 use Rattle.decision_record.specs.declared.slot_places.SlotPlace.{SlotPlace}
@@ -31,31 +33,42 @@ refused_slot a = slot.Refused a.call a.units a.id a.digits a.cause
 -- the slot that takes few bytes
 abbrev pub brief_slot : BriefSlot → Slot
 brief_slot (brief_of.Change id call units) = slot.Change id call units
+brief_slot (brief_of.RefusedChange id call units cause) =
+    slot.RefusedChange id call units cause
 brief_slot (brief_of.Release id call) = slot.Release id call
 brief_slot (brief_of.Unregistration id) = slot.Unregistration id
 brief_slot (brief_of.Registration place replied) = slot.Registration place replied
 
--- the slot that is meant by a place, beside the three lists
+-- the slot that has the name of the zone of a limit
+abbrev pub wide_slot : WideSlot → Slot
+wide_slot (wide_of.OtherLimit a over) =
+    slot.OtherLimit a.call a.units a.id a.digits a.zone a.destination a.address over
+wide_slot (wide_of.OverChange id call units over) = slot.OverChange id call units over
+
+-- the slot that is meant by a place, beside the four lists
 abbrev pub place_meant
-    : List RoutedAdmission → List RefusedAdmission → List BriefSlot → SlotPlace → Option Slot
-place_meant routed refused brief (place_of.Admitted place) =
+    : List RoutedAdmission → List RefusedAdmission → List BriefSlot → List WideSlot → SlotPlace
+    → Option Slot
+place_meant routed refused brief wide (place_of.Admitted place) =
     option_map admitted_slot (slice_get routed place)
-place_meant routed refused brief (place_of.OverSession place) =
+place_meant routed refused brief wide (place_of.OverSession place) =
     option_map (over_slot (limit.OwnZone kind.Session)) (slice_get routed place)
-place_meant routed refused brief (place_of.OverTotal place) =
+place_meant routed refused brief wide (place_of.OverTotal place) =
     option_map (over_slot (limit.OwnZone kind.Total)) (slice_get routed place)
-place_meant routed refused brief (place_of.OverInterzone place) =
+place_meant routed refused brief wide (place_of.OverInterzone place) =
     option_map (over_slot (limit.OwnZone kind.Interzone)) (slice_get routed place)
-place_meant routed refused brief (place_of.OverRemote place) =
+place_meant routed refused brief wide (place_of.OverRemote place) =
     option_map (over_slot limit.Remote) (slice_get routed place)
-place_meant routed refused brief (place_of.Refused place) =
+place_meant routed refused brief wide (place_of.Refused place) =
     option_map refused_slot (slice_get refused place)
-place_meant routed refused brief (place_of.Brief place) =
+place_meant routed refused brief wide (place_of.Brief place) =
     option_map brief_slot (slice_get brief place)
-place_meant routed refused brief (place_of.Registered place) =
+place_meant routed refused brief wide (place_of.Wide place) =
+    option_map wide_slot (slice_get wide place)
+place_meant routed refused brief wide (place_of.Registered place) =
     Some (slot.Registration place short_reply.Granted)
-place_meant routed refused brief (place_of.Aside place) = Some (slot.Aside place)
-place_meant routed refused brief (place_of.Reload place) = Some (slot.Reload place)
+place_meant routed refused brief wide (place_of.Aside place) = Some (slot.Aside place)
+place_meant routed refused brief wide (place_of.Reload place) = Some (slot.Reload place)
 
 -- the place of an admission that is refused for a limit
 abbrev pub over_place : ShortOver → ℕ → SlotPlace
@@ -67,21 +80,25 @@ over_place limit.Remote place = place_of.OverRemote place
 -- the slots, in order
 abbrev pub slots_told
     : PiecesParts SlotPlace → PiecesParts RoutedAdmission → PiecesParts RefusedAdmission
-    → PiecesParts BriefSlot → List Slot
-slots_told places routed refused brief =
-    filter_map (place_meant routed.items refused.items brief.items) places.items
+    → PiecesParts BriefSlot → PiecesParts WideSlot → List Slot
+slots_told places routed refused brief wide =
+    filter_map (place_meant routed.items refused.items brief.items wide.items) places.items
 
--- the places mean these slots, no other list is longer than them, and all four have this room
+-- the places mean these slots, no other list is longer than them, and all five have this room
 pub record AreHeld
     (places : PiecesParts SlotPlace) (routed : PiecesParts RoutedAdmission)
-    (refused : PiecesParts RefusedAdmission) (brief : PiecesParts BriefSlot) (slots : List Slot)
-    (room : ℕ)
+    (refused : PiecesParts RefusedAdmission) (brief : PiecesParts BriefSlot)
+    (wide : PiecesParts WideSlot) (slots : List Slot) (room : ℕ)
     : Type 0 where
-  pub meant : map (place_meant routed.items refused.items brief.items) places.items ≡ map Some slots
+  pub meant :
+      map (place_meant routed.items refused.items brief.items wide.items) places.items
+      ≡ map Some slots
   pub few_routed : length routed.items ≤ length slots
   pub few_refused : length refused.items ≤ length slots
   pub few_brief : length brief.items ≤ length slots
+  pub few_wide : length wide.items ≤ length slots
   pub room_places : room ≤ places.room
   pub room_routed : room ≤ routed.room
   pub room_refused : room ≤ refused.room
   pub room_brief : room ≤ brief.room
+  pub room_wide : room ≤ wide.room

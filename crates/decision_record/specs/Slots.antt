@@ -10,6 +10,8 @@ use Rattle.decision_record.specs.History.{PlainEntry}
 use Rattle.decision_record.specs.declared.slots.Asked.{Asked}
 use Rattle.rulings.specs.declared.replies.AdmitRefusal.{AdmitRefusal}
 use Rattle.rulings.specs.declared.replies.AdmitRefusal.TheVariants as admit
+use Rattle.rulings.specs.declared.replies.ChangeRefusal.{ChangeRefusal}
+use Rattle.rulings.specs.declared.replies.ChangeRefusal.TheVariants as change
 use Rattle.rulings.specs.declared.replies.Reply.{Reply}
 use Rattle.rulings.specs.declared.replies.Reply.TheVariants as reply
 use Rattle.rulings.specs.declared.routes.Destination.{Destination}
@@ -22,8 +24,12 @@ use Rattle.decision_record.specs.declared.slots.ShortDestination.{ShortDestinati
 use Rattle.decision_record.specs.declared.slots.ShortDestination.TheVariants as short
 use Rattle.decision_record.specs.declared.slots.ShortOver.{ShortOver}
 use Rattle.decision_record.specs.declared.slots.ShortOver.TheVariants as limit
+use Rattle.decision_record.specs.declared.slots.NamedOver.{NamedOver}
+use Rattle.decision_record.specs.declared.slots.NamedOver.TheVariants as named
 use Rattle.decision_record.specs.declared.slots.Unrouted.{Unrouted}
 use Rattle.decision_record.specs.declared.slots.Unrouted.TheVariants as unrouted
+use Rattle.decision_record.specs.declared.slots.Unchanged.{Unchanged}
+use Rattle.decision_record.specs.declared.slots.Unchanged.TheVariants as unchanged
 use Rattle.decision_record.specs.declared.slots.Slot.{Slot}
 use Rattle.decision_record.specs.declared.slots.Slot.TheVariants as slot
 
@@ -38,6 +44,11 @@ destination_meant (short.Zone name) address = destination.Zone name address
 abbrev pub over_meant : ShortOver → (zone : List ℕ) → Over
 over_meant (limit.OwnZone kind) zone = over.Zone kind zone
 over_meant limit.Remote zone = over.Remote
+
+-- the same with the name of its zone
+abbrev pub named_over_meant : NamedOver → Over
+named_over_meant (named.Zone kind zone) = over.Zone kind zone
+named_over_meant named.Remote = over.Remote
 
 -- why an admission is refused that leads to no destination
 abbrev pub reason_meant : Unrouted → AdmitRefusal
@@ -56,6 +67,11 @@ abbrev pub route_meant : Unrouted → Option Route
 route_meant unrouted.CallerNotRegistered = None
 route_meant (unrouted.CallOpen zone) = None
 route_meant (unrouted.NoRoute zone refusal) = Some (route.Refused refusal)
+
+-- why a bandwidth change is refused
+abbrev pub refusal_meant : Unchanged → ChangeRefusal
+refusal_meant unchanged.NoCall = change.NoCall
+refusal_meant unchanged.NotYours = change.NotYours
 
 -- the reply to a registration: the names in it are those of the endpoint that asked
 abbrev pub register_reply : ShortReply → EndpointParts → Reply
@@ -104,11 +120,21 @@ entry_meant aside registrations reloads
     Some (routed_entry (record { call = call; units = units; id = id; digits = digits }) zone
     (destination_meant destination address)
     (reply.AdmitRefused call (admit.OverLimit (over_meant over zone))))
+entry_meant aside registrations reloads
+    (slot.OtherLimit call units id digits zone destination address over) =
+    Some (routed_entry (record { call = call; units = units; id = id; digits = digits }) zone
+    (destination_meant destination address)
+    (reply.AdmitRefused call (admit.OverLimit (named_over_meant over))))
 entry_meant aside registrations reloads (slot.Refused call units id digits cause) =
     Some (admission_entry (record { call = call; units = units; id = id; digits = digits })
     (reply.AdmitRefused call (reason_meant cause)) (zone_meant cause) (route_meant cause))
 entry_meant aside registrations reloads (slot.Change id call units) =
     Some (other_entry (Changing id call units) (reply.Changed call units))
+entry_meant aside registrations reloads (slot.RefusedChange id call units cause) =
+    Some (other_entry (Changing id call units) (reply.ChangeRefused call (refusal_meant cause)))
+entry_meant aside registrations reloads (slot.OverChange id call units over) =
+    Some (other_entry (Changing id call units)
+    (reply.ChangeRefused call (change.OverLimit (named_over_meant over))))
 entry_meant aside registrations reloads (slot.Release id call) =
     Some (other_entry (Releasing id call) (reply.Released call))
 entry_meant aside registrations reloads (slot.Unregistration id) =

@@ -1,14 +1,16 @@
 //! Entries of the record, and their receipts.
 
-ghost use Rattle.std.specs.Prelude.{◌≡◌, ◌↔◌, true};
+ghost use Rattle.std.specs.Prelude.{◌≡◌, ◌↔◌, true, MatchResult};
+ghost use Rattle.std.specs.Cow.{cow_value};
 ghost use Rattle.rulings.specs.Events.{plain};
 ghost use Rattle.decision_record.specs.Slots.{other_entry};
 ghost use Rattle.decision_record.specs.RecordIndex.{plain_whole};
-ghost use Rattle.decision_record.specs.History.{plain_entry, receipt_of};
+ghost use Rattle.decision_record.specs.History.{plain_entry, receipt_of, configuration_reloaded, AreKeptAsLines};
 
-use command_reader::Commands;
+use command_reader::{CommandLines, Commands};
 use gk_terms::Name;
 use rulings::{Event, EventKind, Reply, Route};
+use std::alloc::{AllocError, Global};
 use std::borrow::Cow;
 
 /// What was asked, as the record keeps it.
@@ -16,9 +18,37 @@ use std::borrow::Cow;
 pub enum EntryEvent<'a> {
     /// An event other than a reload.
     Asked(Cow<'a, Event>),
-    /// A reload of these commands. Their tables are let go as others are put in force, and a replay
-    /// compiles them again.
-    Reload(&'a Commands),
+    /// A reload of these commands.
+    Reload(ReloadedCommands<'a>),
+}
+
+/// The commands of a reload, as the record keeps them.
+#[derive(Clone, Copy)]
+pub enum ReloadedCommands<'a> {
+    /// Those of the reload that was the last one, or of an older one whose tables somebody else
+    /// still had, or whose lines were not kept.
+    Commands(&'a Commands),
+    /// The lines that said the commands of a reload that another one followed.
+    Lines(&'a CommandLines),
+}
+
+impl<'a> ReloadedCommands<'a> {
+    /// The commands, from which a replay compiles the tables. Those of which the lines are kept are
+    /// read again, with no line passed over; that fails only if memory runs out. It never fails for
+    /// others.
+    pub fn commands(&self, alloc: Global) -> Result<Cow<'a, Commands>, AllocError>
+        ensures { MatchResult result
+            (λ commands. cow_value commands ≡ configuration_reloaded self.now)
+            (λ _. AreKeptAsLines self.now) }
+    {
+        match self {
+            ReloadedCommands::Commands(commands) => Ok(Cow::Borrowed(commands)),
+            ReloadedCommands::Lines(lines) => match lines.commands(alloc) {
+                Ok(commands) => Ok(Cow::Owned(commands)),
+                Err(error) => Err(error),
+            },
+        }
+    }
 }
 
 /// One recorded event with its reply.

@@ -12,7 +12,7 @@ mod slot_places;
 mod slots;
 mod told;
 
-pub use entries::{Entry, EntryEvent, Receipt};
+pub use entries::{Entry, EntryEvent, Receipt, ReloadedCommands};
 pub use record::Record;
 pub use slots::Slot;
 pub use told::Told;

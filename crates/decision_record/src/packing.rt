@@ -1,16 +1,17 @@
 //! What was ruled on an event, put into few bytes.
 
-ghost use Rattle.std.specs.Prelude.{◌≡◌, ◌≢◌, ◌↔◌, [], Some, None, IfSome, IfNone};
+ghost use Rattle.std.specs.Prelude.{◌≡◌, ◌≢◌, [], Some, None, IfSome, IfNone};
 ghost use Rattle.rulings.specs.Events.{plain, Registering, Unregistering, Admitting, Changing, Releasing};
+ghost use Rattle.rulings.specs.declared.replies.Reply.TheVariants as Reply;
 ghost use Rattle.decision_record.specs.History.{entry_by};
 ghost use Rattle.rulings.specs.Lent.{destination_meant, ruling_meant};
 ghost use Rattle.decision_record.specs.Slots as Spec;
 
-use crate::slots::{ShortDestination, ShortOver, ShortReply, Slot, Unrouted};
+use crate::slots::{NamedOver, ShortDestination, ShortOver, ShortReply, Slot, Unchanged, Unrouted};
 use bandwidth::Over;
 use gk_terms::{Dialled, Name, Units};
 use registry::Endpoint;
-use rulings::{DestinationKind, Event, LentRuling};
+use rulings::{ChangeRefusal, DestinationKind, Event, LentRuling};
 use short_texts::{PackedDigits, ShortName};
 
 impl Slot {
@@ -86,7 +87,7 @@ fn unregistration(id: &Name, ruling: &LentRuling<'_>) -> Option<Slot>
     }
 }
 
-/// The slot of a granted bandwidth change.
+/// The slot of a bandwidth change.
 fn change(id: &Name, call: u32, units: Units, ruling: &LentRuling<'_>) -> Option<Slot>
     ensures { IfSome result (λ slot. Spec.entry_meant [] [] [] slot
         ≡ Some (entry_by (Changing id.now call units) (ruling_meant ruling.now))) }
@@ -100,7 +101,65 @@ fn change(id: &Name, call: u32, units: Units, ruling: &LentRuling<'_>) -> Option
             let id = ShortName::of(id)?;
             Some(Slot::Change { id, call, units })
         }
+        LentRuling::ChangeRefused {
+            call: refused,
+            reason,
+        } if *refused == call => refused_change(id, call, units, reason),
         _ => None,
+    }
+}
+
+/// The slot of a bandwidth change that is refused for this reason.
+fn refused_change(id: &Name, call: u32, units: Units, reason: &ChangeRefusal) -> Option<Slot>
+    ensures { IfSome result (λ slot. Spec.entry_meant [] [] [] slot
+        ≡ Some (Spec.other_entry (Changing id.now call units)
+        (Reply.ChangeRefused call reason.now))) }
+{
+    let id = ShortName::of(id)?;
+    match reason {
+        ChangeRefusal::NoCall => {
+            let cause = Unchanged::NoCall;
+            Some(Slot::RefusedChange {
+                id,
+                call,
+                units,
+                cause,
+            })
+        }
+        ChangeRefusal::NotYours => {
+            let cause = Unchanged::NotYours;
+            Some(Slot::RefusedChange {
+                id,
+                call,
+                units,
+                cause,
+            })
+        }
+        ChangeRefusal::OverLimit(over) => {
+            let over = NamedOver::of(over)?;
+            Some(Slot::OverChange {
+                id,
+                call,
+                units,
+                over,
+            })
+        }
+        ChangeRefusal::RecordFull | ChangeRefusal::NoMemory => None,
+    }
+}
+
+impl NamedOver {
+    /// This sum, if the name of its zone is short.
+    fn of(over: &Over) -> Option<NamedOver>
+        ensures { IfSome result (λ named. Spec.named_over_meant named ≡ over.now) }
+    {
+        match over {
+            Over::Zone { kind, zone } => Some(NamedOver::Zone {
+                kind: *kind,
+                zone: ShortName::of(zone)?,
+            }),
+            Over::Remote => Some(NamedOver::Remote),
+        }
     }
 }
 
@@ -158,16 +217,29 @@ fn admission(
             over,
         } if *number == call => {
             let zone = ShortName::of(source)?;
-            Some(Slot::OverLimit {
-                call,
-                units,
-                id,
-                digits,
-                zone,
-                destination: ShortDestination::of(*kind, ShortName::of(name)?),
-                address: *address,
-                over: short_over(over, &zone)?,
-            })
+            let destination = ShortDestination::of(*kind, ShortName::of(name)?);
+            match short_over(over, &zone) {
+                Some(over) => Some(Slot::OverLimit {
+                    call,
+                    units,
+                    id,
+                    digits,
+                    zone,
+                    destination,
+                    address: *address,
+                    over,
+                }),
+                None => Some(Slot::OtherLimit {
+                    call,
+                    units,
+                    id,
+                    digits,
+                    zone,
+                    destination,
+                    address: *address,
+                    over: NamedOver::of(over)?,
+                }),
+            }
         }
         LentRuling::CallerNotRegistered { call: number } if *number == call => {
             let cause = Unrouted::CallerNotRegistered;

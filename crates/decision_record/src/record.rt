@@ -12,7 +12,7 @@ ghost use Rattle.pieces.specs.declared.list.TheConstants.{PIECE_ITEMS};
 ghost use Rattle.std.specs.Arc.{arc_value};
 ghost use Rattle.decision_record.specs.History.{plain_entry, entry_of_number, Stands, in_force};
 
-pub use crate::entries::{Entry, EntryEvent, Receipt};
+pub use crate::entries::{Entry, EntryEvent, Receipt, ReloadedCommands};
 use crate::entries::{WholeEntry, same_receipt};
 use crate::reloads::{LastReload, Reloads};
 use crate::slot_list::SlotList;
@@ -85,8 +85,9 @@ impl Record {
         }
     }
 
-    /// The most bytes of the record that an entry in few bytes takes, as that of a granted admission
-    /// does if no name in it has more than 19 characters.
+    /// The bytes of the record that the entry of a granted admission takes, if no name in it has more
+    /// than 19 characters. No other entry in few bytes takes more, but that of a refusal that names
+    /// the zone of the limit.
     pub fn slot_bytes() -> usize {
         SlotList::routed_bytes()
     }

@@ -3,11 +3,11 @@
 ghost use Rattle.std.specs.Prelude.{◌≡◌, ◌≤◌, ◌+◌, ◌++◌, ◌∷◌, [], Some, None, length, slice_get, option_map, OnOk};
 ghost use Rattle.std.specs.Arc.{arc_value};
 ghost use Rattle.pieces.specs.declared.list.TheConstants.{PIECE_ITEMS};
-ghost use Rattle.decision_record.specs.History.{plain_entry};
+ghost use Rattle.decision_record.specs.History.{plain_entry, commands_reloaded};
 ghost use Rattle.decision_record.specs.Reloads.{commands_past, commands_last, plain_past, plain_last};
 
-use crate::entries::{Entry, EntryEvent};
-use command_reader::Commands;
+use crate::entries::{Entry, EntryEvent, ReloadedCommands};
+use command_reader::{CommandLines, Commands};
 use compiler::Tables;
 use gk_terms::Name;
 use pieces::Pieces;
@@ -17,10 +17,12 @@ use std::marker::Model;
 use std::mem;
 use std::sync::Arc;
 
-/// A configuration that was in force: its commands, from which a replay compiles it again; or its
-/// tables, if somebody else still had them as another one was put in force.
+/// A configuration that was in force: the lines that said its commands; the commands, if their lines
+/// were not kept, because memory ran out as they were read; or its tables, if somebody else still
+/// had them as another one was put in force.
 #[derive(Drop)]
 pub enum PastConfiguration {
+    Lines(CommandLines),
     Commands(Commands),
     Tables(Arc<Tables>),
 }
@@ -47,8 +49,8 @@ pub struct LastReload {
 /// in force, and for how many further ones there is at least room without memory.
 ///
 /// `last` is the last one, and `past` are those before it. As one more follows, the tables of the
-/// last one are let go and its commands stay, so that the record of a long run holds the tables in
-/// force alone.
+/// last one are let go and the lines of its commands stay, so that the record of a long run holds
+/// no tables but those in force and the opening ones.
 #[derive(Drop)]
 pub struct Reloads {
     past: Pieces<PastReload>,
@@ -74,18 +76,29 @@ impl PastConfiguration {
         ensures { commands_past result ≡ (arc_value tables).commands }
     {
         match Arc::try_unwrap(tables) {
-            Ok(tables) => PastConfiguration::Commands(tables.into_commands()),
+            Ok(tables) => PastConfiguration::of_commands(tables.into_commands()),
             Err(tables) => PastConfiguration::Tables(tables),
         }
     }
 
+    /// That of these commands: their lines, if they were kept.
+    fn of_commands(commands: Commands) -> PastConfiguration
+        ensures { commands_past result ≡ commands.commands }
+    {
+        match commands.into_lines() {
+            Ok(lines) => PastConfiguration::Lines(lines),
+            Err(commands) => PastConfiguration::Commands(commands),
+        }
+    }
+
     /// Its commands.
-    fn commands(&self) -> &Commands
-        ensures { result.now.commands ≡ commands_past self.now }
+    fn commands(&self) -> ReloadedCommands<'_>
+        ensures { commands_reloaded result ≡ commands_past self.now }
     {
         match self {
-            PastConfiguration::Commands(commands) => commands,
-            PastConfiguration::Tables(tables) => tables.commands(),
+            PastConfiguration::Lines(lines) => ReloadedCommands::Lines(lines),
+            PastConfiguration::Commands(commands) => ReloadedCommands::Commands(commands),
+            PastConfiguration::Tables(tables) => ReloadedCommands::Commands(tables.commands()),
         }
     }
 }
@@ -110,7 +123,7 @@ impl LastReload {
         ensures { plain_entry result ≡ plain_last self.now }
     {
         Entry {
-            event: EntryEvent::Reload(self.tables.commands()),
+            event: EntryEvent::Reload(ReloadedCommands::Commands(self.tables.commands())),
             reply: self.reply,
             zone: self.zone,
             route: self.route,

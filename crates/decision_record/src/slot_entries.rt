@@ -9,12 +9,14 @@ ghost use Rattle.decision_record.specs.Slots as Spec;
 
 use crate::entries::{Entry, EntryEvent, WholeEntry};
 use crate::reloads::Reloads;
-use crate::slots::{Asked, ShortDestination, ShortOver, ShortReply, Slot, Unrouted};
+use crate::slots::{
+    Asked, NamedOver, ShortDestination, ShortOver, ShortReply, Slot, Unchanged, Unrouted,
+};
 use bandwidth::Over;
 use gk_terms::{Address, Name, Units};
 use pieces::Pieces;
 use registry::Endpoint;
-use rulings::{AdmitRefusal, Destination, Event, Reply, Route};
+use rulings::{AdmitRefusal, ChangeRefusal, Destination, Event, Reply, Route};
 use short_texts::ShortName;
 use std::borrow::Cow;
 
@@ -55,6 +57,21 @@ impl ShortOver {
     }
 }
 
+impl NamedOver {
+    /// The sum that would be above its limit.
+    fn sum(&self) -> Over
+        ensures { result ≡ Spec.named_over_meant self.now }
+    {
+        match self {
+            NamedOver::Zone { kind, zone } => Over::Zone {
+                kind: *kind,
+                zone: zone.name(),
+            },
+            NamedOver::Remote => Over::Remote,
+        }
+    }
+}
+
 impl Unrouted {
     /// Why the admission is refused.
     fn reason(&self) -> AdmitRefusal
@@ -84,6 +101,18 @@ impl Unrouted {
         match self {
             Unrouted::CallerNotRegistered | Unrouted::CallOpen { .. } => None,
             Unrouted::NoRoute { refusal, .. } => Some(Route::Refused(*refusal)),
+        }
+    }
+}
+
+impl Unchanged {
+    /// Why the bandwidth change is refused.
+    fn reason(&self) -> ChangeRefusal
+        ensures { result ≡ Spec.refusal_meant self.now }
+    {
+        match self {
+            Unchanged::NoCall => ChangeRefusal::NoCall,
+            Unchanged::NotYours => ChangeRefusal::NotYours,
         }
     }
 }
@@ -127,6 +156,19 @@ impl Slot {
                 let over = over.of_zone(zone);
                 Some(over_limit(&asked, zone, &destination.at(*address), &over))
             }
+            Slot::OtherLimit {
+                call,
+                units,
+                id,
+                digits,
+                zone,
+                destination,
+                address,
+                over,
+            } => {
+                let asked = Asked::new(*call, *units, *id, *digits);
+                Some(over_limit(&asked, zone, &destination.at(*address), &over.sum()))
+            }
             Slot::Refused {
                 call,
                 units,
@@ -138,6 +180,18 @@ impl Slot {
                 Some(refused(&asked, cause))
             }
             Slot::Change { id, call, units } => Some(changed(id, *call, *units)),
+            Slot::RefusedChange {
+                id,
+                call,
+                units,
+                cause,
+            } => Some(unchanged(id, *call, *units, cause.reason())),
+            Slot::OverChange {
+                id,
+                call,
+                units,
+                over,
+            } => Some(unchanged(id, *call, *units, ChangeRefusal::OverLimit(over.sum()))),
             Slot::Release { id, call } => Some(released(id, *call)),
             Slot::Unregistration { id } => Some(unregistered(id)),
             Slot::Registration { place, replied } => {
@@ -302,6 +356,19 @@ fn changed(id: &ShortName, call: u32, units: Units) -> Entry<'static>
         units,
     };
     other(event, Reply::Changed { call, units })
+}
+
+/// The entry of a bandwidth change that is refused for this reason.
+fn unchanged(id: &ShortName, call: u32, units: Units, reason: ChangeRefusal) -> Entry<'static>
+    ensures { plain_entry result ≡ Spec.other_entry (Changing id.now call units)
+        (Reply.ChangeRefused call reason) }
+{
+    let event = Event::Change {
+        id: id.name(),
+        call,
+        units,
+    };
+    other(event, Reply::ChangeRefused { call, reason })
 }
 
 /// The entry of a granted release.

@@ -1,9 +1,9 @@
 //! Slots by their kinds.
 
 ghost use Rattle.std.specs.Prelude.{◌≡◌};
-ghost use Rattle.decision_record.specs.SlotList.{admitted_slot, over_slot, refused_slot, brief_slot};
+ghost use Rattle.decision_record.specs.SlotList.{admitted_slot, over_slot, refused_slot, brief_slot, wide_slot};
 
-use crate::slots::{ShortDestination, ShortOver, ShortReply, Slot, Unrouted};
+use crate::slots::{NamedOver, ShortDestination, ShortOver, ShortReply, Slot, Unchanged, Unrouted};
 use gk_terms::{Address, Units};
 use short_texts::{PackedDigits, ShortName};
 use std::marker::Model;
@@ -39,6 +39,13 @@ pub enum BriefSlot {
         call: u32,
         units: Units,
     },
+    /// A bandwidth change that is refused for its call.
+    RefusedChange {
+        id: ShortName,
+        call: u32,
+        units: Units,
+        cause: Unchanged,
+    },
     /// A granted release.
     Release {
         id: ShortName,
@@ -52,6 +59,23 @@ pub enum BriefSlot {
     Registration {
         place: u32,
         replied: ShortReply,
+    },
+}
+
+/// A slot that has the name of the zone of a limit.
+#[derive(Clone, Copy)]
+pub enum WideSlot {
+    /// An admission that was refused for a limit of a zone that is not the caller's.
+    OtherLimit {
+        admission: RoutedAdmission,
+        over: NamedOver,
+    },
+    /// A bandwidth change that was refused for a limit.
+    OverChange {
+        id: ShortName,
+        call: u32,
+        units: Units,
+        over: NamedOver,
     },
 }
 
@@ -152,6 +176,60 @@ impl HeldBrief {
     }
 }
 
+/// The same of a slot with the name of the zone of a limit.
+#[derive(Clone, Copy)]
+pub struct HeldWide {
+    wide: WideSlot,
+}
+
+impl Model for HeldWide {
+    ghost use Rattle.decision_record.specs.declared.slot_kinds.WideSlot.{WideSlot};
+
+    ghost Value = { WideSlot };
+
+    ghost view = { λ h. h.wide };
+
+    ghost inverse = { λ w. record { wide = w } };
+}
+
+impl HeldWide {
+    /// This slot.
+    pub fn new(wide: WideSlot) -> HeldWide
+        ensures { result ≡ wide }
+    {
+        HeldWide { wide }
+    }
+
+    /// The slot as it is held.
+    pub fn wide(&self) -> &WideSlot
+        ensures { result.now ≡ self.now }
+    {
+        &self.wide
+    }
+}
+
+impl WideSlot {
+    /// The slot.
+    pub fn slot(&self) -> Slot
+        ensures { result ≡ wide_slot self.now }
+    {
+        match self {
+            WideSlot::OtherLimit { admission, over } => admission.other_limit(over),
+            WideSlot::OverChange {
+                id,
+                call,
+                units,
+                over,
+            } => Slot::OverChange {
+                id: *id,
+                call: *call,
+                units: *units,
+                over: *over,
+            },
+        }
+    }
+}
+
 impl BriefSlot {
     /// The slot.
     pub fn slot(&self) -> Slot
@@ -162,6 +240,17 @@ impl BriefSlot {
                 id: *id,
                 call: *call,
                 units: *units,
+            },
+            BriefSlot::RefusedChange {
+                id,
+                call,
+                units,
+                cause,
+            } => Slot::RefusedChange {
+                id: *id,
+                call: *call,
+                units: *units,
+                cause: *cause,
             },
             BriefSlot::Release { id, call } => Slot::Release {
                 id: *id,
@@ -189,6 +278,22 @@ impl RoutedAdmission {
             zone: self.zone,
             destination: self.destination,
             address: self.address,
+        }
+    }
+
+    /// The slot if it was refused for a limit of a zone that is not the caller's.
+    pub fn other_limit(&self, over: &NamedOver) -> Slot
+        ensures { result ≡ wide_slot (WideSlot.OtherLimit self.now over.now) }
+    {
+        Slot::OtherLimit {
+            call: self.call,
+            units: self.units,
+            id: self.id,
+            digits: self.digits,
+            zone: self.zone,
+            destination: self.destination,
+            address: self.address,
+            over: *over,
         }
     }
 

@@ -4,10 +4,11 @@ ghost use Rattle.std.specs.Prelude.{◌≡◌, ◌<◌, ◌≤◌, ◌+◌, ◌-
 ghost use Rattle.std.specs.List.{cons_option};
 ghost use Rattle.pieces.specs.declared.list.TheConstants.{PIECE_ITEMS};
 ghost use Rattle.decision_record.specs.RecordIndex.{IsRoomier};
-ghost use Rattle.decision_record.specs.SlotList.{admitted_slot, over_slot, refused_slot, brief_slot, place_meant};
+ghost use Rattle.decision_record.specs.SlotList.{admitted_slot, over_slot, refused_slot, brief_slot, wide_slot, place_meant};
 
 use crate::slot_kinds::{
-    BriefSlot, HeldBrief, HeldRefused, HeldRouted, RefusedAdmission, RoutedAdmission,
+    BriefSlot, HeldBrief, HeldRefused, HeldRouted, HeldWide, RefusedAdmission, RoutedAdmission,
+    WideSlot,
 };
 use crate::slot_places::{SlotPlace, slot_at};
 use crate::slots::{ShortOver, ShortReply, Slot};
@@ -22,15 +23,17 @@ use std::mem::size_of;
 /// `places` has a place of 8 bytes for each slot. That of a granted registration, of a reload or of
 /// an entry that stands whole is the slot itself; any other says where it stands: in `routed` if it is
 /// that of an admission that leads to a destination, and the place tells the verdict; in `refused`
-/// if the admission leads to none; and in `brief` if it is that of a granted change, release or
-/// unregistration, or of a refused registration. Each of the four lists has room for `room` further
-/// items, since it is not known of which kind the next slots are.
+/// if the admission leads to none; in `brief` if it is that of a granted change, release or
+/// unregistration, of a change that is refused for its call, or of a refused registration; and in
+/// `wide` if it has the name of the zone of a limit. Each of the five lists has room for `room`
+/// further items, since it is not known of which kind the next slots are.
 #[derive(Drop)]
 pub struct SlotList {
     places: Pieces<SlotPlace>,
     routed: Pieces<HeldRouted>,
     refused: Pieces<HeldRefused>,
     brief: Pieces<HeldBrief>,
+    wide: Pieces<HeldWide>,
     room: usize,
 }
 
@@ -42,12 +45,12 @@ impl Model for SlotList {
     ghost Value = { PiecesParts Slot };
 
     ghost view = { λ l. record {
-      items = slots_told l.places l.routed l.refused l.brief;
+      items = slots_told l.places l.routed l.refused l.brief l.wide;
       room = l.room;
     } };
 
-    ghost invariant = { λ l. AreHeld l.places l.routed l.refused l.brief
-        (slots_told l.places l.routed l.refused l.brief) l.room };
+    ghost invariant = { λ l. AreHeld l.places l.routed l.refused l.brief l.wide
+        (slots_told l.places l.routed l.refused l.brief l.wide) l.room };
 }
 
 impl SlotList {
@@ -60,12 +63,13 @@ impl SlotList {
             routed: Pieces::new(alloc),
             refused: Pieces::new(alloc),
             brief: Pieces::new(alloc),
+            wide: Pieces::new(alloc),
             room: 0,
         }
     }
 
     /// How many bytes the slot of an admission that leads to a destination takes, with its place.
-    /// No other slot takes more.
+    /// No other slot takes more, but that of a refusal with the name of the zone of the limit.
     pub fn routed_bytes() -> usize {
         size_of::<SlotPlace>() + size_of::<HeldRouted>()
     }
@@ -87,6 +91,7 @@ impl SlotList {
             &self.routed,
             &self.refused,
             &self.brief,
+            &self.wide,
             place,
         )
     }
@@ -108,6 +113,7 @@ impl SlotList {
             &mut self.routed,
             &mut self.refused,
             &mut self.brief,
+            &mut self.wide,
             ahead,
         )?;
         self.room = ahead;
@@ -162,6 +168,28 @@ impl SlotList {
                 };
                 self.push_over(routed, over);
             }
+            Slot::OtherLimit {
+                call,
+                units,
+                id,
+                digits,
+                zone,
+                destination,
+                address,
+                over,
+            } => {
+                let admission = RoutedAdmission {
+                    call: *call,
+                    units: *units,
+                    id: *id,
+                    digits: *digits,
+                    zone: *zone,
+                    destination: *destination,
+                    address: *address,
+                };
+                let over = *over;
+                self.push_wide(WideSlot::OtherLimit { admission, over });
+            }
             Slot::Refused {
                 call,
                 units,
@@ -179,6 +207,28 @@ impl SlotList {
                 id: *id,
                 call: *call,
                 units: *units,
+            }),
+            Slot::RefusedChange {
+                id,
+                call,
+                units,
+                cause,
+            } => self.push_brief(BriefSlot::RefusedChange {
+                id: *id,
+                call: *call,
+                units: *units,
+                cause: *cause,
+            }),
+            Slot::OverChange {
+                id,
+                call,
+                units,
+                over,
+            } => self.push_wide(WideSlot::OverChange {
+                id: *id,
+                call: *call,
+                units: *units,
+                over: *over,
             }),
             Slot::Release { id, call } => self.push_brief(BriefSlot::Release {
                 id: *id,
@@ -257,12 +307,27 @@ impl SlotList {
         self.room -= 1;
     }
 
+    /// Puts a slot with the name of the zone of a limit at the end.
+    fn push_wide(&mut self, wide: WideSlot)
+        requires room { 1 ≤ self.old.room }
+        requires few { length self.old.items < 2 ^ 32 }
+        ensures { self.new ≡ record {
+          items = self.old.items ++ wide_slot wide ∷ [];
+          room = self.old.room - 1;
+        } }
+    {
+        let place = self.wide.len() as u32;
+        self.wide.push(HeldWide::new(wide));
+        self.places.push(SlotPlace::Wide { place });
+        self.room -= 1;
+    }
+
     /// Puts the slot at the end that has this place alone.
     fn push_place(&mut self, place: SlotPlace)
         requires room { 1 ≤ self.old.room }
-        requires meant { IsSome (place_meant [] [] [] place) }
+        requires meant { IsSome (place_meant [] [] [] [] place) }
         ensures { self.new ≡ record {
-          items = self.old.items ++ cons_option (place_meant [] [] [] place) [];
+          items = self.old.items ++ cons_option (place_meant [] [] [] [] place) [];
           room = self.old.room - 1;
         } }
     {
@@ -271,7 +336,7 @@ impl SlotList {
     }
 }
 
-/// Makes room in each of the four lists for this many further items. If memory runs out, they hold
+/// Makes room in each of the five lists for this many further items. If memory runs out, they hold
 /// what they did.
 #[inline(never)]
 fn reserve_each(
@@ -279,20 +344,23 @@ fn reserve_each(
     routed: &mut Pieces<HeldRouted>,
     refused: &mut Pieces<HeldRefused>,
     brief: &mut Pieces<HeldBrief>,
+    wide: &mut Pieces<HeldWide>,
     places: usize,
 ) -> Result<(), AllocError>
     requires { (places ≤ slot_places.old.room + PIECE_ITEMS)
         × (places ≤ routed.old.room + PIECE_ITEMS) × (places ≤ refused.old.room + PIECE_ITEMS)
-        × (places ≤ brief.old.room + PIECE_ITEMS) }
+        × (places ≤ brief.old.room + PIECE_ITEMS) × (places ≤ wide.old.room + PIECE_ITEMS) }
     ensures slot_places { IsRoomier slot_places.old slot_places.new }
     ensures routed { IsRoomier routed.old routed.new }
     ensures refused { IsRoomier refused.old refused.new }
     ensures brief { IsRoomier brief.old brief.new }
+    ensures wide { IsRoomier wide.old wide.new }
     ensures ok { OnOk result ((places ≤ slot_places.new.room) × (places ≤ routed.new.room)
-        × (places ≤ refused.new.room) × (places ≤ brief.new.room)) }
+        × (places ≤ refused.new.room) × (places ≤ brief.new.room) × (places ≤ wide.new.room)) }
 {
     slot_places.reserve(places)?;
     routed.reserve(places)?;
     refused.reserve(places)?;
-    brief.reserve(places)
+    brief.reserve(places)?;
+    wide.reserve(places)
 }

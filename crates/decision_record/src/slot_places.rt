@@ -2,9 +2,9 @@
 
 ghost use Rattle.std.specs.Prelude.{◌≡◌, slice_get, option_map};
 ghost use Rattle.std.specs.Option.{option_and_then};
-ghost use Rattle.decision_record.specs.SlotList.{admitted_slot, over_slot, refused_slot, brief_slot, over_place, place_meant};
+ghost use Rattle.decision_record.specs.SlotList.{admitted_slot, over_slot, refused_slot, brief_slot, wide_slot, over_place, place_meant};
 
-use crate::slot_kinds::{HeldBrief, HeldRefused, HeldRouted};
+use crate::slot_kinds::{HeldBrief, HeldRefused, HeldRouted, HeldWide};
 use crate::slots::{ShortOver, ShortReply, Slot};
 use command_reader::LimitKind;
 use pieces::Pieces;
@@ -25,6 +25,8 @@ pub enum SlotPlace {
     Refused { place: u32 },
     /// In that of brief slots.
     Brief { place: u32 },
+    /// In that of slots with the name of the zone of a limit.
+    Wide { place: u32 },
     /// It is that of a granted registration, whose event has this place among the registrations.
     Registered { place: u32 },
     /// It is that of an entry that stands whole at this place.
@@ -54,9 +56,10 @@ impl SlotPlace {
         routed: &Pieces<HeldRouted>,
         refused: &Pieces<HeldRefused>,
         brief: &Pieces<HeldBrief>,
+        wide: &Pieces<HeldWide>,
     ) -> Option<Slot>
-        ensures { result
-            ≡ place_meant routed.now.items refused.now.items brief.now.items self.now }
+        ensures { result ≡ place_meant routed.now.items refused.now.items brief.now.items
+            wide.now.items self.now }
     {
         match self {
             SlotPlace::Admitted { place } => admitted_at(routed, *place as usize),
@@ -77,6 +80,7 @@ impl SlotPlace {
             }
             SlotPlace::Refused { place } => refused_at(refused, *place as usize),
             SlotPlace::Brief { place } => brief_at(brief, *place as usize),
+            SlotPlace::Wide { place } => wide_at(wide, *place as usize),
             SlotPlace::Registered { place } => Some(Slot::Registration {
                 place: *place,
                 replied: ShortReply::Granted,
@@ -93,15 +97,16 @@ pub fn slot_at(
     routed: &Pieces<HeldRouted>,
     refused: &Pieces<HeldRefused>,
     brief: &Pieces<HeldBrief>,
+    wide: &Pieces<HeldWide>,
     place: usize,
 ) -> Option<Slot>
-    ensures { result
-        ≡ option_and_then (place_meant routed.now.items refused.now.items brief.now.items)
+    ensures { result ≡ option_and_then
+        (place_meant routed.now.items refused.now.items brief.now.items wide.now.items)
         (slice_get slot_places.now.items place) }
 {
     match slot_places.get(place) {
         None => None,
-        Some(at) => at.slot(routed, refused, brief),
+        Some(at) => at.slot(routed, refused, brief, wide),
     }
 }
 
@@ -142,5 +147,15 @@ fn brief_at(brief: &Pieces<HeldBrief>, place: usize) -> Option<Slot>
     match brief.get(place) {
         None => None,
         Some(held) => Some(held.brief().slot()),
+    }
+}
+
+/// The slot at this place that has the name of the zone of a limit.
+fn wide_at(wide: &Pieces<HeldWide>, place: usize) -> Option<Slot>
+    ensures { result ≡ option_map wide_slot (slice_get wide.now.items place) }
+{
+    match wide.get(place) {
+        None => None,
+        Some(held) => Some(held.wide().slot()),
     }
 }

@@ -24,6 +24,15 @@ pub enum ShortOver {
     Remote,
 }
 
+/// Which sum of a call would be above its limit, with the name of its zone.
+#[derive(Clone, Copy)]
+pub enum NamedOver {
+    /// One of this zone.
+    Zone { kind: LimitKind, zone: ShortName },
+    /// That of all calls to zones of other gatekeepers.
+    Remote,
+}
+
 /// Why an admission leads to no destination, with the zone of its caller.
 #[derive(Clone, Copy)]
 pub enum Unrouted {
@@ -37,6 +46,13 @@ pub enum Unrouted {
     },
 }
 
+/// Why a bandwidth change is refused, if no sum has to be named.
+#[derive(Clone, Copy)]
+pub enum Unchanged {
+    NoCall,
+    NotYours,
+}
+
 /// The reply to a registration, but for the names: those in it are those of the endpoint that
 /// asked.
 #[derive(Clone, Copy)]
@@ -45,10 +61,10 @@ pub enum ShortReply {
     Refused { reason: RegisterRefusal },
 }
 
-/// An entry in few bytes: of most admissions whose names are short, and of a granted
-/// change, release or unregistration whose ID is; or the place of a registration in the list of
-/// registrations, that of a reload among the reloads, or that of an entry that stands whole in the
-/// list of whole entries.
+/// An entry in few bytes: of most admissions whose names are short, of a granted change, release or
+/// unregistration whose ID is, and of a refused change; or the place of a
+/// registration in the list of registrations, that of a reload among the reloads, or that of an
+/// entry that stands whole in the list of whole entries.
 #[derive(Clone, Copy)]
 pub enum Slot {
     /// A granted admission.
@@ -61,7 +77,19 @@ pub enum Slot {
         destination: ShortDestination,
         address: Address,
     },
-    /// An admission that was refused for a limit.
+    /// An admission that was refused for a limit of a zone that is not the caller's.
+    OtherLimit {
+        call: u32,
+        units: Units,
+        id: ShortName,
+        digits: PackedDigits,
+        zone: ShortName,
+        destination: ShortDestination,
+        address: Address,
+        over: NamedOver,
+    },
+    /// An admission that was refused for a limit of the caller's zone, or for that of all calls to
+    /// zones of other gatekeepers.
     OverLimit {
         call: u32,
         units: Units,
@@ -85,6 +113,20 @@ pub enum Slot {
         id: ShortName,
         call: u32,
         units: Units,
+    },
+    /// A bandwidth change that is refused since no call of the number is open, or it is another's.
+    RefusedChange {
+        id: ShortName,
+        call: u32,
+        units: Units,
+        cause: Unchanged,
+    },
+    /// A bandwidth change that is refused for a limit.
+    OverChange {
+        id: ShortName,
+        call: u32,
+        units: Units,
+        over: NamedOver,
     },
     /// A granted release.
     Release {

@@ -1,6 +1,6 @@
 //! Patterns of dialled characters.
 
-ghost use Rattle.std.specs.Prelude.{◌≡◌, ℕ, ◌≤◌, List, length, drop, replicate, Some};
+ghost use Rattle.std.specs.Prelude.{◌≡◌, ◌≤◌, length, drop, replicate, Some};
 ghost use Rattle.std.specs.Result.{result_ok};
 ghost use Rattle.std.specs.List.{prefix_len};
 ghost use Rattle.std.specs.Char.{is_ascii_digit};

@@ -33,7 +33,7 @@ feed_later : (b : ℕ) (bs : List ℕ) → (b == 10) ≡ false → position_or_l
 feed_later b bs other = ap (λ t. cond (not t) (1 + position_or_len (λ b. b == 10) bs) 0) other
 
 -- bytes without a line feed: the search for one comes to their end
-HasNoFeed-whole : (bytes : List ℕ) → length bytes ≤ position_or_len (λ b. b == 10) bytes → HasNoFeed bytes
+pub HasNoFeed-whole : (bytes : List ℕ) → length bytes ≤ position_or_len (λ b. b == 10) bytes → HasNoFeed bytes
 HasNoFeed-whole [] past = tt
 HasNoFeed-whole (b ∷ bs) past =
     ⊎_elim

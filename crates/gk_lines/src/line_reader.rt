@@ -1,6 +1,6 @@
 //! The lines of an input that is read in pieces.
 
-ghost use Rattle.std.specs.Prelude.{◌≡◌, ◌+◌, ◌^◌, ◌<◌, ◌≤◌, ◌==◌, [], ◌++◌, IsTrue, IfOk, IfErr, false, length, take, drop, nat_lt};
+ghost use Rattle.std.specs.Prelude.{◌≡◌, ◌+◌, ◌^◌, ◌<◌, ◌≤◌, ◌==◌, [], IsTrue, IfOk, IfErr, false, length, take, drop, nat_lt};
 ghost use Rattle.std.specs.List.{position_or_len};
 ghost use Rattle.std.specs.Io.KnownBytes.{Keeps, IsAtEnd};
 ghost use Rattle.gk_lines.specs.Streams.{NotesIf, KnownStep};

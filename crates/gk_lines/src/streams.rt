@@ -1,6 +1,6 @@
 //! Readers and writers that know whether they have failed, and how often they were called.
 
-ghost use Rattle.std.specs.Prelude.{◌≡◌, ℕ, ◌+◌, ◌<◌, ◌≤◌, ◌==◌, ◌||◌, nat_lt, List, Option, Bool, Ok, length, IfOk, IsErr, MatchResult, MatchBool};
+ghost use Rattle.std.specs.Prelude.{◌≡◌, ℕ, ◌<◌, ◌==◌, ◌||◌, nat_lt, List, Option, Bool, Ok, length, IfOk, IsErr, MatchResult, MatchBool};
 ghost use Rattle.std.specs.Io.{ReadsAtMost, WritesAtMost};
 ghost use Rattle.std.specs.Io.KnownBytes.{ReadConsumes, WriteAppends};
 ghost use Rattle.gk_lines.specs.Streams.{Notes, CountsCall};

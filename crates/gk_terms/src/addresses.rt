@@ -1,8 +1,7 @@
 //! IPv4 addresses with a port.
 
-ghost use Rattle.std.specs.Prelude.{◌≡◌, ℕ, ◌==◌, ◌<◌, ◌≤◌, List, [], ◌∷◌, Some, IfSome, MatchOption, option_map};
+ghost use Rattle.std.specs.Prelude.{◌≡◌, ◌==◌, ◌<◌, ◌≤◌, [], ◌∷◌, Some, IfSome, MatchOption};
 ghost use Rattle.std.specs.Option.{ok_or};
-ghost use Rattle.std.specs.Result.{result_ok};
 ghost use Rattle.std.specs.List.{slice_split, position_or_len};
 ghost use Rattle.gk_terms.specs.Address.{AddressParts, octet_of, port_of, port_of_last, ip_of, address_of, address_text};
 
@@ -19,7 +18,7 @@ pub struct Address {
 }
 
 impl Model for Address {
-    ghost use Rattle.std.specs.Prelude.{◌≡◌, ◌≤◌, length};
+    ghost use Rattle.std.specs.Prelude.{◌≡◌, ◌≤◌};
     ghost use Rattle.gk_terms.specs.Address.{AddressParts};
 
     ghost Value = { AddressParts };

@@ -5,7 +5,6 @@ ghost use Rattle.std.specs.Io.KnownBytes.{Appends, IsAtEnd};
 ghost use Rattle.gk_lines.specs.Streams.{NotesIf, KnownStep};
 ghost use Rattle.rulings.specs.Limits.{are_limits};
 ghost use Rattle.gk_protocol.specs.CoreAnswers.{MayAnswer};
-ghost use Rattle.gk_protocol.specs.Session.{Ends, is_read_fault, is_write_fault};
 ghost use Rattle.gkd.specs.Run as Spec;
 
 use admission::{Core, Limits, OpeningFault};

@@ -1,6 +1,6 @@
 //! What is shown to readers.
 
-ghost use Rattle.std.specs.Prelude.{◌≡◌, ◌+◌, length, Some, IfOk, MatchResult, IsTrue};
+ghost use Rattle.std.specs.Prelude.{◌≡◌, ◌+◌, length, Some, IfOk, IsTrue};
 ghost use Rattle.std.specs.Arc.{arc_value};
 ghost use mathlib.Core.List.{IsPrefix};
 ghost use Rattle.publisher.specs.History.{draft_of, generations, last_of, shown_by};

@@ -1,6 +1,6 @@
 //! A trie that grows row by row, in a vector. Its words are those of the block that is made of it.
 
-ghost use Rattle.std.specs.Prelude.{◌≡◌, ℕ, ◌+◌, ◌*◌, ◌/◌, ◌<◌, ◌==◌, List, [], ◌++◌, length, replicate, slice_index, IfOk, if◌then◌else◌};
+ghost use Rattle.std.specs.Prelude.{◌≡◌, ◌+◌, ◌*◌, ◌/◌, ◌<◌, ◌==◌, ◌++◌, length, replicate, slice_index, IfOk, if◌then◌else◌};
 ghost use Rattle.digit_patterns.specs.PatternParts.{IsPattern};
 ghost use Rattle.raw_trie.specs.Nodes.{path_of};
 ghost use Rattle.raw_trie.specs.Trie.{IsSomeTrie, Links, GrowsTo, Adds, with_end};

@@ -1,11 +1,11 @@
 //! Which gateway is chosen for a zone and a technology prefix.
 
-ghost use Rattle.std.specs.Prelude.{◌≡◌, ℕ, [], ◌∷◌, List, Some, unwrap_or, is_some, option_map, bytes_eq};
+ghost use Rattle.std.specs.Prelude.{◌≡◌, ℕ, [], ◌∷◌, List, Some, bytes_eq};
 ghost use Rattle.std.specs.Option.{option_copied};
 ghost use Rattle.std.specs.Ordering.{nat_cmp};
 ghost use Rattle.std.specs.List.{IsDistinct};
 ghost use Rattle.std.specs.List.Sorted.{IsStrictlySortedBy};
-ghost use Rattle.std.specs.Map.{keys_of, lookup};
+ghost use Rattle.std.specs.Map.{keys_of};
 ghost use Rattle.compiler.specs.Priority.{named_priority};
 ghost use Rattle.registry.specs.Roll.{endpoints_of};
 ghost use Rattle.registry.specs.Gateway.{gateway_by, is_candidate};

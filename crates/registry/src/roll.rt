@@ -1,6 +1,6 @@
 //! Endpoints in order of registration, found by ID and by number.
 
-ghost use Rattle.std.specs.Prelude.{◌≡◌, ◌<◌, ◌≤◌, ◌+◌, ◌^◌, [], None, Some, length, OnOk, OnErr, IfOk, IfErr, IfSome, MatchOption, bytes_eq, is_some};
+ghost use Rattle.std.specs.Prelude.{◌≡◌, ◌<◌, ◌≤◌, ◌+◌, ◌^◌, [], None, Some, length, OnOk, OnErr, IfOk, IfErr, MatchOption, bytes_eq, is_some};
 ghost use Rattle.std.specs.Option.{option_copied};
 ghost use Rattle.std.specs.Ordering.{nat_cmp};
 ghost use Rattle.std.specs.List.{IsDistinct};

@@ -11,7 +11,7 @@ const NUMBERS: [&str; 17] = [
 ];
 
 /// An endpoint of the zone at 10.0.1.HOST.
-pub fn endpoint_of(
+pub(crate) fn endpoint_of(
     alloc: Global,
     kind: EndpointKind,
     id: &str,

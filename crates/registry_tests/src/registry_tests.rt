@@ -17,7 +17,7 @@ const LINES: &str = "zone local a d\nzone local b d\nzone remote r d 10.9.0.1\n\
     gw-type-prefix 1#\n";
 
 /// The tables of these lines.
-pub fn tables_of(rt: &impl Abort, alloc: Global, lines: &str) -> Result<Tables, Fail> {
+pub(crate) fn tables_of(rt: &impl Abort, alloc: Global, lines: &str) -> Result<Tables, Fail> {
     let Ok(commands) = read(alloc, lines.as_bytes()) else {
         panic!(rt; "refused");
     };
@@ -25,7 +25,7 @@ pub fn tables_of(rt: &impl Abort, alloc: Global, lines: &str) -> Result<Tables, 
 }
 
 /// A terminal with one alias.
-pub fn terminal(
+pub(crate) fn terminal(
     alloc: Global,
     id: &str,
     zone: &str,
@@ -38,14 +38,14 @@ pub fn terminal(
 }
 
 /// A gateway of zone a with the prefix 1#.
-pub fn gateway(alloc: Global, id: &str, host: u8) -> Result<Endpoint, Fail> {
+pub(crate) fn gateway(alloc: Global, id: &str, host: u8) -> Result<Endpoint, Fail> {
     let mut endpoint = endpoint_of(alloc, EndpointKind::Gateway, id, "a", host)?;
     endpoint.add_technology(TechPrefix::read(b"1#")?)?;
     Ok(endpoint)
 }
 
 /// The endpoint at this place has this ID.
-pub fn assert_at(rt: &impl Abort, registry: &Registry, place: usize, id: &str) {
+pub(crate) fn assert_at(rt: &impl Abort, registry: &Registry, place: usize, id: &str) {
     match registry.at(place) {
         Some(endpoint) => assert_eq!(rt; endpoint.id().as_str(), id),
         None => panic!(rt; "no endpoint at {place}"),
@@ -53,7 +53,7 @@ pub fn assert_at(rt: &impl Abort, registry: &Registry, place: usize, id: &str) {
 }
 
 /// Registers an endpoint.
-pub fn register(
+pub(crate) fn register(
     registry: &mut Registry,
     tables: &Tables,
     endpoint: Result<Endpoint, Fail>,
@@ -80,7 +80,7 @@ fn register_two(registry: &mut Registry, tables: &Tables, alloc: Global) -> Resu
 }
 
 /// Whether a zone has an endpoint with this alias.
-pub fn is_found(registry: &Registry, zone: &str, alias: &str) -> Result<bool, Fail> {
+pub(crate) fn is_found(registry: &Registry, zone: &str, alias: &str) -> Result<bool, Fail> {
     let zone = Name::read(zone.as_bytes())?;
     let alias = Dialled::read(alias.as_bytes())?;
     Ok(registry.by_alias(&zone, &alias).is_some())
@@ -201,7 +201,7 @@ fn unregisters(rt: HostRuntime) -> Result<(), Fail> {
 }
 
 /// The gateway that is chosen in zone a for the prefix 1# by the row.
-pub fn assert_chosen(
+pub(crate) fn assert_chosen(
     rt: &impl Abort,
     registry: &Registry,
     tables: &Tables,

@@ -1,7 +1,7 @@
 //! The machine: the state of a running core, except for the tables in force.
 
 ghost use Rattle.std.specs.Prelude.{◌≡◌, ◌≤◌, ◌+◌, nat_le, None, false, true, length, OnOk, OnErr};
-ghost use Rattle.registry.specs.Registration.{is_registered, is_full_for, with_endpoint, without_endpoint, in_zone_meant, kept_zones};
+ghost use Rattle.registry.specs.Registration.{is_registered, with_endpoint, without_endpoint, in_zone_meant, kept_zones};
 ghost use Rattle.bandwidth.specs.Calls.{call_of, is_open, with_call, with_changed, without_call};
 ghost use Rattle.rulings.specs.State.{bare, idle, under};
 ghost use Rattle.rulings.specs.Limits.{are_limits};

@@ -141,9 +141,9 @@ lines_apart (line ∷ lines) before read a h =
 
 zones_apart : (commands : List Command) → IsAccepted commands → AreApart commands
 zones_apart commands a =
-    subst AreApart a.printable.same
-    (lines_apart (map canonical_line commands) nothing_read a.printable.read none_apart
-    a.printable.whole)
+    subst AreApart a.printable.again.same
+    (lines_apart (map canonical_line commands) nothing_read a.printable.again.read none_apart
+    a.printable.again.whole)
 
 -- no two zones of accepted commands have one name
 pub names_differ : (commands : List Command) → IsAccepted commands

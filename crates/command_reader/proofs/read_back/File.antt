@@ -15,9 +15,9 @@ use Rattle.command_reader.specs.Configuration.{Configuration}
 use Rattle.command_reader.specs.Line.{line_of}
 use Rattle.command_reader.specs.Progress.{NumberedCommand, Progress, line_count, commands_in}
 use Rattle.command_reader.specs.Zones.{first_local_of}
-use Rattle.command_reader.specs.Reading.{command_fault, with_command, unless_fault, said_after, line_after, line_then, lines_after, names_unknown, fault_at, unknown_zone, local_zone_checked, zones_checked, finished, whole_of, nothing_read, reading_of}
+use Rattle.command_reader.specs.Reading.{command_fault, with_command, unless_fault, said_after, line_after, line_then, lines_after, names_unknown, fault_at, unknown_zone, local_zone_checked, zones_checked, finished, whole_of, nothing_read, reading_in, reading_of}
 use Rattle.command_reader.specs.Printing.{command_words, text_of}
-use Rattle.command_reader.specs.Accepted.{is_word, canonical_line, PrintsBack, IsPrintable, IsAccepted}
+use Rattle.command_reader.specs.Accepted.{is_word, canonical_line, PrintsBack, LinesSay, IsPrintable, IsAccepted}
 use Rattle.command_reader.proofs.read_back.Words.{lines_back}
 
 -- ---- lines one after another
@@ -46,29 +46,39 @@ commands_more : (before : Progress) (command : Command) → commands_in (with_co
 commands_more before command =
     map-append (λ n. n.command) before.kept ((record { line = line_count before + 1; command = command }) ∷ [])
 
+-- ---- lines that say commands, one each
+pub none_said : LinesSay [] []
+none_said = record { read = nothing_read; whole = refl; same = refl; none_passed = refl }
+
+-- one more line, and its command
+pub one_more_said : (lines : List (List ℕ)) (line : List ℕ) (commands : List Command) (command : Command)
+    → LinesSay lines commands → length commands < MOST_LINES → line_of line ≡ Ok (Some command)
+    → command_fault commands command ≡ None → LinesSay (lines ++ line ∷ []) (commands ++ command ∷ [])
+one_more_said lines line commands command says room said free =
+    let count : length says.read.kept ≡ length commands = sym (length-map says.read.kept (λ n. n.command)) ∙ ap length says.same in
+    let fewer : line_count says.read < MOST_LINES = omega (arith, count, says.none_passed, room) in
+    let next : line_after says.read line ≡ Ok (with_command says.read command) =
+    line_kept says.read line command fewer said (ap (λ cs. command_fault cs command) says.same ∙ free) in
+    record {
+      read = with_command says.read command;
+      whole = lines_after-append lines (line ∷ []) nothing_read says.read says.whole
+          ∙ line_then-ok (line_count says.read + 1) (line_after says.read line) (with_command says.read command) next;
+      same = commands_more says.read command ∙ ap (λ cs. cs ++ command ∷ []) says.same;
+      none_passed = says.none_passed;
+    }
+
 -- ---- printable commands
 pub none_printable : IsPrintable []
-none_printable = record { each = All-nil PrintsBack; read = nothing_read; whole = refl; same = refl; none_passed = refl }
+none_printable = record { each = All-nil PrintsBack; again = none_said }
 
 -- one more command
-pub one_more_printable : (lines : List Command) (command : Command) → IsPrintable lines → length lines < MOST_LINES → PrintsBack command
-    → command_fault lines command ≡ None → IsPrintable (lines ++ command ∷ [])
-one_more_printable lines command p room back free =
-    let count : length p.read.kept ≡ length lines = sym (length-map p.read.kept (λ n. n.command)) ∙ ap length p.same in
-    let fewer : line_count p.read < MOST_LINES = omega (arith, count, p.none_passed, room) in
-    let front : List (List ℕ) = map canonical_line lines in
-    let last : List (List ℕ) = canonical_line command ∷ [] in
-    let next : line_after p.read (canonical_line command) ≡ Ok (with_command p.read command) =
-    line_kept p.read (canonical_line command) command fewer back.said (ap (λ ls. command_fault ls command) p.same ∙ free) in
-    record {
-      each = All-push PrintsBack lines command p.each back;
-      read = with_command p.read command;
-      whole = ap (lines_after nothing_read) (map-append canonical_line lines (command ∷ []))
-          ∙ lines_after-append front last nothing_read p.read p.whole
-          ∙ line_then-ok (line_count p.read + 1) (line_after p.read (canonical_line command)) (with_command p.read command) next;
-      same = commands_more p.read command ∙ ap (λ ls. ls ++ command ∷ []) p.same;
-      none_passed = p.none_passed;
-    }
+pub one_more_printable : (commands : List Command) (command : Command) → IsPrintable commands → length commands < MOST_LINES → PrintsBack command
+    → command_fault commands command ≡ None → IsPrintable (commands ++ command ∷ [])
+one_more_printable commands command p room back free = record {
+  each = All-push PrintsBack commands command p.each back;
+  again = subst (λ lines. LinesSay lines (commands ++ command ∷ [])) (sym (map-append canonical_line commands (command ∷ [])))
+      (one_more_said (map canonical_line commands) (canonical_line command) commands command p.again room back.said free);
+}
 
 -- the same in the words of the reader
 pub kept_printable : (before : Progress) (command : Command) → IsPrintable (commands_in before) → line_count before < MOST_LINES → PrintsBack command
@@ -144,22 +154,23 @@ words_of_each (command ∷ lines) h = and_from _ _ h.0.words (words_of_each line
 lines_printed : (lines : List Command) → IsPrintable lines → lines_of (text_of lines) ≡ map canonical_line lines
 lines_printed lines p = lines_back command_words lines (words_of_each lines (recursion_from_All PrintsBack lines p.each))
 
-finished_again : (lines : List Command) (a : IsAccepted lines) → finished a.printable.read ≡ Ok (record { commands = lines; passed = 0 })
-finished_again lines a =
-    let read : Progress = a.printable.read in
-    let same : commands_in read ≡ lines = a.printable.same in
-    let declared : list_any (names_unknown (commands_in read)) (commands_in read) ≡ false = ap (λ ls. list_any (names_unknown ls) ls) same ∙ a.declared in
-    let has_local : is_some (first_local_of (commands_in read)) ≡ true = ap (λ ls. is_some (first_local_of ls)) same ∙ a.has_local in
+-- lines that say accepted commands are read as a configuration of them
+pub said_again : (lines : List (List ℕ)) (commands : List Command) → IsAccepted commands → LinesSay lines commands
+    → reading_in lines ≡ Ok (record { commands = commands; passed = 0 })
+said_again lines commands a says =
+    let read : Progress = says.read in
+    let declared : list_any (names_unknown (commands_in read)) (commands_in read) ≡ false = ap (λ cs. list_any (names_unknown cs) cs) says.same ∙ a.declared in
+    let has_local : is_some (first_local_of (commands_in read)) ≡ true = ap (λ cs. is_some (first_local_of cs)) says.same ∙ a.has_local in
     let configuration : Configuration = record { commands = commands_in read; passed = read.passed } in
-    ap (zones_checked read) (none_found (names_unknown (commands_in read)) read.kept (λ n. fault_at n.line UnknownZone) declared)
+    ap whole_of says.whole
+    ∙ ap (zones_checked read) (none_found (names_unknown (commands_in read)) read.kept (λ n. fault_at n.line UnknownZone) declared)
     ∙ ap (λ b. cond b (Ok configuration) (Err (fault_at (line_count read + 1) NoLocalZone))) has_local
-    ∙ ap (λ ls. Ok (record { commands = ls; passed = read.passed })) same
-    ∙ ap (λ n. Ok (record { commands = lines; passed = n })) a.printable.none_passed
+    ∙ ap (λ cs. Ok (record { commands = cs; passed = read.passed })) says.same
+    ∙ ap (λ n. Ok (record { commands = commands; passed = n })) says.none_passed
 
 -- what is printed of accepted commands reads as those commands, with nothing passed over
-pub file_back : (lines : List Command) → IsAccepted lines → reading_of (text_of lines) ≡ Ok (record { commands = lines; passed = 0 })
+pub file_back : (commands : List Command) → IsAccepted commands → reading_of (text_of commands) ≡ Ok (record { commands = commands; passed = 0 })
 unfolding reading_of
-file_back lines a =
-    ap (λ ls. whole_of (lines_after nothing_read ls)) (lines_printed lines a.printable)
-    ∙ ap whole_of a.printable.whole
-    ∙ finished_again lines a
+file_back commands a =
+    ap (λ ls. whole_of (lines_after nothing_read ls)) (lines_printed commands a.printable)
+    ∙ said_again (map canonical_line commands) commands a a.printable.again

@@ -8,6 +8,8 @@ use Rattle.std.proofs.lemmas.List.{append-nil}
 use Rattle.std.proofs.lemmas.List.Elements.{All-from_recursion}
 use Rattle.std.proofs.lemmas.List.Splits.{slice_split_at, slice_split_none}
 use Rattle.std.proofs.Math.Seq.{take-append_seam}
+use Rattle.gk_lines.specs.LineReader.{HasNoFeed}
+use Rattle.gk_lines.proofs.LinesRead.{whole_line_first}
 use Rattle.gk_terms.specs.Spelling.{is_visible}
 use Rattle.command_reader.specs.Accepted.{is_word}
 use Rattle.gk_terms.specs.Text.{is_blank, is_empty, words_of, raw_lines_of, strip_carriage_return, content_of, lines_of, spaced, line_text}
@@ -93,14 +95,10 @@ no_feed b h = grind (arith, nat_tests)
 no_return : (b : ℕ) → is_printed b ≡ true → (b == 13) ≡ false
 no_return b h = grind (arith, nat_tests)
 
--- a line of such bytes in front of others
-line_in_front : (line rest : List ℕ) → list_all is_printed line ≡ true → raw_lines_of (line ++ (10 ∷ rest)) ≡ (line ++ (10 ∷ [])) ∷ raw_lines_of rest
-line_in_front [] rest h = refl
-line_in_front (b ∷ bs) rest h =
-    let p = and_parts _ _ h in
-    let text : List ℕ = bs ++ (10 ∷ rest) in
-    ap (λ t. cond t ((b ∷ []) ∷ raw_lines_of text) (onto_first b (raw_lines_of text))) (no_feed b p.0)
-    ∙ ap (onto_first b) (line_in_front bs rest p.1)
+-- no byte of such a line is a line feed
+no_feeds : (line : List ℕ) → list_all is_printed line ≡ true → HasNoFeed line
+no_feeds [] h = tt
+no_feeds (b ∷ bs) h = let p = and_parts _ _ h in (no_feed b p.0, no_feeds bs p.1)
 
 -- no byte of such a line is a carriage return
 no_return_at : (line : List ℕ) (i : ℕ) → list_all is_printed line ≡ true → (slice_index line i == 13) ≡ false
@@ -112,15 +110,22 @@ last_is_feed : (line : List ℕ) → get_or (line ++ (10 ∷ [])) (length line) 
 last_is_feed [] = refl
 last_is_feed (b ∷ bs) = last_is_feed bs
 
-content_back : (line : List ℕ) → list_all is_printed line ≡ true → content_of (line ++ (10 ∷ [])) ≡ line
-content_back line h =
+content_back : (line : List ℕ) → (slice_index line (length line - 1) == 13) ≡ false → content_of (line ++ (10 ∷ [])) ≡ line
+content_back line other =
     let raw : List ℕ = line ++ (10 ∷ []) in
     let last : length raw - 1 ≡ length line = omega (arith, length-append {A = ℕ}) in
     let feed : slice_index raw (length raw - 1) ≡ 10 = ap (λ k. get_or raw k 0) last ∙ last_is_feed line in
     let front : take (length raw - 1) raw ≡ line = ap (λ k. take k raw) last ∙ take-append_seam line (10 ∷ []) in
     ap (λ b. cond (b == 10) (strip_carriage_return (take (length raw - 1) raw)) raw) feed
     ∙ ap strip_carriage_return front
-    ∙ ap (λ t. cond t (take (length line - 1) line) line) (no_return_at line (length line - 1) h)
+    ∙ ap (λ t. cond t (take (length line - 1) line) line) other
+
+-- a line without a line feed, and without a carriage return at its end, in front of others
+pub line_first : (line rest : List ℕ) → HasNoFeed line → (slice_index line (length line - 1) == 13) ≡ false
+    → lines_of ((line ++ (10 ∷ [])) ++ rest) ≡ line ∷ lines_of rest
+line_first line rest free other =
+    ap (map content_of) (whole_line_first (line ++ (10 ∷ [])) rest (line, free, refl))
+    ∙ ap (λ content. content ∷ lines_of rest) (content_back line other)
 
 -- lines of words, each with its line feed, are the lines of their text
 pub lines_back : {X : Type 0} (words : X → List (List ℕ)) (xs : List X) → list_all (λ x. list_all is_word (words x)) xs ≡ true
@@ -131,7 +136,5 @@ lines_back words (x ∷ xs) h =
     let line : List ℕ = spaced (words x) in
     let rest : List ℕ = flat_map (λ x. line_text (words x)) xs in
     let free : list_all is_printed line ≡ true = printed_spaced (words x) p.0 in
-    ap lines_of (append_assoc line (10 ∷ []) rest)
-    ∙ ap (map content_of) (line_in_front line rest free)
-    ∙ ap (λ content. content ∷ lines_of rest) (content_back line free)
+    line_first line rest (no_feeds line free) (no_return_at line (length line - 1) free)
     ∙ ap (λ others. line ∷ others) (lines_back words xs p.1)

@@ -6,7 +6,7 @@ use Rattle.command_reader.proofs.one_by_one.ReadOnLemmas.{one_line, refused_line
 use Rattle.command_reader.proofs.reading.lines_in.Goals as goal
 
 pub loop-line-init : goal.loop-line-init
-loop-line-init c = rw (c.into_iter-line-iterator.ensures.into_iter_gives, c.of-line-items.ensures, c.with_room-draft.ensures) (λ end said. said)
+loop-line-init c = rw (c.into_iter-line-iterator.ensures.into_iter_gives, c.of-line-items.ensures, c.keeping_lines-draft.ensures) (λ end said. said)
 
 pub returns-in_err-read_line : goal.returns-in_err-read_line
 returns-in_err-read_line c =

@@ -10,6 +10,8 @@ use Rattle.command_reader.proofs.read_back.Line.{command_back}
 use Rattle.command_reader.proofs.one_by_one.IndexLemmas.{same_fault, one_more_declared}
 use Rattle.command_reader.proofs.one_by_one.KeptLemmas.{line_kept, line_passed, line_refused}
 use Rattle.command_reader.proofs.one_by_one.NumberLemmas.{held_commands, held_count, held_more}
+use Rattle.command_reader.specs.WholeLines.{KeepsLine}
+use Rattle.command_reader.proofs.WholeLinesLemmas.{one_more_kept}
 use Rattle.command_reader.proofs.draft.Draft.read_text.Goals as goal
 
 pub returns-in_err-add_line : goal.returns-in_err-add_line
@@ -24,15 +26,15 @@ returns-in_err-add_line c =
       rw (c.in_err-add_line.ensures.1.commands, c.in_err-add_line.ensures.1.numbers) c.self.view_is,
     )
 
-pub invariant_of-self-then-len-kept : goal.invariant_of-self-then-len-kept
-invariant_of-self-then-len-kept c =
+pub invariant_of-self-then-len-commands_before : goal.invariant_of-self-then-len-commands_before
+invariant_of-self-then-len-commands_before c =
     let room : line_count c.args.self.now < MOST_LINES = omega (arith, c.if-before-ge-MOST_LINES.false, c.line_count-before.ensures.count) in
     let commands = c.self.inside.kept.commands.items in
     let numbers = c.self.inside.kept.numbers.items in
     let same = held_commands numbers _ _ _ c.self.invariant.0 c.self.view_is in
     let declared = subst (AreDeclared (keys c.self.inside.kept.declared)) (sym same) c.self.invariant.2 in
     let old : Kept = record { commands = c.self.inside.kept.commands; numbers = c.self.inside.kept.numbers; declared = c.self.inside.kept.declared; line = c.line_count-before.result + 1 } in
-    let more : length commands < length c.add_line.new.kept.commands.items = omega (arith, c.if-len-kept.true, c.len.ensures, c.len-kept.ensures) in
+    let more : length commands < length c.add_line.new.kept.commands.items = omega (arith, c.if-len-commands_before.true, c.len.ensures, c.len-commands_before.ensures) in
     let kept = line_kept old c.add_line.new.kept c.args.self.now c.args.line.now room declared c.in_ok-add_line.ensures more in
     let count = held_count numbers _ _ _ c.self.invariant.0 c.self.view_is in
     let one_command : length c.add_line.new.kept.commands.items ≡ length commands + 1 = ap length kept.added.commands ∙ length-append commands _ in
@@ -43,16 +45,17 @@ invariant_of-self-then-len-kept c =
       omega (arith, room, one_command, count),
       rw kept.added.commands (one_more_declared _ _ _ _ c.self.invariant.2 kept.added.declared),
       rw kept.added.commands (one_more_printable commands kept.command c.self.invariant.3 (omega (arith, room, count)) back free),
+      rw kept.added.commands (one_more_kept c.self.inside.command_lines c.args.line.now _ commands kept.command c.self.invariant.4 (subst (λ lines. KeepsLine lines c.args.line.now c.keep_line.result) c.take.ensures.value c.keep_line.ensures) (omega (arith, room, count)) kept.said free),
     )
 
-pub returns-then-len-kept : goal.returns-then-len-kept
-returns-then-len-kept c =
+pub returns-then-len-commands_before : goal.returns-then-len-commands_before
+returns-then-len-commands_before c =
     let room : line_count c.args.self.now < MOST_LINES = omega (arith, c.if-before-ge-MOST_LINES.false, c.line_count-before.ensures.count) in
     let numbers = c.self.inside.kept.numbers.items in
     let same = held_commands numbers _ _ _ c.self.invariant.0 c.self.view_is in
     let declared = subst (AreDeclared (keys c.self.inside.kept.declared)) (sym same) c.self.invariant.2 in
     let old : Kept = record { commands = c.self.inside.kept.commands; numbers = c.self.inside.kept.numbers; declared = c.self.inside.kept.declared; line = c.line_count-before.result + 1 } in
-    let more : length c.self.inside.kept.commands.items < length c.add_line.new.kept.commands.items = omega (arith, c.if-len-kept.true, c.len.ensures, c.len-kept.ensures) in
+    let more : length c.self.inside.kept.commands.items < length c.add_line.new.kept.commands.items = omega (arith, c.if-len-commands_before.true, c.len.ensures, c.len-commands_before.ensures) in
     let kept = line_kept old c.add_line.new.kept c.args.self.now c.args.line.now room declared c.in_ok-add_line.ensures more in
     let added =
     held_more numbers c.add_line.new.kept.numbers.items c.self.inside.kept.commands.items c.add_line.new.kept.commands.items _ c.line_count-before.result c.args.self.now kept.command
@@ -65,5 +68,5 @@ invariant_of-self-2 c =
     let count = held_count c.self.inside.kept.numbers.items _ _ _ c.self.invariant.0 c.self.view_is in
     let old : Kept = record { commands = c.self.inside.kept.commands; numbers = c.self.inside.kept.numbers; declared = c.self.inside.kept.declared; line = c.line_count-before.result + 1 } in
     let passed = line_passed old c.add_line.new.kept c.args.self.now c.args.line.now room c.in_ok-add_line.ensures
-    (λ more. absurd (omega (arith, c.if-len-kept.false, c.len.ensures, c.len-kept.ensures, more))) in
-    rw (passed.same.commands, passed.same.numbers, passed.same.declared) (c.self.invariant.0, omega (arith, room, count), c.self.invariant.2, c.self.invariant.3)
+    (λ more. absurd (omega (arith, c.if-len-commands_before.false, c.len.ensures, c.len-commands_before.ensures, more))) in
+    rw (passed.same.commands, passed.same.numbers, passed.same.declared) (c.self.invariant.0, omega (arith, room, count), c.self.invariant.2, c.self.invariant.3, c.self.invariant.4)

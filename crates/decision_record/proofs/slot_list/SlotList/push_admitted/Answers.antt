@@ -7,13 +7,14 @@ use Rattle.decision_record.proofs.SlotListLemmas.{admitted_held, told_are, held_
 use Rattle.decision_record.proofs.slot_list.SlotList.push_admitted.Goals as goal
 
 held : (c : goal.After-self-1)
-    → AreHeld c.push-2.new.self c.push.new.self c.self.inside.refused c.self.inside.brief
+    → AreHeld c.push-2.new.self c.push.new.self c.self.inside.refused c.self.inside.brief c.self.inside.wide
     (slots_told c.self.inside.places c.self.inside.routed c.self.inside.refused c.self.inside.brief
+    c.self.inside.wide
     ++ admitted_slot c.args.admission ∷ []) (c.self.inside.room - 1)
 held c =
     let one : 1 ≤ c.self.inside.room =
     omega (arith, c.requires.room, ap (λ (h : PiecesParts Slot). h.room) c.self.view_is) in
-    admitted_held _ _ _ _ _ _ c.self.invariant one c.len-place.result
+    admitted_held _ _ _ _ _ _ _ c.self.invariant one c.len-place.result
     c.args.admission c.push.new.self c.push-2.new.self c.len-place.ensures.value
     (c.push.ensures ∙ ap (λ (a : RoutedAdmission). record {
       items = c.self.inside.routed.items ++ a ∷ [];
@@ -22,12 +23,12 @@ held c =
     c.push-2.ensures
 
 pub invariant_of-self : goal.invariant_of-self
-invariant_of-self c = held_told _ _ _ _ _ _ (held c)
+invariant_of-self c = held_told _ _ _ _ _ _ _ (held c)
 
 pub returns : goal.returns
 returns c =
     ap (λ ss. record { items = ss; room = c.self.inside.room - 1 })
-    (told_are _ _ _ _ _ _ (held c))
+    (told_are _ _ _ _ _ _ _ (held c))
     ∙ ap (λ (h : PiecesParts Slot). record {
       items = h.items ++ admitted_slot c.args.admission ∷ [];
       room = h.room - 1;

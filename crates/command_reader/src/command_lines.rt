@@ -1,0 +1,53 @@
+//! The lines of accepted commands.
+
+ghost use Rattle.std.specs.Prelude.{◌≡◌, IfOk, Ok};
+ghost use Rattle.command_reader.specs.Reading.{reading_in};
+ghost use Rattle.command_reader.specs.WholeLines.{commands_said};
+
+use crate::commands::Commands;
+use crate::reading::read;
+use crate::whole_lines::WholeLines;
+use std::alloc::{AllocError, Global};
+use std::marker::Model;
+
+/// The lines of accepted commands as they were given, without those that were passed over. They are
+/// made by `Commands::into_lines`. A contract sees the commands.
+#[derive(Drop)]
+pub struct CommandLines {
+    lines: WholeLines,
+}
+
+impl Model for CommandLines {
+    ghost use Rattle.std.specs.Prelude.{◌≡◌, List, Ok};
+    ghost use Rattle.command_reader.specs.declared.commands.Command.{Command};
+    ghost use Rattle.command_reader.specs.Reading.{reading_in};
+    ghost use Rattle.command_reader.specs.WholeLines.{commands_said};
+
+    ghost Value = { List Command };
+
+    ghost view = { λ l. commands_said l.lines };
+
+    ghost invariant = { λ l. reading_in l.lines
+        ≡ Ok (record { commands = commands_said l.lines; passed = 0 }) };
+}
+
+impl CommandLines {
+    /// Lines that say commands.
+    pub(crate) fn new(lines: WholeLines) -> CommandLines
+        requires { reading_in lines ≡ Ok (record { commands = commands_said lines; passed = 0 }) }
+        ensures { result ≡ commands_said lines }
+    {
+        CommandLines { lines }
+    }
+
+    /// The commands, read again. It fails only if memory runs out.
+    pub fn commands(&self, alloc: Global) -> Result<Commands, AllocError>
+        ensures { IfOk result
+            (λ commands. commands ≡ record { commands = self.now; passed = 0 }) }
+    {
+        match read(alloc, self.lines.as_bytes()) {
+            Ok(commands) => Ok(commands),
+            Err(_) => Err(AllocError),
+        }
+    }
+}
