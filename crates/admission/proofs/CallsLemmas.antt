@@ -64,7 +64,8 @@ length-without_call (call ∷ calls) number id h =
         → (is_owned id (call_of calls number) ≡ true
         → length (without_call calls number) + 1 ≤ length calls)
         → is_owned id (cond same (Some call) (call_of calls number)) ≡ true
-        → length (cond (not same) (call ∷ without_call calls number) (without_call calls number)) + 1
+        → length (cond (not same) (call ∷ without_call calls number) (without_call calls number)) +
+        1
         ≤ length (call ∷ calls)
     by true rest h = omega (arith, shorter)
     by false rest h = omega (arith, rest h)

@@ -83,7 +83,8 @@ module _ (s : State) (event : PlainEvent) (recorded : (step s event).recorded �
 module _ (m : MachineParts) (s : State) (is : IsUnder m s) (event : PlainEvent) (ruling : Ruling)
   where
     pub counts_under : count_refusal (bare m) event ruling ≡ count_refusal s event ruling
-    counts_under = counts_alike s.commands m event ruling ∙ ap (λ t. count_refusal t event ruling) is
+    counts_under = counts_alike s.commands m event ruling ∙ ap (λ t. count_refusal t event ruling)
+        is
 
     module _ (given : ruling ≡ ruling_of s event) where
       -- whether it records, by its own test
@@ -185,7 +186,8 @@ was_entered core new event reply (inl (other, is)) differs receipt number kind i
       recorded = is.recorded;
       reply_is = is.reply_is;
       receipt_is =
-          same_fields receipt (receipt_of (length core.entries + 1) (entry_of (state_of core) event))
+          same_fields receipt (receipt_of (length core.entries + 1)
+          (entry_of (state_of core) event))
           counted kind id call verdict;
       new_is = is.new_is;
     }

@@ -226,7 +226,8 @@ raise_was_within s event number units held order (Opening destination call is ef
   where
     differ : Admitted call.number destination call.units ≡ Changed number units → ⊥
     differ h = cc
-raise_was_within s event number units held order (Changing_to call asked id was is effect there fits)
+raise_was_within s event number units held order (Changing_to call asked id was is effect there
+    fits)
     verdict found more =
     record {
       call = held;

@@ -41,8 +41,8 @@ gives_bandwidth (ReleaseRefused call reason) = false
 gives_bandwidth (Reloaded version) = false
 gives_bandwidth (ReloadRefused reason) = false
 
--- what stands behind a ruling: none, a call that does not fit, one that is not open and fits, or one
--- that fits with more
+-- what stands behind a ruling: none, a call that does not fit, one that is not open and fits, or
+-- one that fits with more
 pub data IsBehind (s : State) (event : PlainEvent) (ruling : Ruling) : Type 0 where
   Other : gives_bandwidth ruling.verdict ≡ false → sum_named ruling.verdict ≡ None
       → IsBehind s event ruling
@@ -124,7 +124,8 @@ module _ (s : State) where
         → over_of s.commands s.calls (record held { units = units }) ≡ over
         → IsBehind s (Changing id call units) (change_unless id call units over)
     change_unless_behind units held (Some over) found fits =
-        Refusing refl over (record held { units = units }) refl (ToBeChanged id call units held found)
+        Refusing refl over (record held { units = units }) refl
+        (ToBeChanged id call units held found)
         fits
     change_unless_behind units held None found fits =
         Changing_to call units id held refl refl found fits

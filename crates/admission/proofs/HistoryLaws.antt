@@ -48,13 +48,15 @@ replay_commands s (e ∷ entries) legal =
     ∙ ap (λ commands. in_force_of commands entries) (step_commands s e.event legal.1)
 
 -- an entry is what is recorded of its event in the state that those before it leave
-entry_there : (s : State) (before after : List PlainEntry) (e : PlainEntry) → IsLegal s (before ++ e ∷ after)
+entry_there : (s : State) (before after : List PlainEntry) (e : PlainEntry) → IsLegal s
+    (before ++ e ∷ after)
     → e ≡ entry_of (replay s before) e.event
 entry_there s [] after e legal = legal.0
 entry_there s (b ∷ before) after e legal = entry_there (step s b.event).state before after e legal.2
 
 -- so its reply is the verdict there
-pub verdict_there : (s : State) (entries before : List PlainEntry) (e : PlainEntry) → IsLegal s entries
+pub verdict_there : (s : State) (entries before : List PlainEntry) (e : PlainEntry) → IsLegal s
+    entries
     → StandsAfter entries before e → (event : PlainEvent) (reply : Reply) → e.event ≡ event
     → e.reply ≡ reply → verdict_of (replay s before) event ≡ reply
 verdict_there s entries before e legal stands event reply asked replied =
@@ -195,7 +197,8 @@ length_kept commands endpoints =
 -- ---- the limits after a step
 module _ (s : State) (event : PlainEvent) (within : IsWithinLimits s) where
   effect_within : (effect : Effect) → IsFounded s event effect
-      → places_needed effect ≤ free_places s → IsWithinLimits (with_count (with_effect s event effect))
+      → places_needed effect ≤ free_places s → IsWithinLimits
+      (with_count (with_effect s event effect))
   effect_within Nothing founded free = record {
     endpoints = within.endpoints;
     calls = within.calls;

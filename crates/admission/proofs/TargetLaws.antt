@@ -1,5 +1,5 @@
--- Where the commands send dialled digits: each target comes of a technology prefix, of a pattern, or
--- of neither.
+-- Where the commands send dialled digits: each target comes of a technology prefix, of a pattern,
+-- or of neither.
 use Rattle.std.proofs.Common.{◌≡◌, ◌≤◌, ℕ, zero, suc, ◌==◌, Bool, true, false, cond, ◌&&◌, List, [], ◌∷◌, length, drop, filter, find, Option, Some, None, slice_get, option_map, bytes_eq, refl, subst, arith}
 use Rattle.std.specs.Prelude.{IsTrue, option_and_then}
 use Rattle.std.specs.Bool.{beq}
@@ -84,7 +84,8 @@ module _ (commands : List Command) (digits : List ℕ) where
             (filter_passes (begins_with digits) (prefixes_of commands)) there;
         longest = all_of_filter (begins_with digits) (λ other. length other ≤ length prefix)
             (prefixes_of commands)
-            (All-weaker (λ other. is_longer other prefix ≡ false) (λ other. length other ≤ length prefix)
+            (All-weaker (λ other. is_longer other prefix ≡ false)
+            (λ other. length other ≤ length prefix)
             (λ other e. ltb-false (length prefix) (length other) e) beginning first.unbeaten);
       }
 
@@ -146,7 +147,8 @@ module _ (commands : List Command) (order : IsRankOrder (is_picked_before comman
   by_best row (Some best) e h = by (picked commands (zones_for commands best.0)) refl h
     where
       by : (zone : Option (List ℕ)) → picked commands (zones_for commands best.0) ≡ zone
-          → option_map {U = Row} (λ zone. (best.0, zone)) zone ≡ Some row → IsLongestRow commands digits row
+          → option_map {U = Row} (λ zone. (best.0, zone)) zone ≡ Some row → IsLongestRow commands
+          digits row
       by None f h = absurd (none-some row h)
       by (Some zone) f h =
           let is : (best.0, zone) ≡ row = cc in
@@ -171,7 +173,8 @@ module _ (commands : List Command) (order : IsRankOrder (is_picked_before comman
           (λ row f. untrue (matches row.0 digits) f) (rows_of commands)
           (best_of-none (rows_of commands) digits e)
       by (Some best) e h =
-          absurd (some_zone (rows_of commands) best (best_of-IsBest (rows_of commands) digits best e).row
+          absurd (some_zone (rows_of commands) best (best_of-IsBest (rows_of commands) digits best
+          e).row
           (no_pick commands order (zones_for commands best.0)
           (unmapped (picked commands (zones_for commands best.0)) h)))
         where

@@ -52,8 +52,8 @@ impl Core {
         Ok((*reply, receipt))
     }
 
-    /// Replies to an event as `answer_by` does: refuses it by a count, or records it and carries out
-    /// the ruling on it; a refused release is not recorded.
+    /// Replies to an event as `answer_by` does: refuses it by a count, or records it and carries
+    /// out the ruling on it; a refused release is not recorded.
     pub(crate) fn reply_by(&mut self, planned: Option<&Plan>, event: Event) -> Reply
         requires planned { IfSome (option_copied planned)
             (IsPlanOf (state_of self.old).commands (Events.plain event)) }
@@ -69,8 +69,8 @@ impl Core {
         }
     }
 
-    /// The same of an event of names and numbers alone. It is lent, since an event is large, and few
-    /// are registrations or reloads.
+    /// The same of an event of names and numbers alone. It is lent, since an event is large, and
+    /// few are registrations or reloads.
     pub(crate) fn reply_lent(&mut self, planned: Option<&Plan>, event: &Event) -> Reply
         requires planned { IfSome (option_copied planned)
             (IsPlanOf (state_of self.old).commands (Events.plain event.now)) }
@@ -98,8 +98,8 @@ impl Core {
         *reply
     }
 
-    /// The same of an event that the record takes whole, as a registration or a reload. In a function
-    /// of its own, so that no other reply clears its places.
+    /// The same of any event, as a registration or a reload, which the record takes by value. In a
+    /// function of its own, so that no other reply clears its places.
     #[inline(never)]
     pub(crate) fn reply_owned(&mut self, event: Event) -> Reply
         ensures reply { MayReply self.old (Events.plain event) result self.new }
@@ -119,8 +119,8 @@ impl Core {
         *reply
     }
 
-    /// Records an event in few bytes, and carries out the effect of the ruling on it. If memory runs
-    /// out, the reply says so in place of the verdict.
+    /// Records an event in few bytes, and carries out the effect of the ruling on it. If memory
+    /// runs out, the reply says so in place of the verdict.
     fn enter_lent(&mut self, event: &Event, effect: &Effect, slot: &Slot, reply: &mut Reply)
         requires verdict { reply.old
             ≡ (ruling_of (state_of self.old) (Events.plain event.now)).verdict }
@@ -246,7 +246,8 @@ impl Core {
         effect: &Effect,
         told: &Told,
     ) -> Result<(), Reply>
-        requires verdict { verdict.now ≡ (ruling_of (state_of self.old) (Events.plain event)).verdict }
+        requires verdict { verdict.now
+            ≡ (ruling_of (state_of self.old) (Events.plain event)).verdict }
         requires effect { effect.now
             ≡ (ruling_of (state_of self.old) (Events.plain event)).effect }
         requires told { told_meant told.now (Events.plain event) verdict.now

@@ -69,14 +69,16 @@ fn events_of(alloc: Global, core: &mut Core, id: &[u8]) -> Result<[Receipt; 5], 
     ])
 }
 
-/// A registration: the ID, the zone and the last byte of the address of a terminal, and why it is
-/// refused, if it is.
+/// A registration: the ID, the zone and the last byte of the address of a terminal, why it is
+/// refused, if it is, and how the record keeps it.
 #[derive(Clone, Copy)]
 struct Registration {
     id: &'static [u8],
     zone: &'static [u8],
     host: u8,
     refusal: Option<RegisterRefusal>,
+    /// Whether the record keeps its endpoint in few bytes.
+    is_brief: bool,
 }
 
 impl Registration {
@@ -107,6 +109,7 @@ fn registrations_read_back(rt: HostRuntime) -> Result<(), Fail> {
             zone: b"gk-a",
             host: 1,
             refusal: None,
+            is_brief: true,
         },
         // A long ID.
         Registration {
@@ -114,6 +117,7 @@ fn registrations_read_back(rt: HostRuntime) -> Result<(), Fail> {
             zone: b"gk-a",
             host: 2,
             refusal: None,
+            is_brief: false,
         },
         // The first local zone, which the reply names.
         Registration {
@@ -121,12 +125,14 @@ fn registrations_read_back(rt: HostRuntime) -> Result<(), Fail> {
             zone: b"-",
             host: 3,
             refusal: None,
+            is_brief: false,
         },
         Registration {
             id: b"tc",
             zone: b"gk-x",
             host: 4,
             refusal: Some(RegisterRefusal::UnknownZone),
+            is_brief: true,
         },
     ] {
         assert_first(&rt, rt.alloc(), &registration)?;
@@ -168,6 +174,7 @@ fn assert_duplicates(rt: &impl Abort, alloc: Global, core: &mut Core) -> Result<
             zone: b"gk-a",
             host,
             refusal,
+            is_brief: true,
         };
         assert_registration(rt, alloc, core, &registration)?;
     }
@@ -187,17 +194,24 @@ fn assert_registration(
     assert_eq!(rt; entry.reply, registration.reply()?);
     assert_eq!(rt; entry.receipt(receipt.number), receipt);
     assert_eq!(rt; (entry.zone, entry.route), (None, None));
-    assert_same_endpoint(rt, registering(&entry)?, &asked);
+    assert_eq!(rt; is_brief(&entry), registration.is_brief);
+    assert_same_endpoint(rt, &registering(&entry)?, &asked);
     Ok(())
 }
 
+/// Whether the entry lends an endpoint in few bytes.
+fn is_brief(entry: &Entry<'_>) -> bool {
+    matches!(&entry.event, EntryEvent::Registration(_))
+}
+
 /// The endpoint that asks to be registered.
-fn registering<'a>(entry: &'a Entry<'_>) -> Result<&'a Endpoint, Fail> {
+fn registering(entry: &Entry<'_>) -> Result<Endpoint, Fail> {
     match &entry.event {
         EntryEvent::Asked(event) => match &**event {
-            Event::Register(endpoint) => Ok(endpoint),
+            Event::Register(endpoint) => Ok(endpoint.copy()?),
             _ => Err(Fail::new("not a registration")),
         },
+        EntryEvent::Registration(endpoint) => Ok(endpoint.endpoint()?),
         EntryEvent::Reload(_) => Err(Fail::new("not a registration")),
     }
 }

@@ -115,7 +115,7 @@ fn commands_reloaded(record: &Record, alloc: Global, number: u32) -> Result<(boo
             let as_lines = matches!(reloaded, ReloadedCommands::Lines(_));
             Ok((as_lines, reloaded.commands(alloc)?.len()))
         }
-        EntryEvent::Asked(_) => Err(Fail::new("not a reload")),
+        EntryEvent::Asked(_) | EntryEvent::Registration(_) => Err(Fail::new("not a reload")),
     }
 }
 

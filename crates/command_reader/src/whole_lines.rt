@@ -66,7 +66,7 @@ impl WholeLines {
     }
 }
 
-/// Puts a line and its line feed at the end. If memory runs out, nothing changes.
+/// Puts a line and its line feed at the end. If memory runs out, the text is fit only to be dropped.
 fn put_line(bytes: &mut Vec<u8>, line: &[u8]) -> Result<(), AllocError>
     ensures { OnOk result (bytes.new.items ≡ (bytes.old.items ++ line.now) ++ 10 ∷ []) }
 {

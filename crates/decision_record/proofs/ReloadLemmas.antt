@@ -1,19 +1,22 @@
 -- The tables in force, as a record finds them.
 use Rattle.std.proofs.Common.{◌≡◌, ◌≤◌, ℕ, List, [], ◌∷◌, ◌++◌, length, slice_get, refl, sym, ap, ◌∙◌, arith}
 use Rattle.std.specs.Prelude.{Option, Some, None}
-use Rattle.std.specs.Option.{option_and_then, option_map}
+use Rattle.std.specs.Option.{option_map}
 use Rattle.std.proofs.lemmas.Option.{none-some, same_Some, slice_get_past}
 use Rattle.command_reader.specs.declared.commands.Command.{Command}
 use Rattle.registry.specs.Endpoint.{EndpointParts}
-use Rattle.rulings.specs.Events.{PlainEvent, put_in_force, endpoint_asking}
+use Rattle.rulings.specs.Events.{put_in_force}
 use Rattle.decision_record.specs.History.{PlainEntry, in_force_after, in_force_of}
-use Rattle.decision_record.specs.Slots.{entry_meant, registration_meant, register_entry}
+use Rattle.decision_record.specs.Slots.{entry_meant, brief_entry, register_entry}
 use Rattle.pieces.specs.Pieces.{PiecesParts}
 use Rattle.decision_record.specs.Reloads.{ReloadsParts}
 use Rattle.decision_record.specs.RecordIndex.{entries_told, IsStored, IsLastReload}
-use Rattle.rulings.specs.declared.events.Event.{Event}
 use Rattle.decision_record.specs.declared.entries.WholeEntry.{WholeEntry}
-use Rattle.decision_record.specs.declared.slots.ShortReply.{ShortReply}
+use Rattle.decision_record.specs.declared.slot_parts.ShortReply.{ShortReply}
+use Rattle.decision_record.specs.declared.slot_parts.ShortReply.TheVariants as short_reply
+use Rattle.decision_record.specs.declared.slots.BriefSlot.{BriefSlot}
+use Rattle.decision_record.specs.declared.slots.BriefSlot.TheVariants as brief
+use Rattle.decision_record.specs.declared.slots.WideSlot.TheVariants as wide
 use Rattle.decision_record.specs.declared.slots.Slot.{Slot}
 use Rattle.decision_record.specs.declared.slots.Slot.TheVariants as slot
 
@@ -52,31 +55,32 @@ puts_as : (e f : PlainEntry) → Some e ≡ Some f → put_in_force e.event ≡ 
 puts_as e f same none =
     sym (ap (λ (entry : PlainEntry). put_in_force entry.event) (same_Some e f same)) ∙ none
 
--- of a registration
-pub registration_puts_none : (replied : ShortReply) (event : PlainEvent) (e : PlainEntry)
-    → registration_meant replied event ≡ Some e → put_in_force e.event ≡ None
-registration_puts_none replied event e h = by (endpoint_asking event) h
-  where
-    by : (asking : Option EndpointParts) → option_map (register_entry replied) asking ≡ Some e
-        → put_in_force e.event ≡ None
-    by None h = absurd (none-some e h)
-    by (Some endpoint) h = puts_as (register_entry replied endpoint) e h refl
-
 -- of a slot
+no_registration : (replied : ShortReply) (place : ℕ) (e : PlainEntry)
+    → option_map (register_entry replied) (slice_get [] place) ≡ Some e
+    → put_in_force e.event ≡ None
+no_registration replied place e h =
+    absurd (none-some e
+    (sym (ap (option_map (register_entry replied)) (nothing_there [] place refl)) ∙ h))
+
+brief_puts_none : (b : BriefSlot) (e : PlainEntry) → brief_entry [] b ≡ Some e
+    → put_in_force e.event ≡ None
+brief_puts_none (brief.Change id call units) e h = puts_as _ e h refl
+brief_puts_none (brief.RefusedChange id call units cause) e h = puts_as _ e h refl
+brief_puts_none (brief.Release id call) e h = puts_as _ e h refl
+brief_puts_none (brief.Unregistration id) e h = puts_as _ e h refl
+brief_puts_none (brief.RefusedRegistration place reason) e h =
+    no_registration (short_reply.Refused reason) place e h
+
 pub slot_puts_none : (s : Slot) (e : PlainEntry) → entry_meant [] [] [] s ≡ Some e
     → put_in_force e.event ≡ None
-slot_puts_none (slot.Admitted call units id digits zone to at) e h = puts_as _ e h refl
-slot_puts_none (slot.OverLimit call units id digits zone to at over) e h = puts_as _ e h refl
-slot_puts_none (slot.OtherLimit call units id digits zone to at over) e h = puts_as _ e h refl
-slot_puts_none (slot.Refused call units id digits cause) e h = puts_as _ e h refl
-slot_puts_none (slot.Change id call units) e h = puts_as _ e h refl
-slot_puts_none (slot.RefusedChange id call units cause) e h = puts_as _ e h refl
-slot_puts_none (slot.OverChange id call units over) e h = puts_as _ e h refl
-slot_puts_none (slot.Release id call) e h = puts_as _ e h refl
-slot_puts_none (slot.Unregistration id) e h = puts_as _ e h refl
-slot_puts_none (slot.Registration place replied) e h =
-    absurd (none-some e
-    (sym (ap (option_and_then (registration_meant replied)) (nothing_there [] place refl)) ∙ h))
+slot_puts_none (slot.Admitted a) e h = puts_as _ e h refl
+slot_puts_none (slot.OverLimit a over) e h = puts_as _ e h refl
+slot_puts_none (slot.Refused a) e h = puts_as _ e h refl
+slot_puts_none (slot.Brief b) e h = brief_puts_none b e h
+slot_puts_none (slot.Wide (wide.OtherLimit a over)) e h = puts_as _ e h refl
+slot_puts_none (slot.Wide (wide.OverChange id call units over)) e h = puts_as _ e h refl
+slot_puts_none (slot.Registered place) e h = no_registration short_reply.Granted place e h
 slot_puts_none (slot.Aside place) e h = absurd (none-some e (sym (nothing_there [] place refl) ∙ h))
 slot_puts_none (slot.Reload place) e h =
     absurd (none-some e (sym (nothing_there [] place refl) ∙ h))
@@ -84,35 +88,35 @@ slot_puts_none (slot.Reload place) e h =
 -- ---- more room
 -- lists that hold the same, with room for so many, are stored and found alike
 module _ (slots more_slots : PiecesParts Slot) (aside more_aside : PiecesParts WholeEntry)
-    (events more_events : PiecesParts Event) (reloads more_reloads : ReloadsParts)
+    (endpoints more_endpoints : PiecesParts EndpointParts) (reloads more_reloads : ReloadsParts)
     (same_slots : more_slots.items ≡ slots.items) (same_aside : more_aside.items ≡ aside.items)
-    (same_events : more_events.items ≡ events.items)
+    (same_endpoints : more_endpoints.items ≡ endpoints.items)
     (same_reloads : more_reloads.entries ≡ reloads.entries) where
-  pub told_alike : entries_told more_slots more_aside more_events more_reloads
-      ≡ entries_told slots aside events reloads
-  told_alike = rw (same_slots, same_aside, same_events, same_reloads) refl
+  pub told_alike : entries_told more_slots more_aside more_endpoints more_reloads
+      ≡ entries_told slots aside endpoints reloads
+  told_alike = rw (same_slots, same_aside, same_endpoints, same_reloads) refl
 
   pub stored_alike : (kept places : ℕ)
-      → IsStored slots aside events reloads (entries_told slots aside events reloads) kept
-      → places ≤ more_slots.room → places ≤ more_aside.room → places ≤ more_events.room
+      → IsStored slots aside endpoints reloads (entries_told slots aside endpoints reloads) kept
+      → places ≤ more_slots.room → places ≤ more_aside.room → places ≤ more_endpoints.room
       → places ≤ more_reloads.room
-      → IsStored more_slots more_aside more_events more_reloads
-      (entries_told more_slots more_aside more_events more_reloads) places
-  stored_alike kept places stored room room_aside room_events room_reloads = record {
-    meant = rw (same_slots, same_aside, same_events, same_reloads) stored.meant;
-    few_aside = rw (same_slots, same_aside, same_events, same_reloads) stored.few_aside;
+      → IsStored more_slots more_aside more_endpoints more_reloads
+      (entries_told more_slots more_aside more_endpoints more_reloads) places
+  stored_alike kept places stored room room_aside room_endpoints room_reloads = record {
+    meant = rw (same_slots, same_aside, same_endpoints, same_reloads) stored.meant;
+    few_aside = rw (same_slots, same_aside, same_endpoints, same_reloads) stored.few_aside;
     few_registrations =
-        rw (same_slots, same_aside, same_events, same_reloads) stored.few_registrations;
-    few_reloads = rw (same_slots, same_aside, same_events, same_reloads) stored.few_reloads;
+        rw (same_slots, same_aside, same_endpoints, same_reloads) stored.few_registrations;
+    few_reloads = rw (same_slots, same_aside, same_endpoints, same_reloads) stored.few_reloads;
     room = room;
     room_aside = room_aside;
-    room_registrations = room_events;
+    room_registrations = room_endpoints;
     room_reloads = room_reloads;
   }
 
   pub last_alike : (opening : List Command) → more_reloads.last ≡ reloads.last
-      → IsLastReload opening reloads.last (entries_told slots aside events reloads)
+      → IsLastReload opening reloads.last (entries_told slots aside endpoints reloads)
       → IsLastReload opening more_reloads.last
-      (entries_told more_slots more_aside more_events more_reloads)
+      (entries_told more_slots more_aside more_endpoints more_reloads)
   last_alike opening same_last at =
-      rw (same_last, same_slots, same_aside, same_events, same_reloads) at
+      rw (same_last, same_slots, same_aside, same_endpoints, same_reloads) at

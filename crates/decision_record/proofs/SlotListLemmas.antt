@@ -5,14 +5,15 @@ use Rattle.std.specs.Option.{option_map, option_and_then}
 use Rattle.std.specs.List.{cons_option}
 use Rattle.command_reader.specs.declared.commands.LimitKind.TheVariants as kind
 use Rattle.pieces.specs.Pieces.{PiecesParts}
-use Rattle.decision_record.specs.SlotList.{admitted_slot, over_slot, refused_slot, brief_slot, wide_slot, over_place, place_meant, slots_told, AreHeld}
-use Rattle.decision_record.specs.declared.slots.ShortOver.{ShortOver}
-use Rattle.decision_record.specs.declared.slots.ShortOver.TheVariants as limit
+use Rattle.decision_record.specs.SlotList.{over_slot, over_place, place_meant, slots_told, AreHeld}
+use Rattle.decision_record.specs.declared.slot_parts.ShortOver.{ShortOver}
+use Rattle.decision_record.specs.declared.slot_parts.ShortOver.TheVariants as limit
 use Rattle.decision_record.specs.declared.slots.Slot.{Slot}
-use Rattle.decision_record.specs.declared.slot_kinds.BriefSlot.{BriefSlot}
-use Rattle.decision_record.specs.declared.slot_kinds.WideSlot.{WideSlot}
-use Rattle.decision_record.specs.declared.slot_kinds.RefusedAdmission.{RefusedAdmission}
-use Rattle.decision_record.specs.declared.slot_kinds.RoutedAdmission.{RoutedAdmission}
+use Rattle.decision_record.specs.declared.slots.Slot.TheVariants as slot
+use Rattle.decision_record.specs.declared.slots.BriefSlot.{BriefSlot}
+use Rattle.decision_record.specs.declared.slots.WideSlot.{WideSlot}
+use Rattle.decision_record.specs.declared.slots.RefusedAdmission.{RefusedAdmission}
+use Rattle.decision_record.specs.declared.slots.RoutedAdmission.{RoutedAdmission}
 use Rattle.decision_record.specs.declared.slot_places.SlotPlace.{SlotPlace}
 use Rattle.decision_record.specs.declared.slot_places.SlotPlace.TheVariants as place_of
 use Rattle.decision_record.proofs.ToldLemmas.{TellsAlso, still_made, next_is, one_more, all_told, told_at, with_item}
@@ -21,9 +22,10 @@ use Rattle.decision_record.proofs.ToldLemmas.{TellsAlso, still_made, next_is, on
 module _ (routed : List RoutedAdmission) (refused : List RefusedAdmission)
     (brief : List BriefSlot) (wide : List WideSlot) where
   with_routed : (more : List RoutedAdmission)
-      → TellsAlso (place_meant routed refused brief wide) (place_meant (routed ++ more) refused brief wide)
+      → TellsAlso (place_meant routed refused brief wide)
+      (place_meant (routed ++ more) refused brief wide)
   with_routed more (place_of.Admitted place) s h =
-      still_made admitted_slot routed more place s h
+      still_made slot.Admitted routed more place s h
   with_routed more (place_of.OverSession place) s h =
       still_made (over_slot (limit.OwnZone kind.Session)) routed more place s h
   with_routed more (place_of.OverTotal place) s h =
@@ -40,14 +42,15 @@ module _ (routed : List RoutedAdmission) (refused : List RefusedAdmission)
   with_routed more (place_of.Reload place) s h = h
 
   with_refused : (more : List RefusedAdmission)
-      → TellsAlso (place_meant routed refused brief wide) (place_meant routed (refused ++ more) brief wide)
+      → TellsAlso (place_meant routed refused brief wide)
+      (place_meant routed (refused ++ more) brief wide)
   with_refused more (place_of.Admitted place) s h = h
   with_refused more (place_of.OverSession place) s h = h
   with_refused more (place_of.OverTotal place) s h = h
   with_refused more (place_of.OverInterzone place) s h = h
   with_refused more (place_of.OverRemote place) s h = h
   with_refused more (place_of.Refused place) s h =
-      still_made refused_slot refused more place s h
+      still_made slot.Refused refused more place s h
   with_refused more (place_of.Brief place) s h = h
   with_refused more (place_of.Wide place) s h = h
   with_refused more (place_of.Registered place) s h = h
@@ -55,7 +58,8 @@ module _ (routed : List RoutedAdmission) (refused : List RefusedAdmission)
   with_refused more (place_of.Reload place) s h = h
 
   with_brief : (more : List BriefSlot)
-      → TellsAlso (place_meant routed refused brief wide) (place_meant routed refused (brief ++ more) wide)
+      → TellsAlso (place_meant routed refused brief wide)
+      (place_meant routed refused (brief ++ more) wide)
   with_brief more (place_of.Admitted place) s h = h
   with_brief more (place_of.OverSession place) s h = h
   with_brief more (place_of.OverTotal place) s h = h
@@ -63,7 +67,7 @@ module _ (routed : List RoutedAdmission) (refused : List RefusedAdmission)
   with_brief more (place_of.OverRemote place) s h = h
   with_brief more (place_of.Refused place) s h = h
   with_brief more (place_of.Brief place) s h =
-      still_made brief_slot brief more place s h
+      still_made slot.Brief brief more place s h
   with_brief more (place_of.Wide place) s h = h
   with_brief more (place_of.Registered place) s h = h
   with_brief more (place_of.Aside place) s h = h
@@ -80,7 +84,7 @@ module _ (routed : List RoutedAdmission) (refused : List RefusedAdmission)
   with_wide more (place_of.Refused place) s h = h
   with_wide more (place_of.Brief place) s h = h
   with_wide more (place_of.Wide place) s h =
-      still_made wide_slot wide more place s h
+      still_made slot.Wide wide more place s h
   with_wide more (place_of.Registered place) s h = h
   with_wide more (place_of.Aside place) s h = h
   with_wide more (place_of.Reload place) s h = h
@@ -89,7 +93,7 @@ module _ (routed : List RoutedAdmission) (refused : List RefusedAdmission)
   alone_meant : (p : SlotPlace) (s : Slot) → place_meant [] [] [] [] p ≡ Some s
       → place_meant routed refused brief wide p ≡ Some s
   alone_meant (place_of.Admitted place) s h =
-      still_made admitted_slot [] routed place s h
+      still_made slot.Admitted [] routed place s h
   alone_meant (place_of.OverSession place) s h =
       still_made (over_slot (limit.OwnZone kind.Session)) [] routed place s h
   alone_meant (place_of.OverTotal place) s h =
@@ -99,11 +103,11 @@ module _ (routed : List RoutedAdmission) (refused : List RefusedAdmission)
   alone_meant (place_of.OverRemote place) s h =
       still_made (over_slot limit.Remote) [] routed place s h
   alone_meant (place_of.Refused place) s h =
-      still_made refused_slot [] refused place s h
+      still_made slot.Refused [] refused place s h
   alone_meant (place_of.Brief place) s h =
-      still_made brief_slot [] brief place s h
+      still_made slot.Brief [] brief place s h
   alone_meant (place_of.Wide place) s h =
-      still_made wide_slot [] wide place s h
+      still_made slot.Wide [] wide place s h
   alone_meant (place_of.Registered place) s h = h
   alone_meant (place_of.Aside place) s h = h
   alone_meant (place_of.Reload place) s h = h
@@ -143,7 +147,8 @@ module _ (places : PiecesParts SlotPlace) (routed : PiecesParts RoutedAdmission)
     (held : AreHeld places routed refused brief wide slots room) where
   pub told_are : slots_told places routed refused brief wide ≡ slots
   told_are =
-      all_told (place_meant routed.items refused.items brief.items wide.items) places.items slots held.meant
+      all_told (place_meant routed.items refused.items brief.items wide.items) places.items slots
+      held.meant
 
   pub held_told :
       AreHeld places routed refused brief wide (slots_told places routed refused brief wide) room
@@ -154,7 +159,8 @@ module _ (places : PiecesParts SlotPlace) (routed : PiecesParts RoutedAdmission)
       (slice_get places.items place)
       ≡ slice_get slots place
   read_at =
-      told_at (place_meant routed.items refused.items brief.items wide.items) places.items slots held.meant
+      told_at (place_meant routed.items refused.items brief.items wide.items) places.items slots
+      held.meant
 
   module _ (one : 1 ≤ room) where
     one_held : (p : SlotPlace) (s : Slot) (new : PiecesParts SlotPlace)
@@ -175,7 +181,8 @@ module _ (places : PiecesParts SlotPlace) (routed : PiecesParts RoutedAdmission)
         record {
           meant =
               ap (λ (n : PiecesParts SlotPlace). map meaning n.items) put
-              ∙ one_more (place_meant routed.items refused.items brief.items wide.items) meaning also
+              ∙ one_more (place_meant routed.items refused.items brief.items wide.items) meaning
+              also
               places.items slots p s held.meant is;
           few_routed = omega (arith, more, held.few_routed, a.few);
           few_refused = omega (arith, more, held.few_refused, r.few);
@@ -215,9 +222,9 @@ module _ (places : PiecesParts SlotPlace) (routed : PiecesParts RoutedAdmission)
         (new : PiecesParts SlotPlace)
         → place ≡ length routed.items → wider ≡ with_item routed a
         → new ≡ with_item places (place_of.Admitted place)
-        → AreHeld new wider refused brief wide (slots ++ admitted_slot a ∷ []) (room - 1)
+        → AreHeld new wider refused brief wide (slots ++ slot.Admitted a ∷ []) (room - 1)
     admitted_held place a wider new at also put =
-        routed_held (place_of.Admitted place) place admitted_slot (λ _. refl) a wider new at also
+        routed_held (place_of.Admitted place) place slot.Admitted (λ _. refl) a wider new at also
         put
 
     -- refused for a limit
@@ -228,18 +235,19 @@ module _ (places : PiecesParts SlotPlace) (routed : PiecesParts RoutedAdmission)
         → AreHeld new wider refused brief wide (slots ++ over_slot over a ∷ []) (room - 1)
     over_held over place a wider new at also put =
         routed_held (over_place over place) place (over_slot over)
-        (λ known. over_meant known refused.items brief.items wide.items over place) a wider new at also put
+        (λ known. over_meant known refused.items brief.items wide.items over place) a wider new at
+        also put
 
     -- of one without a destination
     pub refused_held : (place : ℕ) (a : RefusedAdmission) (wider : PiecesParts RefusedAdmission)
         (new : PiecesParts SlotPlace)
         → place ≡ length refused.items → wider ≡ with_item refused a
         → new ≡ with_item places (place_of.Refused place)
-        → AreHeld new routed wider brief wide (slots ++ refused_slot a ∷ []) (room - 1)
+        → AreHeld new routed wider brief wide (slots ++ slot.Refused a ∷ []) (room - 1)
     refused_held place a wider new at also put =
-        one_held (place_of.Refused place) (refused_slot a) new routed wider brief wide put
+        one_held (place_of.Refused place) (slot.Refused a) new routed wider brief wide put
         (rw also (with_refused routed.items refused.items brief.items wide.items (a ∷ [])))
-        (rw also (ap (option_map refused_slot) (next_is refused.items a place at)))
+        (rw also (ap (option_map slot.Refused) (next_is refused.items a place at)))
         (stays routed) (grows refused wider a also) (stays brief) (stays wide)
 
     -- a brief one
@@ -247,11 +255,11 @@ module _ (places : PiecesParts SlotPlace) (routed : PiecesParts RoutedAdmission)
         (new : PiecesParts SlotPlace)
         → place ≡ length brief.items → wider ≡ with_item brief b
         → new ≡ with_item places (place_of.Brief place)
-        → AreHeld new routed refused wider wide (slots ++ brief_slot b ∷ []) (room - 1)
+        → AreHeld new routed refused wider wide (slots ++ slot.Brief b ∷ []) (room - 1)
     brief_held place b wider new at also put =
-        one_held (place_of.Brief place) (brief_slot b) new routed refused wider wide put
+        one_held (place_of.Brief place) (slot.Brief b) new routed refused wider wide put
         (rw also (with_brief routed.items refused.items brief.items wide.items (b ∷ [])))
-        (rw also (ap (option_map brief_slot) (next_is brief.items b place at)))
+        (rw also (ap (option_map slot.Brief) (next_is brief.items b place at)))
         (stays routed) (stays refused) (grows brief wider b also) (stays wide)
 
     -- one with the name of the zone of a limit
@@ -259,17 +267,18 @@ module _ (places : PiecesParts SlotPlace) (routed : PiecesParts RoutedAdmission)
         (new : PiecesParts SlotPlace)
         → place ≡ length wide.items → wider ≡ with_item wide w
         → new ≡ with_item places (place_of.Wide place)
-        → AreHeld new routed refused brief wider (slots ++ wide_slot w ∷ []) (room - 1)
+        → AreHeld new routed refused brief wider (slots ++ slot.Wide w ∷ []) (room - 1)
     wide_held place w wider new at also put =
-        one_held (place_of.Wide place) (wide_slot w) new routed refused brief wider put
+        one_held (place_of.Wide place) (slot.Wide w) new routed refused brief wider put
         (rw also (with_wide routed.items refused.items brief.items wide.items (w ∷ [])))
-        (rw also (ap (option_map wide_slot) (next_is wide.items w place at)))
+        (rw also (ap (option_map slot.Wide) (next_is wide.items w place at)))
         (stays routed) (stays refused) (stays brief) (grows wide wider w also)
 
     -- or one that has a place alone
     pub alone_held : (p : SlotPlace) (new : PiecesParts SlotPlace)
         → IsSome (place_meant [] [] [] [] p) → new ≡ with_item places p
-        → AreHeld new routed refused brief wide (slots ++ cons_option (place_meant [] [] [] [] p) [])
+        → AreHeld new routed refused brief wide (slots ++ cons_option (place_meant [] [] [] [] p)
+        [])
         (room - 1)
     alone_held p new some put = by (place_meant [] [] [] [] p) refl some
       where

@@ -10,28 +10,16 @@ use Rattle.pieces.specs.Pieces.{PiecesParts}
 use Rattle.pieces.proofs.Filled.{item_in_front, item_after}
 
 -- ---- places
--- what a look-up gives is given if there are more
-still_given : {X Y : Type 0} (g : Option X → Option Y) → g None ≡ None → (xs ys : List X) (i : ℕ)
-    (y : Y)
-    → g (slice_get xs i) ≡ Some y → g (slice_get (xs ++ ys) i) ≡ Some y
-still_given g none xs ys i y h =
-    elim (cases_lt i (length xs)) [
-      | inl within ↦ ap g (item_in_front xs ys i within) ∙ h
-      | inr past ↦
-          absurd (none-some y (sym none ∙ sym (ap g (slice_get_past xs i past)) ∙ h))
-    ]
-
--- what is told of an element is told of it if there are more
-pub still_told : {X Y : Type 0} (f : X → Option Y) (xs ys : List X) (i : ℕ) (y : Y)
-    → option_and_then f (slice_get xs i) ≡ Some y
-    → option_and_then f (slice_get (xs ++ ys) i) ≡ Some y
-still_told f = still_given (option_and_then f) refl
-
--- and so is what it is made into
+-- what an element is made into stays if there are more
 pub still_made : {X Y : Type 0} (f : X → Y) (xs ys : List X) (i : ℕ) (y : Y)
     → option_map f (slice_get xs i) ≡ Some y
     → option_map f (slice_get (xs ++ ys) i) ≡ Some y
-still_made f = still_given (option_map f) refl
+still_made f xs ys i y h =
+    elim (cases_lt i (length xs)) [
+      | inl within ↦ ap (option_map f) (item_in_front xs ys i within) ∙ h
+      | inr past ↦
+          absurd (none-some y (sym (ap (option_map f) (slice_get_past xs i past)) ∙ h))
+    ]
 
 -- the next element comes after the others
 pub next_is : {X : Type 0} (xs : List X) (x : X) (i : ℕ) → i ≡ length xs

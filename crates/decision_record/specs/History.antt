@@ -4,7 +4,7 @@ use Rattle.std.specs.Cow.{cow_value}
 use Rattle.command_reader.specs.declared.commands.Command.{Command}
 use Rattle.command_reader.specs.Configuration.{Configuration}
 use Rattle.rulings.specs.State.{State}
-use Rattle.rulings.specs.Events.{PlainEvent, Reloading, plain, kind_of, id_of, call_number_of, put_in_force}
+use Rattle.rulings.specs.Events.{PlainEvent, Registering, Reloading, plain, kind_of, id_of, call_number_of, put_in_force}
 use Rattle.rulings.specs.Ruling.{ruling_of}
 use Rattle.rulings.specs.Step.{step, no_memory_reply_of}
 use Rattle.rulings.specs.Ruling.{Ruling}
@@ -43,6 +43,7 @@ AreKeptAsLines (kept_as.Lines lines) = ⊤
 -- the values of its event
 abbrev pub event_in : EntryEvent → PlainEvent
 event_in (in_entry.Asked event) = plain (cow_value event)
+event_in (in_entry.Registration endpoint) = Registering endpoint.now
 event_in (in_entry.Reload commands) = Reloading (commands_reloaded commands)
 
 -- the values of an entry

@@ -2,11 +2,11 @@
 use Rattle.std.specs.Prelude.{◌≡◌, ◌≤◌, ℕ, List, length, map, filter_map, Option, Some}
 use Rattle.command_reader.specs.declared.commands.Command.{Command}
 use Rattle.pieces.specs.Pieces.{PiecesParts}
+use Rattle.registry.specs.Endpoint.{EndpointParts}
 use Rattle.rulings.specs.Events.{plain}
 use Rattle.decision_record.specs.History.{PlainEntry, in_force_after, in_force_of}
 use Rattle.decision_record.specs.Reloads.{ReloadsParts}
 use Rattle.decision_record.specs.Slots.{entry_meant}
-use Rattle.rulings.specs.declared.events.Event.{Event}
 use Rattle.decision_record.specs.declared.entries.WholeEntry.{WholeEntry}
 use Rattle.decision_record.specs.declared.slots.Slot.{Slot}
 
@@ -15,15 +15,16 @@ abbrev pub plain_whole : WholeEntry → PlainEntry
 plain_whole e =
     record { event = plain e.event; reply = e.reply; zone = e.zone; route = e.route }
 
--- what a slot means beside the entries that stand whole, the registrations and the reloads
+-- what a slot means beside the entries that stand whole, the endpoints that asked to be registered
+-- and the reloads
 abbrev pub slot_meant
-    : List WholeEntry → List Event → List PlainEntry → Slot → Option PlainEntry
+    : List WholeEntry → List EndpointParts → List PlainEntry → Slot → Option PlainEntry
 slot_meant aside registrations reloads =
-    entry_meant (map plain_whole aside) (map plain registrations) reloads
+    entry_meant (map plain_whole aside) registrations reloads
 
 -- the entries, in order
 abbrev pub entries_told
-    : PiecesParts Slot → PiecesParts WholeEntry → PiecesParts Event → ReloadsParts
+    : PiecesParts Slot → PiecesParts WholeEntry → PiecesParts EndpointParts → ReloadsParts
     → List PlainEntry
 entries_told slots aside registrations reloads =
     filter_map (slot_meant aside.items registrations.items reloads.entries) slots.items
@@ -31,8 +32,9 @@ entries_told slots aside registrations reloads =
 -- the slots mean these entries, none of the other lists is longer than them, and all four have room
 -- for the kept places
 pub record IsStored
-    (slots : PiecesParts Slot) (aside : PiecesParts WholeEntry) (registrations : PiecesParts Event)
-    (reloads : ReloadsParts) (entries : List PlainEntry) (kept : ℕ)
+    (slots : PiecesParts Slot) (aside : PiecesParts WholeEntry)
+    (registrations : PiecesParts EndpointParts) (reloads : ReloadsParts) (entries : List PlainEntry)
+    (kept : ℕ)
     : Type 0 where
   pub meant :
       map (slot_meant aside.items registrations.items reloads.entries) slots.items

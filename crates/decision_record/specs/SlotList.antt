@@ -5,52 +5,25 @@ use Rattle.command_reader.specs.declared.commands.LimitKind.TheVariants as kind
 use Rattle.pieces.specs.Pieces.{PiecesParts}
 use Rattle.decision_record.specs.declared.slots.Slot.{Slot}
 use Rattle.decision_record.specs.declared.slots.Slot.TheVariants as slot
-use Rattle.decision_record.specs.declared.slots.ShortOver.{ShortOver}
-use Rattle.decision_record.specs.declared.slots.ShortOver.TheVariants as limit
-use Rattle.decision_record.specs.declared.slots.ShortReply.TheVariants as short_reply
-use Rattle.decision_record.specs.declared.slot_kinds.BriefSlot.{BriefSlot}
-use Rattle.decision_record.specs.declared.slot_kinds.BriefSlot.TheVariants as brief_of
-use Rattle.decision_record.specs.declared.slot_kinds.WideSlot.{WideSlot}
-use Rattle.decision_record.specs.declared.slot_kinds.WideSlot.TheVariants as wide_of
-use Rattle.decision_record.specs.declared.slot_kinds.RefusedAdmission.{RefusedAdmission}
-use Rattle.decision_record.specs.declared.slot_kinds.RoutedAdmission.{RoutedAdmission}
+use Rattle.decision_record.specs.declared.slot_parts.ShortOver.{ShortOver}
+use Rattle.decision_record.specs.declared.slot_parts.ShortOver.TheVariants as limit
+use Rattle.decision_record.specs.declared.slots.BriefSlot.{BriefSlot}
+use Rattle.decision_record.specs.declared.slots.WideSlot.{WideSlot}
+use Rattle.decision_record.specs.declared.slots.RefusedAdmission.{RefusedAdmission}
+use Rattle.decision_record.specs.declared.slots.RoutedAdmission.{RoutedAdmission}
 use Rattle.decision_record.specs.declared.slot_places.SlotPlace.{SlotPlace}
 use Rattle.decision_record.specs.declared.slot_places.SlotPlace.TheVariants as place_of
 
--- the slot of an admission that leads to a destination and is granted
-abbrev pub admitted_slot : RoutedAdmission → Slot
-admitted_slot a = slot.Admitted a.call a.units a.id a.digits a.zone a.destination a.address
-
--- or is refused for a limit
+-- the slot of an admission that is refused for a limit
 abbrev pub over_slot : ShortOver → RoutedAdmission → Slot
-over_slot over a =
-    slot.OverLimit a.call a.units a.id a.digits a.zone a.destination a.address over
-
--- the slot of an admission that leads to none
-abbrev pub refused_slot : RefusedAdmission → Slot
-refused_slot a = slot.Refused a.call a.units a.id a.digits a.cause
-
--- the slot that takes few bytes
-abbrev pub brief_slot : BriefSlot → Slot
-brief_slot (brief_of.Change id call units) = slot.Change id call units
-brief_slot (brief_of.RefusedChange id call units cause) =
-    slot.RefusedChange id call units cause
-brief_slot (brief_of.Release id call) = slot.Release id call
-brief_slot (brief_of.Unregistration id) = slot.Unregistration id
-brief_slot (brief_of.Registration place replied) = slot.Registration place replied
-
--- the slot that has the name of the zone of a limit
-abbrev pub wide_slot : WideSlot → Slot
-wide_slot (wide_of.OtherLimit a over) =
-    slot.OtherLimit a.call a.units a.id a.digits a.zone a.destination a.address over
-wide_slot (wide_of.OverChange id call units over) = slot.OverChange id call units over
+over_slot over a = slot.OverLimit a over
 
 -- the slot that is meant by a place, beside the four lists
 abbrev pub place_meant
     : List RoutedAdmission → List RefusedAdmission → List BriefSlot → List WideSlot → SlotPlace
     → Option Slot
 place_meant routed refused brief wide (place_of.Admitted place) =
-    option_map admitted_slot (slice_get routed place)
+    option_map slot.Admitted (slice_get routed place)
 place_meant routed refused brief wide (place_of.OverSession place) =
     option_map (over_slot (limit.OwnZone kind.Session)) (slice_get routed place)
 place_meant routed refused brief wide (place_of.OverTotal place) =
@@ -60,13 +33,13 @@ place_meant routed refused brief wide (place_of.OverInterzone place) =
 place_meant routed refused brief wide (place_of.OverRemote place) =
     option_map (over_slot limit.Remote) (slice_get routed place)
 place_meant routed refused brief wide (place_of.Refused place) =
-    option_map refused_slot (slice_get refused place)
+    option_map slot.Refused (slice_get refused place)
 place_meant routed refused brief wide (place_of.Brief place) =
-    option_map brief_slot (slice_get brief place)
+    option_map slot.Brief (slice_get brief place)
 place_meant routed refused brief wide (place_of.Wide place) =
-    option_map wide_slot (slice_get wide place)
+    option_map slot.Wide (slice_get wide place)
 place_meant routed refused brief wide (place_of.Registered place) =
-    Some (slot.Registration place short_reply.Granted)
+    Some (slot.Registered place)
 place_meant routed refused brief wide (place_of.Aside place) = Some (slot.Aside place)
 place_meant routed refused brief wide (place_of.Reload place) = Some (slot.Reload place)
 

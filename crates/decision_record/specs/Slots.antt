@@ -1,13 +1,13 @@
 -- Entries in few bytes: what each means.
 use Rattle.std.specs.Prelude.{ℕ, List, slice_get, Option, Some, None}
-use Rattle.std.specs.Option.{option_map, option_and_then}
+use Rattle.std.specs.Option.{option_map}
 use Rattle.bandwidth.specs.declared.over.Over.{Over}
 use Rattle.bandwidth.specs.declared.over.Over.TheVariants as over
 use Rattle.gk_terms.specs.Address.{AddressParts}
 use Rattle.registry.specs.Endpoint.{EndpointParts}
 use Rattle.rulings.specs.Events.{PlainEvent, Registering, Admitting, Changing, Releasing, Unregistering, endpoint_asking}
 use Rattle.decision_record.specs.History.{PlainEntry}
-use Rattle.decision_record.specs.declared.slots.Asked.{Asked}
+use Rattle.decision_record.specs.declared.slot_parts.Asked.{Asked}
 use Rattle.rulings.specs.declared.replies.AdmitRefusal.{AdmitRefusal}
 use Rattle.rulings.specs.declared.replies.AdmitRefusal.TheVariants as admit
 use Rattle.rulings.specs.declared.replies.ChangeRefusal.{ChangeRefusal}
@@ -18,18 +18,24 @@ use Rattle.rulings.specs.declared.routes.Destination.{Destination}
 use Rattle.rulings.specs.declared.routes.Destination.TheVariants as destination
 use Rattle.rulings.specs.declared.routes.Route.{Route}
 use Rattle.rulings.specs.declared.routes.Route.TheVariants as route
-use Rattle.decision_record.specs.declared.slots.ShortReply.{ShortReply}
-use Rattle.decision_record.specs.declared.slots.ShortReply.TheVariants as short_reply
-use Rattle.decision_record.specs.declared.slots.ShortDestination.{ShortDestination}
-use Rattle.decision_record.specs.declared.slots.ShortDestination.TheVariants as short
-use Rattle.decision_record.specs.declared.slots.ShortOver.{ShortOver}
-use Rattle.decision_record.specs.declared.slots.ShortOver.TheVariants as limit
-use Rattle.decision_record.specs.declared.slots.NamedOver.{NamedOver}
-use Rattle.decision_record.specs.declared.slots.NamedOver.TheVariants as named
-use Rattle.decision_record.specs.declared.slots.Unrouted.{Unrouted}
-use Rattle.decision_record.specs.declared.slots.Unrouted.TheVariants as unrouted
-use Rattle.decision_record.specs.declared.slots.Unchanged.{Unchanged}
-use Rattle.decision_record.specs.declared.slots.Unchanged.TheVariants as unchanged
+use Rattle.decision_record.specs.declared.slot_parts.ShortReply.{ShortReply}
+use Rattle.decision_record.specs.declared.slot_parts.ShortReply.TheVariants as short_reply
+use Rattle.decision_record.specs.declared.slot_parts.ShortDestination.{ShortDestination}
+use Rattle.decision_record.specs.declared.slot_parts.ShortDestination.TheVariants as short
+use Rattle.decision_record.specs.declared.slot_parts.ShortOver.{ShortOver}
+use Rattle.decision_record.specs.declared.slot_parts.ShortOver.TheVariants as limit
+use Rattle.decision_record.specs.declared.slot_parts.NamedOver.{NamedOver}
+use Rattle.decision_record.specs.declared.slot_parts.NamedOver.TheVariants as named
+use Rattle.decision_record.specs.declared.slot_parts.Unrouted.{Unrouted}
+use Rattle.decision_record.specs.declared.slot_parts.Unrouted.TheVariants as unrouted
+use Rattle.decision_record.specs.declared.slot_parts.Unchanged.{Unchanged}
+use Rattle.decision_record.specs.declared.slot_parts.Unchanged.TheVariants as unchanged
+use Rattle.decision_record.specs.declared.slots.RoutedAdmission.{RoutedAdmission}
+use Rattle.decision_record.specs.declared.slots.RefusedAdmission.{RefusedAdmission}
+use Rattle.decision_record.specs.declared.slots.BriefSlot.{BriefSlot}
+use Rattle.decision_record.specs.declared.slots.BriefSlot.TheVariants as brief
+use Rattle.decision_record.specs.declared.slots.WideSlot.{WideSlot}
+use Rattle.decision_record.specs.declared.slots.WideSlot.TheVariants as wide
 use Rattle.decision_record.specs.declared.slots.Slot.{Slot}
 use Rattle.decision_record.specs.declared.slots.Slot.TheVariants as slot
 
@@ -73,10 +79,20 @@ abbrev pub refusal_meant : Unchanged → ChangeRefusal
 refusal_meant unchanged.NoCall = change.NoCall
 refusal_meant unchanged.NotYours = change.NotYours
 
--- the reply to a registration: the names in it are those of the endpoint that asked
-abbrev pub register_reply : ShortReply → EndpointParts → Reply
-register_reply short_reply.Granted endpoint = reply.Registered endpoint.id endpoint.zone
-register_reply (short_reply.Refused reason) endpoint = reply.RegisterRefused endpoint.id reason
+-- the reply to the registration of an endpoint of this ID in this zone
+abbrev pub register_reply : ShortReply → (id zone : List ℕ) → Reply
+register_reply short_reply.Granted id zone = reply.Registered id zone
+register_reply (short_reply.Refused reason) id zone = reply.RegisterRefused id reason
+
+-- where an admission leads
+abbrev pub destination_of : RoutedAdmission → Destination
+destination_of a = destination_meant a.destination a.address
+
+-- the slot of a registration with this reply, whose endpoint stands at this place
+abbrev pub registered_slot : ShortReply → (place : ℕ) → Slot
+registered_slot short_reply.Granted place = slot.Registered place
+registered_slot (short_reply.Refused reason) place =
+    slot.Brief (brief.RefusedRegistration place reason)
 
 -- ---- entries
 -- of an admission
@@ -89,57 +105,70 @@ admission_entry asked replied zone route = record {
 }
 
 -- of one that leads to a destination
-abbrev pub routed_entry : Asked → (zone : List ℕ) → Destination → Reply → PlainEntry
-routed_entry asked zone destination replied =
-    admission_entry asked replied (Some zone) (Some (route.To destination))
+abbrev pub routed_entry : RoutedAdmission → Reply → PlainEntry
+routed_entry a replied =
+    admission_entry a.asked replied (Some a.zone) (Some (route.To (destination_of a)))
+
+-- and is granted
+abbrev pub admitted_entry : RoutedAdmission → PlainEntry
+admitted_entry a =
+    routed_entry a (reply.Admitted a.asked.call (destination_of a) a.asked.units)
+
+-- or is refused since this sum would be above its limit
+abbrev pub over_entry : RoutedAdmission → Over → PlainEntry
+over_entry a over = routed_entry a (reply.AdmitRefused a.asked.call (admit.OverLimit over))
+
+-- of one that leads to none
+abbrev pub refused_entry : RefusedAdmission → PlainEntry
+refused_entry a =
+    admission_entry a.asked (reply.AdmitRefused a.asked.call (reason_meant a.cause))
+    (zone_meant a.cause) (route_meant a.cause)
 
 -- of another event
 abbrev pub other_entry : PlainEvent → Reply → PlainEntry
 other_entry event replied =
     record { event = event; reply = replied; zone = None; route = None }
 
--- of a registration
+-- of a registration: the names in the reply are those of the endpoint that asked
 abbrev pub register_entry : ShortReply → EndpointParts → PlainEntry
 register_entry replied endpoint =
-    other_entry (Registering endpoint) (register_reply replied endpoint)
+    other_entry (Registering endpoint) (register_reply replied endpoint.id endpoint.zone)
 
--- of an event, if it is a registration
+-- of an event, if it is a registration whose names in the reply are those that it gave
 abbrev pub registration_meant : ShortReply → PlainEvent → Option PlainEntry
 registration_meant replied event = option_map (register_entry replied) (endpoint_asking event)
 
--- of a slot; these are the entries that stand whole, the events of registrations, and the entries of
--- reloads
-abbrev pub entry_meant
-    : List PlainEntry → List PlainEvent → List PlainEntry → Slot → Option PlainEntry
-entry_meant aside registrations reloads (slot.Admitted call units id digits zone destination address) =
-    Some (routed_entry (record { call = call; units = units; id = id; digits = digits }) zone
-    (destination_meant destination address)
-    (reply.Admitted call (destination_meant destination address) units))
-entry_meant aside registrations reloads
-    (slot.OverLimit call units id digits zone destination address over) =
-    Some (routed_entry (record { call = call; units = units; id = id; digits = digits }) zone
-    (destination_meant destination address)
-    (reply.AdmitRefused call (admit.OverLimit (over_meant over zone))))
-entry_meant aside registrations reloads
-    (slot.OtherLimit call units id digits zone destination address over) =
-    Some (routed_entry (record { call = call; units = units; id = id; digits = digits }) zone
-    (destination_meant destination address)
-    (reply.AdmitRefused call (admit.OverLimit (named_over_meant over))))
-entry_meant aside registrations reloads (slot.Refused call units id digits cause) =
-    Some (admission_entry (record { call = call; units = units; id = id; digits = digits })
-    (reply.AdmitRefused call (reason_meant cause)) (zone_meant cause) (route_meant cause))
-entry_meant aside registrations reloads (slot.Change id call units) =
+-- of a slot that is no admission; these are the endpoints that asked to be registered
+abbrev pub brief_entry : List EndpointParts → BriefSlot → Option PlainEntry
+brief_entry registrations (brief.Change id call units) =
     Some (other_entry (Changing id call units) (reply.Changed call units))
-entry_meant aside registrations reloads (slot.RefusedChange id call units cause) =
+brief_entry registrations (brief.RefusedChange id call units cause) =
     Some (other_entry (Changing id call units) (reply.ChangeRefused call (refusal_meant cause)))
-entry_meant aside registrations reloads (slot.OverChange id call units over) =
-    Some (other_entry (Changing id call units)
-    (reply.ChangeRefused call (change.OverLimit (named_over_meant over))))
-entry_meant aside registrations reloads (slot.Release id call) =
+brief_entry registrations (brief.Release id call) =
     Some (other_entry (Releasing id call) (reply.Released call))
-entry_meant aside registrations reloads (slot.Unregistration id) =
+brief_entry registrations (brief.Unregistration id) =
     Some (other_entry (Unregistering id) (reply.Unregistered id))
-entry_meant aside registrations reloads (slot.Registration place replied) =
-    option_and_then (registration_meant replied) (slice_get registrations place)
+brief_entry registrations (brief.RefusedRegistration place reason) =
+    option_map (register_entry (short_reply.Refused reason)) (slice_get registrations place)
+
+-- of one that has the name of the zone of a limit
+abbrev pub wide_entry : WideSlot → PlainEntry
+wide_entry (wide.OtherLimit a over) = over_entry a (named_over_meant over)
+wide_entry (wide.OverChange id call units over) =
+    other_entry (Changing id call units)
+    (reply.ChangeRefused call (change.OverLimit (named_over_meant over)))
+
+-- of a slot; these are the entries that stand whole, the endpoints that asked to be registered, and
+-- the entries of reloads
+abbrev pub entry_meant
+    : List PlainEntry → List EndpointParts → List PlainEntry → Slot → Option PlainEntry
+entry_meant aside registrations reloads (slot.Admitted a) = Some (admitted_entry a)
+entry_meant aside registrations reloads (slot.OverLimit a over) =
+    Some (over_entry a (over_meant over a.zone))
+entry_meant aside registrations reloads (slot.Refused a) = Some (refused_entry a)
+entry_meant aside registrations reloads (slot.Brief b) = brief_entry registrations b
+entry_meant aside registrations reloads (slot.Wide w) = Some (wide_entry w)
+entry_meant aside registrations reloads (slot.Registered place) =
+    option_map (register_entry short_reply.Granted) (slice_get registrations place)
 entry_meant aside registrations reloads (slot.Aside place) = slice_get aside place
 entry_meant aside registrations reloads (slot.Reload place) = slice_get reloads place

@@ -5,7 +5,7 @@ use Rattle.decision_record.specs.History.{PlainEntry}
 use Rattle.decision_record.specs.Slots.{registration_meant}
 use Rattle.rulings.specs.declared.replies.Reply.{Reply}
 use Rattle.rulings.specs.declared.routes.Route.{Route}
-use Rattle.decision_record.specs.declared.slots.ShortReply.{ShortReply}
+use Rattle.decision_record.specs.declared.slot_parts.ShortReply.{ShortReply}
 use Rattle.decision_record.specs.declared.told.Told.{Told}
 
 abbrev pub told_by

@@ -9,6 +9,7 @@ ghost use Rattle.decision_record.specs.History.{plain_entry, receipt_of, configu
 
 use command_reader::{CommandLines, Commands};
 use gk_terms::Name;
+use registry::BriefEndpoint;
 use rulings::{Event, EventKind, Reply, Route};
 use std::alloc::{AllocError, Global};
 use std::borrow::Cow;
@@ -16,8 +17,12 @@ use std::borrow::Cow;
 /// What was asked, as the record keeps it.
 #[derive(Drop)]
 pub enum EntryEvent<'a> {
-    /// An event other than a reload.
+    /// An event other than a reload; a registration only if its ID or its zone has more than 19
+    /// characters, or if the reply names another zone.
     Asked(Cow<'a, Event>),
+    /// An endpoint with shorter names asked to be registered, in the zone that the reply names, if
+    /// it names one.
+    Registration(&'a BriefEndpoint),
     /// A reload of these commands.
     Reload(ReloadedCommands<'a>),
 }
@@ -71,6 +76,13 @@ impl Entry<'_> {
     {
         match &self.event {
             EntryEvent::Asked(event) => Receipt::of(number, event, self.reply),
+            EntryEvent::Registration(endpoint) => Receipt {
+                number,
+                kind: EventKind::Registration,
+                id: Some(endpoint.id()),
+                call: None,
+                reply: self.reply,
+            },
             EntryEvent::Reload(_) => Receipt {
                 number,
                 kind: EventKind::Reload,

@@ -2,12 +2,15 @@
 #![tactic(auto)]
 
 mod entries;
+mod held;
 mod packing;
 mod record;
+mod recording;
+mod registration_entries;
 mod reloads;
 mod slot_entries;
-mod slot_kinds;
 mod slot_list;
+mod slot_parts;
 mod slot_places;
 mod slots;
 mod told;

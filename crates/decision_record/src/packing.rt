@@ -7,7 +7,10 @@ ghost use Rattle.decision_record.specs.History.{entry_by};
 ghost use Rattle.rulings.specs.Lent.{destination_meant, ruling_meant};
 ghost use Rattle.decision_record.specs.Slots as Spec;
 
-use crate::slots::{NamedOver, ShortDestination, ShortOver, ShortReply, Slot, Unchanged, Unrouted};
+use crate::slot_parts::{
+    Asked, NamedOver, ShortDestination, ShortOver, ShortReply, Unchanged, Unrouted,
+};
+use crate::slots::{BriefSlot, RefusedAdmission, RoutedAdmission, Slot, WideSlot};
 use bandwidth::Over;
 use gk_terms::{Dialled, Name, Units};
 use registry::Endpoint;
@@ -81,7 +84,7 @@ fn unregistration(id: &Name, ruling: &LentRuling<'_>) -> Option<Slot>
     match ruling {
         LentRuling::Unregistered { id: left } if **left == *id => {
             let id = ShortName::of(id)?;
-            Some(Slot::Unregistration { id })
+            Some(Slot::Brief(BriefSlot::Unregistration { id }))
         }
         _ => None,
     }
@@ -99,7 +102,7 @@ fn change(id: &Name, call: u32, units: Units, ruling: &LentRuling<'_>) -> Option
             ..
         } if *changed == call && *given == units => {
             let id = ShortName::of(id)?;
-            Some(Slot::Change { id, call, units })
+            Some(Slot::Brief(BriefSlot::Change { id, call, units }))
         }
         LentRuling::ChangeRefused {
             call: refused,
@@ -119,30 +122,30 @@ fn refused_change(id: &Name, call: u32, units: Units, reason: &ChangeRefusal) ->
     match reason {
         ChangeRefusal::NoCall => {
             let cause = Unchanged::NoCall;
-            Some(Slot::RefusedChange {
+            Some(Slot::Brief(BriefSlot::RefusedChange {
                 id,
                 call,
                 units,
                 cause,
-            })
+            }))
         }
         ChangeRefusal::NotYours => {
             let cause = Unchanged::NotYours;
-            Some(Slot::RefusedChange {
+            Some(Slot::Brief(BriefSlot::RefusedChange {
                 id,
                 call,
                 units,
                 cause,
-            })
+            }))
         }
         ChangeRefusal::OverLimit(over) => {
             let over = NamedOver::of(over)?;
-            Some(Slot::OverChange {
+            Some(Slot::Wide(WideSlot::OverChange {
                 id,
                 call,
                 units,
                 over,
-            })
+            }))
         }
         ChangeRefusal::RecordFull | ChangeRefusal::NoMemory => None,
     }
@@ -171,7 +174,7 @@ fn release(id: &Name, call: u32, ruling: &LentRuling<'_>) -> Option<Slot>
     match ruling {
         LentRuling::Released { call: released, .. } if *released == call => {
             let id = ShortName::of(id)?;
-            Some(Slot::Release { id, call })
+            Some(Slot::Brief(BriefSlot::Release { id, call }))
         }
         _ => None,
     }
@@ -188,8 +191,12 @@ fn admission(
     ensures { IfSome result (λ slot. Spec.entry_meant [] [] [] slot
         ≡ Some (entry_by (Admitting id.now call digits.now units) (ruling_meant ruling.now))) }
 {
-    let id = ShortName::of(id)?;
-    let digits = PackedDigits::of(digits);
+    let asked = Asked {
+        call,
+        units,
+        id: ShortName::of(id)?,
+        digits: PackedDigits::of(digits),
+    };
     match ruling {
         LentRuling::Admitted {
             call: number,
@@ -199,15 +206,12 @@ fn admission(
             name,
             address,
             ..
-        } if *number == call && *granted == units => Some(Slot::Admitted {
-            call,
-            units,
-            id,
-            digits,
+        } if *number == call && *granted == units => Some(Slot::Admitted(RoutedAdmission {
+            asked,
             zone: ShortName::of(source)?,
             destination: ShortDestination::of(*kind, ShortName::of(name)?),
             address: *address,
-        }),
+        })),
         LentRuling::OverLimit {
             call: number,
             source,
@@ -216,40 +220,23 @@ fn admission(
             address,
             over,
         } if *number == call => {
-            let zone = ShortName::of(source)?;
-            let destination = ShortDestination::of(*kind, ShortName::of(name)?);
-            match short_over(over, &zone) {
-                Some(over) => Some(Slot::OverLimit {
-                    call,
-                    units,
-                    id,
-                    digits,
-                    zone,
-                    destination,
-                    address: *address,
-                    over,
-                }),
-                None => Some(Slot::OtherLimit {
-                    call,
-                    units,
-                    id,
-                    digits,
-                    zone,
-                    destination,
-                    address: *address,
-                    over: NamedOver::of(over)?,
-                }),
+            let admission = RoutedAdmission {
+                asked,
+                zone: ShortName::of(source)?,
+                destination: ShortDestination::of(*kind, ShortName::of(name)?),
+                address: *address,
+            };
+            match short_over(over, &admission.zone) {
+                Some(over) => Some(Slot::OverLimit { admission, over }),
+                None => {
+                    let over = NamedOver::of(over)?;
+                    Some(Slot::Wide(WideSlot::OtherLimit { admission, over }))
+                }
             }
         }
         LentRuling::CallerNotRegistered { call: number } if *number == call => {
             let cause = Unrouted::CallerNotRegistered;
-            Some(Slot::Refused {
-                call,
-                units,
-                id,
-                digits,
-                cause,
-            })
+            Some(Slot::Refused(RefusedAdmission { asked, cause }))
         }
         LentRuling::CallOpen {
             call: number,
@@ -257,13 +244,7 @@ fn admission(
         } if *number == call => {
             let zone = ShortName::of(source)?;
             let cause = Unrouted::CallOpen { zone };
-            Some(Slot::Refused {
-                call,
-                units,
-                id,
-                digits,
-                cause,
-            })
+            Some(Slot::Refused(RefusedAdmission { asked, cause }))
         }
         LentRuling::NoRoute {
             call: number,
@@ -273,13 +254,7 @@ fn admission(
             let zone = ShortName::of(source)?;
             let refusal = *refusal;
             let cause = Unrouted::NoRoute { zone, refusal };
-            Some(Slot::Refused {
-                call,
-                units,
-                id,
-                digits,
-                cause,
-            })
+            Some(Slot::Refused(RefusedAdmission { asked, cause }))
         }
         _ => None,
     }

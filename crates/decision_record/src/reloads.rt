@@ -17,9 +17,9 @@ use std::marker::Model;
 use std::mem;
 use std::sync::Arc;
 
-/// A configuration that was in force: the lines that said its commands; the commands, if their lines
-/// were not kept, because memory ran out as they were read; or its tables, if somebody else still
-/// had them as another one was put in force.
+/// A configuration that was in force: the lines that said its commands; the commands, if their
+/// lines were not kept, because memory ran out as they were read; or its tables, if somebody else
+/// still had them as another one was put in force.
 #[derive(Drop)]
 pub enum PastConfiguration {
     Lines(CommandLines),
@@ -45,8 +45,8 @@ pub struct LastReload {
     pub route: Option<Route>,
 }
 
-/// The entries of reloads in order. A contract sees their values, the commands that the last one put
-/// in force, and for how many further ones there is at least room without memory.
+/// The entries of reloads in order. A contract sees their values, the commands that the last one
+/// put in force, and for how many further ones there is at least room without memory.
 ///
 /// `last` is the last one, and `past` are those before it. As one more follows, the tables of the
 /// last one are let go and the lines of its commands stay, so that the record of a long run holds

@@ -1,21 +1,22 @@
 //! What entries in few bytes mean.
 
-ghost use Rattle.std.specs.Prelude.{◌≡◌, Some, map, slice_get, option_map};
-ghost use Rattle.std.specs.Option.{option_and_then};
+ghost use Rattle.std.specs.Prelude.{◌≡◌, map, slice_get, option_map};
 ghost use Rattle.rulings.specs.Events.{plain, Unregistering, Changing, Releasing};
 ghost use Rattle.decision_record.specs.History.{plain_entry};
 ghost use Rattle.decision_record.specs.RecordIndex.{slot_meant, plain_whole};
 ghost use Rattle.decision_record.specs.Slots as Spec;
 
 use crate::entries::{Entry, EntryEvent, WholeEntry};
+use crate::registration_entries::registration_at;
 use crate::reloads::Reloads;
-use crate::slots::{
-    Asked, NamedOver, ShortDestination, ShortOver, ShortReply, Slot, Unchanged, Unrouted,
+use crate::slot_parts::{
+    Asked, NamedOver, ShortDestination, ShortOver, ShortReply, Unchanged, Unrouted,
 };
+use crate::slots::{BriefSlot, RefusedAdmission, RoutedAdmission, Slot, WideSlot};
 use bandwidth::Over;
 use gk_terms::{Address, Name, Units};
 use pieces::Pieces;
-use registry::Endpoint;
+use registry::BriefEndpoint;
 use rulings::{AdmitRefusal, ChangeRefusal, Destination, Event, Reply, Route};
 use short_texts::ShortName;
 use std::borrow::Cow;
@@ -123,79 +124,22 @@ impl Slot {
     pub fn entry<'a>(
         &self,
         aside: &'a Pieces<WholeEntry>,
-        registrations: &'a Pieces<Event>,
+        registrations: &'a Pieces<BriefEndpoint>,
         reloads: &'a Reloads,
     ) -> Option<Entry<'a>>
         ensures { option_map plain_entry result
             ≡ slot_meant aside.now.items registrations.now.items reloads.now.entries self.now }
     {
         match self {
-            Slot::Admitted {
-                call,
-                units,
-                id,
-                digits,
-                zone,
-                destination,
-                address,
-            } => {
-                let asked = Asked::new(*call, *units, *id, *digits);
-                Some(admitted(&asked, zone, &destination.at(*address)))
+            Slot::Admitted(admission) => Some(admission.granted()),
+            Slot::OverLimit { admission, over } => {
+                Some(admission.over(&over.of_zone(&admission.zone)))
             }
-            Slot::OverLimit {
-                call,
-                units,
-                id,
-                digits,
-                zone,
-                destination,
-                address,
-                over,
-            } => {
-                let asked = Asked::new(*call, *units, *id, *digits);
-                let over = over.of_zone(zone);
-                Some(over_limit(&asked, zone, &destination.at(*address), &over))
-            }
-            Slot::OtherLimit {
-                call,
-                units,
-                id,
-                digits,
-                zone,
-                destination,
-                address,
-                over,
-            } => {
-                let asked = Asked::new(*call, *units, *id, *digits);
-                Some(over_limit(&asked, zone, &destination.at(*address), &over.sum()))
-            }
-            Slot::Refused {
-                call,
-                units,
-                id,
-                digits,
-                cause,
-            } => {
-                let asked = Asked::new(*call, *units, *id, *digits);
-                Some(refused(&asked, cause))
-            }
-            Slot::Change { id, call, units } => Some(changed(id, *call, *units)),
-            Slot::RefusedChange {
-                id,
-                call,
-                units,
-                cause,
-            } => Some(unchanged(id, *call, *units, cause.reason())),
-            Slot::OverChange {
-                id,
-                call,
-                units,
-                over,
-            } => Some(unchanged(id, *call, *units, ChangeRefusal::OverLimit(over.sum()))),
-            Slot::Release { id, call } => Some(released(id, *call)),
-            Slot::Unregistration { id } => Some(unregistered(id)),
-            Slot::Registration { place, replied } => {
-                registration_at(registrations, *place as usize, replied)
+            Slot::Refused(admission) => Some(admission.entry()),
+            Slot::Brief(brief) => brief.entry(registrations),
+            Slot::Wide(wide) => Some(wide.entry()),
+            Slot::Registered { place } => {
+                registration_at(registrations, *place as usize, &ShortReply::Granted)
             }
             Slot::Aside { place } => whole_at(aside, *place as usize),
             Slot::Reload { place } => reloads.get(*place as usize),
@@ -203,58 +147,97 @@ impl Slot {
     }
 }
 
-impl ShortReply {
-    /// The reply to this endpoint.
-    fn reply(&self, endpoint: &Endpoint) -> Reply
-        ensures { result ≡ Spec.register_reply self.now endpoint.now }
+impl RoutedAdmission {
+    /// Where it leads.
+    fn destination(&self) -> Destination
+        ensures { result ≡ Spec.destination_of self.now }
     {
-        let id = *endpoint.id();
-        match self {
-            ShortReply::Granted => Reply::Registered {
-                id,
-                zone: *endpoint.zone(),
-            },
-            ShortReply::Refused { reason } => Reply::RegisterRefused {
-                id,
-                reason: *reason,
-            },
-        }
+        self.destination.at(self.address)
     }
 
-    /// The entry of this event, if it is a registration.
-    fn entry<'a>(&self, event: &'a Event) -> Option<Entry<'a>>
-        ensures { option_map plain_entry result
-            ≡ Spec.registration_meant self.now (plain event.now) }
+    /// The entry if it was granted.
+    fn granted(&self) -> Entry<'static>
+        ensures { plain_entry result ≡ Spec.admitted_entry self.now }
     {
-        match event {
-            Event::Register(endpoint) => Some(Entry {
-                event: EntryEvent::Asked(Cow::Borrowed(event)),
-                reply: self.reply(endpoint),
-                zone: None,
-                route: None,
-            }),
-            Event::Unregister { .. }
-            | Event::Admit { .. }
-            | Event::Change { .. }
-            | Event::Release { .. }
-            | Event::Reload(_) => None,
+        let reply = Reply::Admitted {
+            call: self.asked.call,
+            destination: self.destination(),
+            units: self.asked.units,
+        };
+        self.entry(reply)
+    }
+
+    /// The entry if it was refused since this sum would be above its limit.
+    fn over(&self, over: &Over) -> Entry<'static>
+        ensures { plain_entry result ≡ Spec.over_entry self.now over.now }
+    {
+        let reply = Reply::AdmitRefused {
+            call: self.asked.call,
+            reason: AdmitRefusal::OverLimit(*over),
+        };
+        self.entry(reply)
+    }
+
+    /// The entry with this reply.
+    fn entry(&self, reply: Reply) -> Entry<'static>
+        ensures { plain_entry result ≡ Spec.routed_entry self.now reply }
+    {
+        let route = Route::To(self.destination());
+        admission(&self.asked, reply, Some(self.zone.name()), Some(route))
+    }
+}
+
+impl RefusedAdmission {
+    /// The entry.
+    fn entry(&self) -> Entry<'static>
+        ensures { plain_entry result ≡ Spec.refused_entry self.now }
+    {
+        let reply = Reply::AdmitRefused {
+            call: self.asked.call,
+            reason: self.cause.reason(),
+        };
+        admission(&self.asked, reply, self.cause.zone(), self.cause.route())
+    }
+}
+
+impl BriefSlot {
+    /// The entry, by the registrations.
+    fn entry<'a>(&self, registrations: &'a Pieces<BriefEndpoint>) -> Option<Entry<'a>>
+        ensures { option_map plain_entry result
+            ≡ Spec.brief_entry registrations.now.items self.now }
+    {
+        match self {
+            BriefSlot::Change { id, call, units } => Some(changed(id, *call, *units)),
+            BriefSlot::RefusedChange {
+                id,
+                call,
+                units,
+                cause,
+            } => Some(unchanged(id, *call, *units, cause.reason())),
+            BriefSlot::Release { id, call } => Some(released(id, *call)),
+            BriefSlot::Unregistration { id } => Some(unregistered(id)),
+            BriefSlot::RefusedRegistration { place, reason } => {
+                let replied = ShortReply::Refused { reason: *reason };
+                registration_at(registrations, *place as usize, &replied)
+            }
         }
     }
 }
 
-/// The entry of the registration at this place.
-fn registration_at<'a>(
-    registrations: &'a Pieces<Event>,
-    place: usize,
-    replied: &ShortReply,
-) -> Option<Entry<'a>>
-    ensures { option_map plain_entry result
-        ≡ option_and_then (Spec.registration_meant replied.now)
-        (slice_get (map plain registrations.now.items) place) }
-{
-    match registrations.get(place) {
-        None => None,
-        Some(event) => replied.entry(event),
+impl WideSlot {
+    /// The entry.
+    fn entry(&self) -> Entry<'static>
+        ensures { plain_entry result ≡ Spec.wide_entry self.now }
+    {
+        match self {
+            WideSlot::OtherLimit { admission, over } => admission.over(&over.sum()),
+            WideSlot::OverChange {
+                id,
+                call,
+                units,
+                over,
+            } => unchanged(id, *call, *units, ChangeRefusal::OverLimit(over.sum())),
+        }
     }
 }
 
@@ -267,59 +250,6 @@ fn whole_at(aside: &Pieces<WholeEntry>, place: usize) -> Option<Entry<'_>>
         None => None,
         Some(whole) => Some(whole.lent()),
     }
-}
-
-/// The entry of a granted admission.
-fn admitted(asked: &Asked, zone: &ShortName, destination: &Destination) -> Entry<'static>
-    ensures { plain_entry result ≡ Spec.routed_entry asked.now zone.now destination.now
-        (Reply.Admitted asked.now.call destination.now asked.now.units) }
-{
-    let reply = Reply::Admitted {
-        call: asked.call,
-        destination: *destination,
-        units: asked.units,
-    };
-    admission(
-        asked,
-        reply,
-        Some(zone.name()),
-        Some(Route::To(*destination)),
-    )
-}
-
-/// The entry of an admission that was refused for a limit.
-fn over_limit(
-    asked: &Asked,
-    zone: &ShortName,
-    destination: &Destination,
-    over: &Over,
-) -> Entry<'static>
-    ensures { plain_entry result ≡ Spec.routed_entry asked.now zone.now destination.now
-        (Reply.AdmitRefused asked.now.call (AdmitRefusal.OverLimit over.now)) }
-{
-    let reply = Reply::AdmitRefused {
-        call: asked.call,
-        reason: AdmitRefusal::OverLimit(*over),
-    };
-    admission(
-        asked,
-        reply,
-        Some(zone.name()),
-        Some(Route::To(*destination)),
-    )
-}
-
-/// The entry of an admission that leads to no destination.
-fn refused(asked: &Asked, cause: &Unrouted) -> Entry<'static>
-    ensures { plain_entry result ≡ Spec.admission_entry asked.now
-        (Reply.AdmitRefused asked.now.call (Spec.reason_meant cause.now))
-        (Spec.zone_meant cause.now) (Spec.route_meant cause.now) }
-{
-    let reply = Reply::AdmitRefused {
-        call: asked.call,
-        reason: cause.reason(),
-    };
-    admission(asked, reply, cause.zone(), cause.route())
 }
 
 /// The entry of an admission.

@@ -4,14 +4,13 @@ ghost use Rattle.std.specs.Prelude.{◌≡◌, ◌<◌, ◌≤◌, ◌+◌, ◌-
 ghost use Rattle.std.specs.List.{cons_option};
 ghost use Rattle.pieces.specs.declared.list.TheConstants.{PIECE_ITEMS};
 ghost use Rattle.decision_record.specs.RecordIndex.{IsRoomier};
-ghost use Rattle.decision_record.specs.SlotList.{admitted_slot, over_slot, refused_slot, brief_slot, wide_slot, place_meant};
+ghost use Rattle.decision_record.specs.SlotList.{over_slot, place_meant};
+ghost use Rattle.decision_record.specs.declared.slots.Slot.TheVariants as slots;
 
-use crate::slot_kinds::{
-    BriefSlot, HeldBrief, HeldRefused, HeldRouted, HeldWide, RefusedAdmission, RoutedAdmission,
-    WideSlot,
-};
+use crate::held::{HeldBrief, HeldRefused, HeldRouted, HeldWide};
+use crate::slot_parts::ShortOver;
 use crate::slot_places::{SlotPlace, slot_at};
-use crate::slots::{ShortOver, ShortReply, Slot};
+use crate::slots::{BriefSlot, RefusedAdmission, RoutedAdmission, Slot, WideSlot};
 use pieces::{PIECE_ITEMS, Pieces};
 use std::alloc::{AllocError, Global};
 use std::marker::Model;
@@ -21,11 +20,11 @@ use std::mem::size_of;
 /// room without memory: the same as of one list of slots.
 ///
 /// `places` has a place of 8 bytes for each slot. That of a granted registration, of a reload or of
-/// an entry that stands whole is the slot itself; any other says where it stands: in `routed` if it is
-/// that of an admission that leads to a destination, and the place tells the verdict; in `refused`
-/// if the admission leads to none; in `brief` if it is that of a granted change, release or
-/// unregistration, of a change that is refused for its call, or of a refused registration; and in
-/// `wide` if it has the name of the zone of a limit. Each of the five lists has room for `room`
+/// an entry that stands whole is the slot itself; any other says where it stands: in `routed` if it
+/// is that of an admission that leads to a destination, and the place tells the verdict; in
+/// `refused` if the admission leads to none; in `brief` if it is that of a granted change, release
+/// or unregistration, of a change that is refused for its call, or of a refused registration; and
+/// in `wide` if it has the name of the zone of a limit. Each of the five lists has room for `room`
 /// further items, since it is not known of which kind the next slots are.
 #[derive(Drop)]
 pub struct SlotList {
@@ -130,194 +129,88 @@ impl SlotList {
         } }
     {
         match slot {
-            Slot::Admitted {
-                call,
-                units,
-                id,
-                digits,
-                zone,
-                destination,
-                address,
-            } => self.push_admitted(RoutedAdmission {
-                call: *call,
-                units: *units,
-                id: *id,
-                digits: *digits,
-                zone: *zone,
-                destination: *destination,
-                address: *address,
-            }),
-            Slot::OverLimit {
-                call,
-                units,
-                id,
-                digits,
-                zone,
-                destination,
-                address,
-                over,
-            } => {
-                let routed = RoutedAdmission {
-                    call: *call,
-                    units: *units,
-                    id: *id,
-                    digits: *digits,
-                    zone: *zone,
-                    destination: *destination,
-                    address: *address,
-                };
-                self.push_over(routed, over);
-            }
-            Slot::OtherLimit {
-                call,
-                units,
-                id,
-                digits,
-                zone,
-                destination,
-                address,
-                over,
-            } => {
-                let admission = RoutedAdmission {
-                    call: *call,
-                    units: *units,
-                    id: *id,
-                    digits: *digits,
-                    zone: *zone,
-                    destination: *destination,
-                    address: *address,
-                };
-                let over = *over;
-                self.push_wide(WideSlot::OtherLimit { admission, over });
-            }
-            Slot::Refused {
-                call,
-                units,
-                id,
-                digits,
-                cause,
-            } => self.push_refused(RefusedAdmission {
-                call: *call,
-                units: *units,
-                id: *id,
-                digits: *digits,
-                cause: *cause,
-            }),
-            Slot::Change { id, call, units } => self.push_brief(BriefSlot::Change {
-                id: *id,
-                call: *call,
-                units: *units,
-            }),
-            Slot::RefusedChange {
-                id,
-                call,
-                units,
-                cause,
-            } => self.push_brief(BriefSlot::RefusedChange {
-                id: *id,
-                call: *call,
-                units: *units,
-                cause: *cause,
-            }),
-            Slot::OverChange {
-                id,
-                call,
-                units,
-                over,
-            } => self.push_wide(WideSlot::OverChange {
-                id: *id,
-                call: *call,
-                units: *units,
-                over: *over,
-            }),
-            Slot::Release { id, call } => self.push_brief(BriefSlot::Release {
-                id: *id,
-                call: *call,
-            }),
-            Slot::Unregistration { id } => self.push_brief(BriefSlot::Unregistration { id: *id }),
-            Slot::Registration { place, replied } => match replied {
-                ShortReply::Granted => self.push_place(SlotPlace::Registered { place: *place }),
-                ShortReply::Refused { .. } => self.push_brief(BriefSlot::Registration {
-                    place: *place,
-                    replied: *replied,
-                }),
-            },
+            Slot::Admitted(admission) => self.push_admitted(admission),
+            Slot::OverLimit { admission, over } => self.push_over(admission, over),
+            Slot::Refused(admission) => self.push_refused(admission),
+            Slot::Brief(brief) => self.push_brief(brief),
+            Slot::Wide(wide) => self.push_wide(wide),
+            Slot::Registered { place } => self.push_place(SlotPlace::Registered { place: *place }),
             Slot::Aside { place } => self.push_place(SlotPlace::Aside { place: *place }),
             Slot::Reload { place } => self.push_place(SlotPlace::Reload { place: *place }),
         }
     }
 
     /// Puts the slot of a granted admission at the end.
-    fn push_admitted(&mut self, admission: RoutedAdmission)
+    fn push_admitted(&mut self, admission: &RoutedAdmission)
         requires room { 1 ≤ self.old.room }
         requires few { length self.old.items < 2 ^ 32 }
         ensures { self.new ≡ record {
-          items = self.old.items ++ admitted_slot admission ∷ [];
+          items = self.old.items ++ slots.Admitted admission.now ∷ [];
           room = self.old.room - 1;
         } }
     {
         let place = self.routed.len() as u32;
-        self.routed.push(HeldRouted::new(admission));
+        self.routed.push(HeldRouted::of(admission));
         self.places.push(SlotPlace::Admitted { place });
         self.room -= 1;
     }
 
     /// Puts the slot of an admission at the end that was refused for this limit.
-    fn push_over(&mut self, admission: RoutedAdmission, over: &ShortOver)
+    fn push_over(&mut self, admission: &RoutedAdmission, over: &ShortOver)
         requires room { 1 ≤ self.old.room }
         requires few { length self.old.items < 2 ^ 32 }
         ensures { self.new ≡ record {
-          items = self.old.items ++ over_slot over.now admission ∷ [];
+          items = self.old.items ++ over_slot over.now admission.now ∷ [];
           room = self.old.room - 1;
         } }
     {
         let place = self.routed.len() as u32;
-        self.routed.push(HeldRouted::new(admission));
+        self.routed.push(HeldRouted::of(admission));
         self.places.push(SlotPlace::of_refused_for(over, place));
         self.room -= 1;
     }
 
     /// Puts the slot of an admission without a destination at the end.
-    fn push_refused(&mut self, admission: RefusedAdmission)
+    fn push_refused(&mut self, admission: &RefusedAdmission)
         requires room { 1 ≤ self.old.room }
         requires few { length self.old.items < 2 ^ 32 }
         ensures { self.new ≡ record {
-          items = self.old.items ++ refused_slot admission ∷ [];
+          items = self.old.items ++ slots.Refused admission.now ∷ [];
           room = self.old.room - 1;
         } }
     {
         let place = self.refused.len() as u32;
-        self.refused.push(HeldRefused::new(admission));
+        self.refused.push(HeldRefused::of(admission));
         self.places.push(SlotPlace::Refused { place });
         self.room -= 1;
     }
 
     /// Puts a brief slot at the end.
-    fn push_brief(&mut self, brief: BriefSlot)
+    fn push_brief(&mut self, brief: &BriefSlot)
         requires room { 1 ≤ self.old.room }
         requires few { length self.old.items < 2 ^ 32 }
         ensures { self.new ≡ record {
-          items = self.old.items ++ brief_slot brief ∷ [];
+          items = self.old.items ++ slots.Brief brief.now ∷ [];
           room = self.old.room - 1;
         } }
     {
         let place = self.brief.len() as u32;
-        self.brief.push(HeldBrief::new(brief));
+        self.brief.push(HeldBrief::of(brief));
         self.places.push(SlotPlace::Brief { place });
         self.room -= 1;
     }
 
     /// Puts a slot with the name of the zone of a limit at the end.
-    fn push_wide(&mut self, wide: WideSlot)
+    fn push_wide(&mut self, wide: &WideSlot)
         requires room { 1 ≤ self.old.room }
         requires few { length self.old.items < 2 ^ 32 }
         ensures { self.new ≡ record {
-          items = self.old.items ++ wide_slot wide ∷ [];
+          items = self.old.items ++ slots.Wide wide.now ∷ [];
           room = self.old.room - 1;
         } }
     {
         let place = self.wide.len() as u32;
-        self.wide.push(HeldWide::new(wide));
+        self.wide.push(HeldWide::of(wide));
         self.places.push(SlotPlace::Wide { place });
         self.room -= 1;
     }

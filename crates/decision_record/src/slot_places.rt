@@ -2,10 +2,12 @@
 
 ghost use Rattle.std.specs.Prelude.{◌≡◌, slice_get, option_map};
 ghost use Rattle.std.specs.Option.{option_and_then};
-ghost use Rattle.decision_record.specs.SlotList.{admitted_slot, over_slot, refused_slot, brief_slot, wide_slot, over_place, place_meant};
+ghost use Rattle.decision_record.specs.SlotList.{over_slot, over_place, place_meant};
+ghost use Rattle.decision_record.specs.declared.slots.Slot.TheVariants as slots;
 
-use crate::slot_kinds::{HeldBrief, HeldRefused, HeldRouted, HeldWide};
-use crate::slots::{ShortOver, ShortReply, Slot};
+use crate::held::{HeldBrief, HeldRefused, HeldRouted, HeldWide};
+use crate::slot_parts::ShortOver;
+use crate::slots::Slot;
 use command_reader::LimitKind;
 use pieces::Pieces;
 
@@ -27,7 +29,7 @@ pub enum SlotPlace {
     Brief { place: u32 },
     /// In that of slots with the name of the zone of a limit.
     Wide { place: u32 },
-    /// It is that of a granted registration, whose event has this place among the registrations.
+    /// It is that of a granted registration, whose endpoint has this place among the registrations.
     Registered { place: u32 },
     /// It is that of an entry that stands whole at this place.
     Aside { place: u32 },
@@ -81,10 +83,7 @@ impl SlotPlace {
             SlotPlace::Refused { place } => refused_at(refused, *place as usize),
             SlotPlace::Brief { place } => brief_at(brief, *place as usize),
             SlotPlace::Wide { place } => wide_at(wide, *place as usize),
-            SlotPlace::Registered { place } => Some(Slot::Registration {
-                place: *place,
-                replied: ShortReply::Granted,
-            }),
+            SlotPlace::Registered { place } => Some(Slot::Registered { place: *place }),
             SlotPlace::Aside { place } => Some(Slot::Aside { place: *place }),
             SlotPlace::Reload { place } => Some(Slot::Reload { place: *place }),
         }
@@ -112,11 +111,11 @@ pub fn slot_at(
 
 /// The slot of the granted admission at this place.
 fn admitted_at(routed: &Pieces<HeldRouted>, place: usize) -> Option<Slot>
-    ensures { result ≡ option_map admitted_slot (slice_get routed.now.items place) }
+    ensures { result ≡ option_map slots.Admitted (slice_get routed.now.items place) }
 {
     match routed.get(place) {
         None => None,
-        Some(held) => Some(held.admission().admitted()),
+        Some(held) => Some(Slot::Admitted(*held.admission())),
     }
 }
 
@@ -126,36 +125,39 @@ fn over_at(routed: &Pieces<HeldRouted>, place: usize, over: &ShortOver) -> Optio
 {
     match routed.get(place) {
         None => None,
-        Some(held) => Some(held.admission().over_limit(over)),
+        Some(held) => Some(Slot::OverLimit {
+            admission: *held.admission(),
+            over: *over,
+        }),
     }
 }
 
 /// The slot of the admission without a destination at this place.
 fn refused_at(refused: &Pieces<HeldRefused>, place: usize) -> Option<Slot>
-    ensures { result ≡ option_map refused_slot (slice_get refused.now.items place) }
+    ensures { result ≡ option_map slots.Refused (slice_get refused.now.items place) }
 {
     match refused.get(place) {
         None => None,
-        Some(held) => Some(held.admission().slot()),
+        Some(held) => Some(Slot::Refused(*held.admission())),
     }
 }
 
 /// The brief slot at this place.
 fn brief_at(brief: &Pieces<HeldBrief>, place: usize) -> Option<Slot>
-    ensures { result ≡ option_map brief_slot (slice_get brief.now.items place) }
+    ensures { result ≡ option_map slots.Brief (slice_get brief.now.items place) }
 {
     match brief.get(place) {
         None => None,
-        Some(held) => Some(held.brief().slot()),
+        Some(held) => Some(Slot::Brief(*held.brief())),
     }
 }
 
 /// The slot at this place that has the name of the zone of a limit.
 fn wide_at(wide: &Pieces<HeldWide>, place: usize) -> Option<Slot>
-    ensures { result ≡ option_map wide_slot (slice_get wide.now.items place) }
+    ensures { result ≡ option_map slots.Wide (slice_get wide.now.items place) }
 {
     match wide.get(place) {
         None => None,
-        Some(held) => Some(held.wide().slot()),
+        Some(held) => Some(Slot::Wide(*held.wide())),
     }
 }

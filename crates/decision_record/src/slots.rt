@@ -1,113 +1,36 @@
 //! Entries in few bytes, as the record keeps them.
 
 ghost use Rattle.std.specs.Prelude.{◌≡◌};
+ghost use Rattle.decision_record.specs.Slots.{registered_slot};
 
-use command_reader::LimitKind;
+use crate::slot_parts::{
+    Asked, NamedOver, ShortDestination, ShortOver, ShortReply, Unchanged, Unrouted,
+};
 use gk_terms::{Address, Units};
-use rulings::{RegisterRefusal, RouteRefusal};
-use short_texts::{PackedDigits, ShortName};
+use rulings::RegisterRefusal;
+use short_texts::ShortName;
 
-/// Where dialled digits lead, except for the address.
+/// An admission that leads to a destination, but for the verdict.
 #[derive(Clone, Copy)]
-pub enum ShortDestination {
-    Gateway { id: ShortName },
-    Terminal { id: ShortName },
-    Zone { name: ShortName },
+pub struct RoutedAdmission {
+    pub asked: Asked,
+    /// The zone of the caller.
+    pub zone: ShortName,
+    pub destination: ShortDestination,
+    /// The address of the destination.
+    pub address: Address,
 }
 
-/// Which sum of a call would be above its limit.
+/// An admission that leads to none.
 #[derive(Clone, Copy)]
-pub enum ShortOver {
-    /// One of the caller's zone.
-    OwnZone { kind: LimitKind },
-    /// That of all calls to zones of other gatekeepers.
-    Remote,
+pub struct RefusedAdmission {
+    pub asked: Asked,
+    pub cause: Unrouted,
 }
 
-/// Which sum of a call would be above its limit, with the name of its zone.
+/// An entry that is no admission, in at most 32 bytes.
 #[derive(Clone, Copy)]
-pub enum NamedOver {
-    /// One of this zone.
-    Zone { kind: LimitKind, zone: ShortName },
-    /// That of all calls to zones of other gatekeepers.
-    Remote,
-}
-
-/// Why an admission leads to no destination, with the zone of its caller.
-#[derive(Clone, Copy)]
-pub enum Unrouted {
-    CallerNotRegistered,
-    CallOpen {
-        zone: ShortName,
-    },
-    NoRoute {
-        zone: ShortName,
-        refusal: RouteRefusal,
-    },
-}
-
-/// Why a bandwidth change is refused, if no sum has to be named.
-#[derive(Clone, Copy)]
-pub enum Unchanged {
-    NoCall,
-    NotYours,
-}
-
-/// The reply to a registration, but for the names: those in it are those of the endpoint that
-/// asked.
-#[derive(Clone, Copy)]
-pub enum ShortReply {
-    Granted,
-    Refused { reason: RegisterRefusal },
-}
-
-/// An entry in few bytes: of most admissions whose names are short, of a granted change, release or
-/// unregistration whose ID is, and of a refused change; or the place of a
-/// registration in the list of registrations, that of a reload among the reloads, or that of an
-/// entry that stands whole in the list of whole entries.
-#[derive(Clone, Copy)]
-pub enum Slot {
-    /// A granted admission.
-    Admitted {
-        call: u32,
-        units: Units,
-        id: ShortName,
-        digits: PackedDigits,
-        zone: ShortName,
-        destination: ShortDestination,
-        address: Address,
-    },
-    /// An admission that was refused for a limit of a zone that is not the caller's.
-    OtherLimit {
-        call: u32,
-        units: Units,
-        id: ShortName,
-        digits: PackedDigits,
-        zone: ShortName,
-        destination: ShortDestination,
-        address: Address,
-        over: NamedOver,
-    },
-    /// An admission that was refused for a limit of the caller's zone, or for that of all calls to
-    /// zones of other gatekeepers.
-    OverLimit {
-        call: u32,
-        units: Units,
-        id: ShortName,
-        digits: PackedDigits,
-        zone: ShortName,
-        destination: ShortDestination,
-        address: Address,
-        over: ShortOver,
-    },
-    /// An admission that leads to no destination.
-    Refused {
-        call: u32,
-        units: Units,
-        id: ShortName,
-        digits: PackedDigits,
-        cause: Unrouted,
-    },
+pub enum BriefSlot {
     /// A granted bandwidth change.
     Change {
         id: ShortName,
@@ -121,13 +44,6 @@ pub enum Slot {
         units: Units,
         cause: Unchanged,
     },
-    /// A bandwidth change that is refused for a limit.
-    OverChange {
-        id: ShortName,
-        call: u32,
-        units: Units,
-        over: NamedOver,
-    },
     /// A granted release.
     Release {
         id: ShortName,
@@ -137,11 +53,55 @@ pub enum Slot {
     Unregistration {
         id: ShortName,
     },
-    /// A registration.
-    Registration {
-        /// The place, from 0, of the event in the list of registrations.
+    /// A refused registration, whose endpoint stands at this place, from 0, in the list of
+    /// registrations.
+    RefusedRegistration {
         place: u32,
-        replied: ShortReply,
+        reason: RegisterRefusal,
+    },
+}
+
+/// An entry that has the name of the zone of a limit.
+#[derive(Clone, Copy)]
+pub enum WideSlot {
+    /// An admission that was refused for a limit of a zone that is not the caller's.
+    OtherLimit {
+        admission: RoutedAdmission,
+        over: NamedOver,
+    },
+    /// A bandwidth change that was refused for a limit.
+    OverChange {
+        id: ShortName,
+        call: u32,
+        units: Units,
+        over: NamedOver,
+    },
+}
+
+/// An entry in few bytes: of most admissions whose names are short, of a granted change, release or
+/// unregistration whose ID is, and of a refused change; or the place of a registration's endpoint
+/// in the list of registrations, that of a reload among the reloads, or that of any other entry in
+/// the list of whole entries.
+#[derive(Clone, Copy)]
+pub enum Slot {
+    /// A granted admission.
+    Admitted(RoutedAdmission),
+    /// An admission that was refused for a limit of the caller's zone, or for that of all calls to
+    /// zones of other gatekeepers.
+    OverLimit {
+        admission: RoutedAdmission,
+        over: ShortOver,
+    },
+    /// An admission that leads to no destination.
+    Refused(RefusedAdmission),
+    /// A change, a release, an unregistration, or a refused registration.
+    Brief(BriefSlot),
+    /// A refusal for the limit of a zone that has to be named.
+    Wide(WideSlot),
+    /// A granted registration, whose endpoint stands at this place, from 0, in the list of
+    /// registrations.
+    Registered {
+        place: u32,
     },
     /// The place, from 0, of the entry in the list of whole entries.
     Aside {
@@ -153,25 +113,17 @@ pub enum Slot {
     },
 }
 
-/// What an admission asks for, in few bytes.
-#[derive(Clone, Copy)]
-pub struct Asked {
-    pub call: u32,
-    pub units: Units,
-    pub id: ShortName,
-    pub digits: PackedDigits,
-}
-
-impl Asked {
-    /// What an admission asks for.
-    pub fn new(call: u32, units: Units, id: ShortName, digits: PackedDigits) -> Asked
-        ensures { result ≡ record { call = call; units = units; id = id; digits = digits } }
+impl Slot {
+    /// That of a registration with this reply, whose endpoint stands at this place.
+    pub fn of_registration(replied: &ShortReply, place: u32) -> Slot
+        ensures { result ≡ registered_slot replied.now place }
     {
-        Asked {
-            call,
-            units,
-            id,
-            digits,
+        match replied {
+            ShortReply::Granted => Slot::Registered { place },
+            ShortReply::Refused { reason } => Slot::Brief(BriefSlot::RefusedRegistration {
+                place,
+                reason: *reason,
+            }),
         }
     }
 }

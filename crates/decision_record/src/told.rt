@@ -6,12 +6,13 @@ ghost use Rattle.decision_record.specs.History.{entry_by};
 ghost use Rattle.rulings.specs.Lent.{ruling_meant};
 ghost use Rattle.decision_record.specs.Told.{told_meant};
 
-use crate::slots::ShortReply;
+use crate::slot_parts::ShortReply;
 use gk_terms::Name;
 use rulings::{Event, LentRuling, Route};
 
-/// How the entry of an event is recorded that has no slot in few bytes: by its event, a registration,
-/// and a short reply, if it has one; else whole, with what it tells of an admission.
+/// What the record is told of an event that has no slot in few bytes: of a registration the short
+/// reply, if the names in its reply are those that it gave; else what the entry tells of an
+/// admission.
 #[derive(Clone, Copy)]
 pub struct Told {
     /// The reply to a registration.

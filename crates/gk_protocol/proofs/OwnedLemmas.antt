@@ -1,4 +1,5 @@
--- Lines that belong to a request: taken one after another, and what they and the line before them ask.
+-- Lines that belong to a request: taken one after another, and what they and the line before them
+-- ask.
 use Rattle.std.proofs.Common.{◌≡◌, ◌⊎◌, ℕ, zero, suc, ◌+◌, ◌<◌, ◌≤◌, Bool, true, false, cond, List, [], ◌∷◌, ◌++◌, length, take, refl, sym, ap, subst, ◌∙◌, append_assoc, append-nil, length-append, ⊎_elim, inl, inr, arith}
 use Rattle.std.specs.Prelude.{◌==◌, nat_le, Option, Some, None, Result, Ok, Err, filter, flat_map}
 use Rattle.std.specs.List.{list_any}
@@ -26,11 +27,13 @@ use Rattle.gk_protocol.proofs.HandedLemmas.{kept_handed}
 
 -- ---- what is asked
 -- the lines that belong to a request ask nothing
-owned_passed : (at_end : Bool) (raws more : List (List ℕ)) → asked_in at_end (length raws) (raws ++ more) ≡ asked_in at_end 0 more
+owned_passed : (at_end : Bool) (raws more : List (List ℕ)) → asked_in at_end (length raws)
+    (raws ++ more) ≡ asked_in at_end 0 more
 owned_passed at_end [] more = refl
 owned_passed at_end (raw ∷ raws) more = owned_passed at_end raws more
 
-few_owned : (at_end : Bool) (count : ℕ) (raws : List (List ℕ)) → length raws < count → asked_in at_end count raws ≡ []
+few_owned : (at_end : Bool) (count : ℕ) (raws : List (List ℕ)) → length raws < count → asked_in
+    at_end count raws ≡ []
 few_owned at_end count [] few = refl
 few_owned at_end zero (raw ∷ raws) few = absurd (omega (arith, few))
 few_owned at_end (suc count) (raw ∷ raws) few = few_owned at_end count raws (omega (arith, few))
@@ -39,52 +42,75 @@ few_owned at_end (suc count) (raw ∷ raws) few = few_owned at_end count raws (o
 reload_by : Bool → Bool → ℕ → ℕ → List (List ℕ) → List Asked
 reload_by at_end all sequence count raws =
     cond all
-    ((record { request = Ok (request.Reload sequence (flat_map handed_on raws)); no_memory = cond (count == 0) None (Some (reload_without_memory sequence)) }) ∷ [])
+    ((record {
+      request = Ok (request.Reload sequence (flat_map handed_on raws));
+      no_memory = cond
+          (count == 0) None (Some (reload_without_memory sequence));
+    }) ∷ [])
     (cond at_end ((record { request = Err CutShort; no_memory = None }) ∷ []) [])
 
 -- what a line asks with the lines after it
 asks_with : Bool → Option Answer → List (List ℕ) → Result (Option Asking) RequestFault → List Asked
-asks_with at_end no_memory raws asking = asked_by at_end no_memory raws asking ++ asked_in at_end (lines_owned asking) raws
+asks_with at_end no_memory raws asking = asked_by at_end no_memory raws asking ++ asked_in at_end
+    (lines_owned asking) raws
 
 -- with all its lines
-pub reload_asks : (raw : List ℕ) (sequence count : ℕ) (raws : List (List ℕ)) → asking_of (content_of raw) ≡ Ok (Some (Reload sequence count)) → length raws ≡ count
+pub reload_asks : (raw : List ℕ) (sequence count : ℕ) (raws : List (List ℕ)) → asking_of
+    (content_of raw) ≡ Ok (Some (Reload sequence count)) → length raws ≡ count
     → (at_end : Bool) (more : List (List ℕ)) → asked_in at_end 0 ((raw ∷ raws) ++ more)
-    ≡ (record { request = Ok (request.Reload sequence (flat_map handed_on raws)); no_memory = cond (length raws == 0) None (Some (reload_without_memory sequence)) }) ∷ asked_in at_end 0 more
+    ≡ (record {
+      request = Ok (request.Reload sequence (flat_map handed_on raws));
+      no_memory = cond
+          (length raws == 0) None (Some (reload_without_memory sequence));
+    }) ∷ asked_in at_end 0 more
 unfolding reload_by asks_with
 reload_asks raw sequence count raws asks counted at_end more =
     let size : ℕ = length raws in
-    let asks_so : asking_of (content_of raw) ≡ Ok (Some (Reload sequence size)) = subst (λ (n : ℕ). asking_of (content_of raw) ≡ Ok (Some (Reload sequence n))) (sym counted) asks in
-    let enough : nat_le size (length (raws ++ more)) ≡ true = le-leb size (length (raws ++ more)) (omega (arith, length-append raws more)) in
+    let asks_so : asking_of (content_of raw) ≡ Ok (Some (Reload sequence size)) = subst
+    (λ (n : ℕ). asking_of (content_of raw) ≡ Ok (Some (Reload sequence n))) (sym counted) asks
+    in
+    let enough : nat_le size (length (raws ++ more)) ≡ true = le-leb size (length (raws ++ more))
+    (omega (arith, length-append raws more)) in
     ap (asks_with at_end (no_memory_answer_of (content_of raw)) (raws ++ more)) asks_so
-    ∙ ap (λ all. reload_by at_end all sequence size (take size (raws ++ more)) ++ asked_in at_end size (raws ++ more)) enough
-    ∙ ap (λ texts. reload_by at_end true sequence size texts ++ asked_in at_end size (raws ++ more)) (take-append_seam raws more)
-    ∙ ap (λ others. reload_by at_end true sequence size raws ++ others) (owned_passed at_end raws more)
+    ∙ ap (λ all. reload_by at_end all sequence size (take size (raws ++ more)) ++ asked_in at_end
+    size (raws ++ more)) enough
+    ∙ ap (λ texts. reload_by at_end true sequence size texts ++ asked_in at_end size (raws ++ more))
+    (take-append_seam raws more)
+    ∙ ap (λ others. reload_by at_end true sequence size raws ++ others)
+    (owned_passed at_end raws more)
 
 -- with too few
-reload_lacks : (raw : List ℕ) (sequence count : ℕ) (raws : List (List ℕ)) → asking_of (content_of raw) ≡ Ok (Some (Reload sequence count)) → length raws < count
+reload_lacks : (raw : List ℕ) (sequence count : ℕ) (raws : List (List ℕ)) → asking_of
+    (content_of raw) ≡ Ok (Some (Reload sequence count)) → length raws < count
     → (at_end : Bool) → asked_in at_end 0 (raw ∷ raws) ≡ reload_by at_end false sequence count raws
 unfolding reload_by asks_with
 reload_lacks raw sequence count raws asks few at_end =
     ap (asks_with at_end (no_memory_answer_of (content_of raw)) raws) asks
-    ∙ ap (λ all. reload_by at_end all sequence count (take count raws) ++ asked_in at_end count raws) (lt-leb count (length raws) few)
-    ∙ ap (λ others. reload_by at_end false sequence count raws ++ others) (few_owned at_end count raws few)
+    ∙ ap (λ all. reload_by at_end all sequence count (take count raws) ++ asked_in at_end count
+    raws) (lt-leb count (length raws) few)
+    ∙ ap (λ others. reload_by at_end false sequence count raws ++ others)
+    (few_owned at_end count raws few)
     ∙ append-nil (reload_by at_end false sequence count raws)
 
 -- at the end of the input it is cut short
-pub reload_cut : (raw : List ℕ) (sequence count : ℕ) (raws : List (List ℕ)) → asking_of (content_of raw) ≡ Ok (Some (Reload sequence count)) → length raws < count
+pub reload_cut : (raw : List ℕ) (sequence count : ℕ) (raws : List (List ℕ)) → asking_of
+    (content_of raw) ≡ Ok (Some (Reload sequence count)) → length raws < count
     → asked_in true 0 (raw ∷ raws) ≡ (record { request = Err CutShort; no_memory = None }) ∷ []
 unfolding reload_by
 reload_cut raw sequence count raws asks few = reload_lacks raw sequence count raws asks few true
 
 -- and before it nothing is asked
-pub reload_unended : (raw : List ℕ) (sequence count : ℕ) (raws : List (List ℕ)) → asking_of (content_of raw) ≡ Ok (Some (Reload sequence count)) → length raws < count
+pub reload_unended : (raw : List ℕ) (sequence count : ℕ) (raws : List (List ℕ)) → asking_of
+    (content_of raw) ≡ Ok (Some (Reload sequence count)) → length raws < count
     → asked_in false 0 (raw ∷ raws) ≡ []
 unfolding reload_by
-reload_unended raw sequence count raws asks few = reload_lacks raw sequence count raws asks few false
+reload_unended raw sequence count raws asks few = reload_lacks raw sequence count raws asks few
+    false
 
 -- ---- lines that are taken
 -- after other lines
-pub taken_on : (ended now_ended : Bool) (bytes rest next : List ℕ) (raws more : List (List ℕ)) → LinesTaken ended bytes rest raws → TakesLines ended now_ended more rest next
+pub taken_on : (ended now_ended : Bool) (bytes rest next : List ℕ) (raws more : List (List ℕ)) →
+    LinesTaken ended bytes rest raws → TakesLines ended now_ended more rest next
     → LinesTaken now_ended bytes next (raws ++ more)
 taken_on ended now_ended bytes rest next raws [] l t =
     let same : raws ≡ raws ++ [] = sym (append-nil raws) in
@@ -93,15 +119,20 @@ taken_on ended now_ended bytes rest next raws [] l t =
       split = l.split ∙ ap (λ r. l.read ++ r) (sym t.1);
       read_lines = l.read_lines ∙ same;
       joins = λ still others. l.joins (t.0 still) others ∙ ap (λ r. r ++ raw_lines_of others) same;
-      feeds = λ still. ap (filter (list_any (λ b. b == 10))) (sym same) ∙ l.feeds (t.0 still) ∙ same;
+      feeds = λ still. ap (filter (list_any (λ b. b == 10))) (sym same) ∙ l.feeds (t.0 still) ∙
+          same;
     }
 taken_on ended now_ended bytes rest next raws (raw ∷ more) l t =
     let one : LinesTaken t.3 bytes t.2 (raws ++ raw ∷ []) =
-    subst (λ (r : List ℕ). LinesTaken t.3 bytes t.2 (raws ++ r ∷ [])) t.5 (one_more_taken ended t.3 t.1 bytes rest t.2 raws t.0 l t.4) in
-    subst (λ (r : List (List ℕ)). LinesTaken now_ended bytes next r) (append_assoc raws (raw ∷ []) more) (taken_on t.3 now_ended bytes t.2 next (raws ++ raw ∷ []) more one t.6)
+    subst (λ (r : List ℕ). LinesTaken t.3 bytes t.2 (raws ++ r ∷ [])) t.5
+    (one_more_taken ended t.3 t.1 bytes rest t.2 raws t.0 l t.4) in
+    subst (λ (r : List (List ℕ)). LinesTaken now_ended bytes next r)
+    (append_assoc raws (raw ∷ []) more) (taken_on t.3 now_ended bytes t.2 next
+    (raws ++ raw ∷ []) more one t.6)
 
 -- none is taken off nothing
-pub nothing_after : (ended now_ended : Bool) (raws : List (List ℕ)) (bytes rest : List ℕ) → TakesLines ended now_ended raws bytes rest → bytes ≡ [] → rest ≡ []
+pub nothing_after : (ended now_ended : Bool) (raws : List (List ℕ)) (bytes rest : List ℕ) →
+    TakesLines ended now_ended raws bytes rest → bytes ≡ [] → rest ≡ []
 nothing_after ended now_ended [] bytes rest t none = t.1 ∙ none
 nothing_after ended now_ended (raw ∷ raws) bytes rest t none =
     let line = t.4 in
@@ -109,8 +140,10 @@ nothing_after ended now_ended (raw ∷ raws) bytes rest t none =
     let no_such : ⊥ = cc in absurd no_such
 
 -- each has its line feed, or nothing is left
-pub whole_on : (ended now_ended : Bool) (more : List (List ℕ)) (rest next : List ℕ) (raws : List (List ℕ)) → TakesLines ended now_ended more rest next
-    → filter (list_any (λ b. b == 10)) raws ≡ raws → (filter (list_any (λ b. b == 10)) (raws ++ more) ≡ raws ++ more) ⊎ (next ≡ [])
+pub whole_on : (ended now_ended : Bool) (more : List (List ℕ)) (rest next : List ℕ)
+    (raws : List (List ℕ)) → TakesLines ended now_ended more rest next
+    → filter (list_any (λ b. b == 10)) raws ≡ raws → (filter (list_any (λ b. b == 10))
+    (raws ++ more) ≡ raws ++ more) ⊎ (next ≡ [])
 whole_on ended now_ended [] rest next raws t feeds =
     let same : raws ≡ raws ++ [] = sym (append-nil raws) in
     inl (ap (filter (list_any (λ b. b == 10))) (sym same) ∙ feeds ∙ same)
@@ -118,28 +151,54 @@ whole_on ended now_ended (raw ∷ more) rest next raws t feeds =
     let line = t.4 in
     ⊎_elim
     (λ (whole : IsWholeLine line.raw).
-    let feed : list_any (λ b. b == 10) raw ≡ true = ap (list_any (λ b. b == 10)) (sym t.5) ∙ whole_line_has_feed line.raw whole in
+    let feed : list_any (λ b. b == 10) raw ≡ true = ap (list_any (λ b. b == 10)) (sym t.5) ∙
+    whole_line_has_feed line.raw whole in
     let one : filter (list_any (λ b. b == 10)) (raws ++ raw ∷ []) ≡ raws ++ raw ∷ [] =
-    filter-append (list_any (λ b. b == 10)) raws (raw ∷ []) ∙ ap (λ r. r ++ filter (list_any (λ b. b == 10)) (raw ∷ [])) feeds ∙ ap (λ b. raws ++ cond b (raw ∷ []) []) feed in
-    subst (λ (r : List (List ℕ)). (filter (list_any (λ b. b == 10)) r ≡ r) ⊎ (next ≡ [])) (append_assoc raws (raw ∷ []) more) (whole_on t.3 now_ended more t.2 next (raws ++ raw ∷ []) t.6 one))
+    filter-append (list_any (λ b. b == 10)) raws (raw ∷ []) ∙ ap
+    (λ r. r ++ filter (list_any (λ b. b == 10)) (raw ∷ [])) feeds ∙ ap
+    (λ b. raws ++ cond b (raw ∷ []) []) feed in
+    subst (λ (r : List (List ℕ)). (filter (list_any (λ b. b == 10)) r ≡ r) ⊎ (next ≡ []))
+    (append_assoc raws (raw ∷ []) more) (whole_on t.3 now_ended more t.2 next (raws ++ raw ∷ [])
+    t.6 one))
     (λ (none : t.2 ≡ []). inr (nothing_after t.3 now_ended more t.2 next t.6 none))
     line.last
 
 -- one more line after those
-one_more : (ended mid_ended now_ended : Bool) (kept : List ℕ) (raws : List (List ℕ)) (bytes mid rest : List ℕ) → TakesLines ended mid_ended raws bytes mid → mid_ended ≡ false
-    → (t : TakesLine now_ended kept mid rest) → TakesLines ended now_ended (raws ++ t.raw ∷ []) bytes rest
+one_more : (ended mid_ended now_ended : Bool) (kept : List ℕ) (raws : List (List ℕ))
+    (bytes mid rest : List ℕ) → TakesLines ended mid_ended raws bytes mid → mid_ended ≡ false
+    → (t : TakesLine now_ended kept mid rest) → TakesLines ended now_ended (raws ++ t.raw ∷ [])
+    bytes rest
 one_more ended mid_ended now_ended kept [] bytes mid rest l unended t =
-    let here : TakesLines ended now_ended (t.raw ∷ []) mid rest = (l.0 unended, kept, rest, now_ended, t, refl, ((λ still. still), refl)) in
+    let here : TakesLines ended now_ended (t.raw ∷ []) mid rest =
+    (l.0 unended, kept, rest, now_ended, t, refl, ((λ still. still), refl)) in
     subst (λ (b : List ℕ). TakesLines ended now_ended (t.raw ∷ []) b rest) l.1 here
-one_more ended mid_ended now_ended kept (raw ∷ raws) bytes mid rest l unended t =
-    (l.0, l.1, l.2, l.3, l.4, l.5, one_more l.3 mid_ended now_ended kept raws l.2 mid rest l.6 unended t)
+one_more ended mid_ended now_ended kept (raw ∷ raws) bytes mid rest l unended t = (
+  l.0,
+  l.1,
+  l.2,
+  l.3,
+  l.4,
+  l.5,
+  one_more l.3 mid_ended now_ended kept raws l.2 mid rest l.6
+      unended t,
+)
 
 -- the input came to its end after those, or not
-still_taken : (ended mid_ended now_ended : Bool) (raws : List (List ℕ)) (bytes mid rest : List ℕ) → TakesLines ended mid_ended raws bytes mid → (now_ended ≡ false → mid_ended ≡ false) → rest ≡ mid
+still_taken : (ended mid_ended now_ended : Bool) (raws : List (List ℕ)) (bytes mid rest : List ℕ) →
+    TakesLines ended mid_ended raws bytes mid → (now_ended ≡ false → mid_ended ≡ false) → rest ≡ mid
     → TakesLines ended now_ended raws bytes rest
-still_taken ended mid_ended now_ended [] bytes mid rest l ends same = (λ still. l.0 (ends still), same ∙ l.1)
-still_taken ended mid_ended now_ended (raw ∷ raws) bytes mid rest l ends same =
-    (l.0, l.1, l.2, l.3, l.4, l.5, still_taken l.3 mid_ended now_ended raws l.2 mid rest l.6 ends same)
+still_taken ended mid_ended now_ended [] bytes mid rest l ends same =
+    (λ still. l.0 (ends still), same ∙ l.1)
+still_taken ended mid_ended now_ended (raw ∷ raws) bytes mid rest l ends same = (
+  l.0,
+  l.1,
+  l.2,
+  l.3,
+  l.4,
+  l.5,
+  still_taken l.3 mid_ended now_ended raws l.2 mid rest l.6 ends
+      same,
+)
 
 -- ---- the loop that takes them
 -- what was handed on of the lines that were taken, unless memory ran out for one of them
@@ -148,66 +207,101 @@ IsTextOf None raws = 1 ≤ length raws
 IsTextOf (Some text) raws = text ≡ flat_map handed_on raws
 
 -- so many lines were taken
-pub record LinesUnderWay (ended now_ended : Bool) (count : ℕ) (owned : Option (List ℕ)) (bytes rest : List ℕ) : Type 0 where
+pub record LinesUnderWay (ended now_ended : Bool) (count : ℕ) (owned : Option (List ℕ))
+    (bytes rest : List ℕ) : Type 0 where
   pub raws : List (List ℕ)
   pub takes : TakesLines ended now_ended raws bytes rest
   pub counted : length raws ≡ count
   pub text : IsTextOf owned raws
 
-pub lines_begin : (known : Option (List ℕ)) (ended : Bool) → KnownStep known known (LinesUnderWay ended ended 0 (Some []))
+pub lines_begin : (known : Option (List ℕ)) (ended : Bool) → KnownStep known known
+    (LinesUnderWay ended ended 0 (Some []))
 lines_begin None ended = tt
-lines_begin (Some bytes) ended = record { raws = []; takes = (λ still. still, refl); counted = refl; text = refl }
+lines_begin (Some bytes) ended = record {
+  raws = [];
+  takes = (λ still. still, refl);
+  counted = refl;
+  text = refl;
+}
 
-text_with : (before after : Option (List ℕ)) (raws : List (List ℕ)) (raw kept : List ℕ) → IsTextOf before raws → HandsOn before kept after → handed_on kept ≡ handed_on raw → IsTextOf after (raws ++ raw ∷ [])
+text_with : (before after : Option (List ℕ)) (raws : List (List ℕ)) (raw kept : List ℕ) → IsTextOf
+    before raws → HandsOn before kept after → handed_on kept ≡ handed_on raw → IsTextOf after
+    (raws ++ raw ∷ [])
 text_with before None raws raw kept text hands same = omega (arith, length-append raws (raw ∷ []))
 text_with None (Some after) raws raw kept text hands same = absurd hands
 text_with (Some before) (Some after) raws raw kept text hands same =
-    hands ∙ ap (λ t. t ++ handed_on kept) text ∙ ap (λ t. flat_map handed_on raws ++ t) (same ∙ sym (append-nil (handed_on raw)))
+    hands ∙ ap (λ t. t ++ handed_on kept) text ∙ ap (λ t. flat_map handed_on raws ++ t)
+    (same ∙ sym (append-nil (handed_on raw)))
     ∙ sym (flat_map-append handed_on raws (raw ∷ []))
 
 -- one more
-pub lines_go_on : (known mid rest : Option (List ℕ)) (ended mid_ended now_ended : Bool) (kept : List ℕ) (count : ℕ) (before after : Option (List ℕ)) → mid_ended ≡ false
-    → KnownStep known mid (LinesUnderWay ended mid_ended count before) → KnownStep mid rest (TakesLine now_ended kept) → HandsOn before kept after
+pub lines_go_on : (known mid rest : Option (List ℕ)) (ended mid_ended now_ended : Bool)
+    (kept : List ℕ) (count : ℕ) (before after : Option (List ℕ)) → mid_ended ≡ false
+    → KnownStep known mid (LinesUnderWay ended mid_ended count before) → KnownStep mid rest
+    (TakesLine now_ended kept) → HandsOn before kept after
     → KnownStep known rest (LinesUnderWay ended now_ended (count + 1) after)
 lines_go_on None mid rest ended mid_ended now_ended kept count before after unended l t hands = tt
-lines_go_on (Some bytes) None rest ended mid_ended now_ended kept count before after unended l t hands = absurd l
-lines_go_on (Some bytes) (Some mid) None ended mid_ended now_ended kept count before after unended l t hands = absurd t
-lines_go_on (Some bytes) (Some mid) (Some rest) ended mid_ended now_ended kept count before after unended l t hands = record {
-  raws = l.raws ++ t.raw ∷ [];
-  takes = one_more ended mid_ended now_ended kept l.raws bytes mid rest l.takes unended t;
-  counted = omega (arith, l.counted, length-append l.raws (t.raw ∷ []));
-  text = text_with before after l.raws t.raw kept l.text hands (kept_handed now_ended kept mid rest t);
-}
+lines_go_on (Some bytes) None rest ended mid_ended now_ended kept count before after unended l t
+    hands = absurd l
+lines_go_on (Some bytes) (Some mid) None ended mid_ended now_ended kept count before after unended l
+    t hands = absurd t
+lines_go_on (Some bytes) (Some mid) (Some rest) ended mid_ended now_ended kept count before after
+    unended l t hands = record {
+      raws = l.raws ++ t.raw ∷ [];
+      takes = one_more ended mid_ended now_ended kept l.raws bytes mid rest l.takes unended t;
+      counted = omega (arith, l.counted, length-append l.raws (t.raw ∷ []));
+      text = text_with before after l.raws t.raw kept l.text hands
+          (kept_handed now_ended kept mid rest t);
+    }
 
 -- all of them, kept or not
-pub lines_whole : (known rest : Option (List ℕ)) (ended now_ended : Bool) (count : ℕ) (text : List ℕ) → KnownStep known rest (LinesUnderWay ended now_ended count (Some text))
+pub lines_whole : (known rest : Option (List ℕ)) (ended now_ended : Bool) (count : ℕ)
+    (text : List ℕ) → KnownStep known rest (LinesUnderWay ended now_ended count (Some text))
     → KnownStep known rest (GivesLines ended now_ended count (Ok (taken.Whole text)))
 lines_whole None rest ended now_ended count text l = tt
 lines_whole (Some bytes) None ended now_ended count text l = absurd l
-lines_whole (Some bytes) (Some rest) ended now_ended count text l = (l.raws, l.takes, l.counted, l.text)
+lines_whole (Some bytes) (Some rest) ended now_ended count text l =
+    (l.raws, l.takes, l.counted, l.text)
 
-pub lines_lost : (known rest : Option (List ℕ)) (ended now_ended : Bool) (count : ℕ) → KnownStep known rest (LinesUnderWay ended now_ended count None)
+pub lines_lost : (known rest : Option (List ℕ)) (ended now_ended : Bool) (count : ℕ) → KnownStep
+    known rest (LinesUnderWay ended now_ended count None)
     → KnownStep known rest (GivesLines ended now_ended count (Ok taken.NoMemory))
 lines_lost None rest ended now_ended count l = tt
 lines_lost (Some bytes) None ended now_ended count l = absurd l
-lines_lost (Some bytes) (Some rest) ended now_ended count l = (l.raws, l.takes, l.counted, omega (arith, l.text, l.counted))
+lines_lost (Some bytes) (Some rest) ended now_ended count l =
+    (l.raws, l.takes, l.counted, omega (arith, l.text, l.counted))
 
 -- the input ends before that
-pub lines_cut : (known mid rest : Option (List ℕ)) (ended mid_ended now_ended : Bool) (before count : ℕ) (owned : Option (List ℕ)) → before < count
-    → KnownStep known mid (LinesUnderWay ended mid_ended before owned) → Keeps mid rest → IsAtEnd mid → (now_ended ≡ false → mid_ended ≡ false)
+pub lines_cut : (known mid rest : Option (List ℕ)) (ended mid_ended now_ended : Bool)
+    (before count : ℕ) (owned : Option (List ℕ)) → before < count
+    → KnownStep known mid (LinesUnderWay ended mid_ended before owned) → Keeps mid rest → IsAtEnd
+    mid → (now_ended ≡ false → mid_ended ≡ false)
     → KnownStep known rest (GivesLines ended now_ended count (Ok taken.CutShort))
 lines_cut None mid rest ended mid_ended now_ended before count owned few l same end ends = tt
-lines_cut (Some bytes) None rest ended mid_ended now_ended before count owned few l same end ends = absurd l
-lines_cut (Some bytes) (Some mid) None ended mid_ended now_ended before count owned few l same end ends = absurd same
-lines_cut (Some bytes) (Some mid) (Some rest) ended mid_ended now_ended before count owned few l same end ends =
-    (l.raws, still_taken ended mid_ended now_ended l.raws bytes mid rest l.takes ends same, omega (arith, few, l.counted), same ∙ end)
+lines_cut (Some bytes) None rest ended mid_ended now_ended before count owned few l same end ends =
+    absurd l
+lines_cut (Some bytes) (Some mid) None ended mid_ended now_ended before count owned few l same end
+    ends = absurd same
+lines_cut (Some bytes) (Some mid) (Some rest) ended mid_ended now_ended before count owned few l
+    same end ends = (
+      l.raws,
+      still_taken ended mid_ended now_ended l.raws bytes mid rest l.takes ends same,
+      omega
+          (arith, few, l.counted),
+      same ∙ end,
+    )
 
 -- a fault of the reader before that
-pub lines_stop : (known mid rest : Option (List ℕ)) (ended mid_ended now_ended : Bool) (before count : ℕ) (owned : Option (List ℕ)) (fault : ReadFault) → before < count
-    → KnownStep known mid (LinesUnderWay ended mid_ended before owned) → KnownStep mid rest TakesPart → mid_ended ≡ false
+pub lines_stop : (known mid rest : Option (List ℕ)) (ended mid_ended now_ended : Bool)
+    (before count : ℕ) (owned : Option (List ℕ)) (fault : ReadFault) → before < count
+    → KnownStep known mid (LinesUnderWay ended mid_ended before owned) → KnownStep mid rest
+    TakesPart → mid_ended ≡ false
     → KnownStep known rest (GivesLines ended now_ended count (Err fault))
 lines_stop None mid rest ended mid_ended now_ended before count owned fault few l part unended = tt
-lines_stop (Some bytes) None rest ended mid_ended now_ended before count owned fault few l part unended = absurd l
-lines_stop (Some bytes) (Some mid) None ended mid_ended now_ended before count owned fault few l part unended = absurd part
-lines_stop (Some bytes) (Some mid) (Some rest) ended mid_ended now_ended before count owned fault few l part unended =
+lines_stop (Some bytes) None rest ended mid_ended now_ended before count owned fault few l part
+    unended = absurd l
+lines_stop (Some bytes) (Some mid) None ended mid_ended now_ended before count owned fault few l
+    part unended = absurd part
+lines_stop (Some bytes) (Some mid) (Some rest) ended mid_ended now_ended before count owned fault
+    few l part unended =
     (l.raws, mid, mid_ended, l.takes, unended, omega (arith, few, l.counted), part)

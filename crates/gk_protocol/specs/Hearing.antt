@@ -40,8 +40,8 @@ module _ {S : Type 0} (MayAnswer : S → Request → Answer → S → Type 0) wh
   HearsRequest old read (Err fault) reply new = (read ≡ Err fault) × (new ≡ old)
   HearsRequest old read heard reply new = ⊥
 
-  -- a registration, by the words after RRQ, is answered likewise; or it is refused, since memory ran
-  -- out for its options, and the answerer is left as it was
+  -- a registration, by the words after RRQ, is answered likewise; or it is refused, since memory
+  -- ran out for its options, and the answerer is left as it was
   abbrev pub HearsRegistration : S → List (List ℕ) → Result Heard RequestFault → List ℕ → S
       → Type 0
   HearsRegistration old words (Ok Answered) reply new =

@@ -256,8 +256,8 @@ abbrev pub no_memory_answer_of : List ℕ → Option Answer
 no_memory_answer_of line = option_map no_memory_to (registering_of line)
 
 -- ---- why a registration is no request
--- why the options of a registration by this number and ID cannot be read: the first fault, or memory
--- ran out
+-- why the options of a registration by this number and ID cannot be read: the first fault, or
+-- memory ran out
 abbrev pub AreNoOptionsAt : ℕ → EndpointParts → List (List ℕ) → NoRequest → Type 0
 AreNoOptionsAt sequence endpoint words (Fault fault) =
     options_at all_options endpoint words ≡ Err fault

@@ -69,8 +69,8 @@ impl From<RequestFault> for NoRequest {
     }
 }
 
-/// Answers `RRQ seq KIND id zone addr [e164=D] [tech=P] ..`, after its first word, or gives back its
-/// first fault.
+/// Answers `RRQ seq KIND id zone addr [e164=D] [tech=P] ..`, after its first word, or gives back
+/// its first fault.
 #[inline(never)]
 pub(crate) fn register<A: Answerer>(
     alloc: Global,

@@ -22,7 +22,8 @@ pub enum Heard {
     /// The reply is the line of its answer: also if memory ran out for the options of a
     /// registration.
     Answered,
-    /// `CFG`: asks that the configuration in the next lines be put in force. It is not answered yet.
+    /// `CFG`: asks that the configuration in the next lines be put in force. It is not answered
+    /// yet.
     Reload {
         /// The sequence number, 1 to 65535, which the reply repeats.
         sequence: u32,
@@ -32,15 +33,16 @@ pub enum Heard {
 }
 
 #[tactic(auto, unfolding(crate::specs::Requests::asking_of))]
-/// Hears a line, whose ending is taken off, and answers the request that stands whole in it. A fault
-/// is given back, and leaves the answerer as it was. The reply counts only after `Answered`.
+/// Hears a line, whose ending is taken off, and answers the request that stands whole in it. A
+/// fault is given back, and leaves the answerer as it was. The reply counts only after `Answered`.
 ///
 /// A line of more than 512 bytes is `LineTooLong`, and an unknown first word `UnknownWord`. Then
 /// the fields are read from the left: an absent one is `Missing`, one that cannot be read is its
 /// own fault, and a word after the last is `Extra`. A registration may have 16 options `e164=D` and
 /// 8 options `tech=P` in any order, counted as written; one more is `BadOption` before its value is
-/// looked at, and so is any other word. Memory is taken only for these options, and by the answerer;
-/// if there is none for the options, the reply says so, and the answerer is left as it was.
+/// looked at, and so is any other word. Memory is taken only for these options, and by the
+/// answerer; if there is none for the options, the reply says so, and the answerer is left as it
+/// was.
 pub fn hear<A: Answerer>(
     alloc: Global,
     line: &[u8],

@@ -169,8 +169,8 @@ fn progress_with<R: Source, A: Answerer>(
     }
 }
 
-/// Answers a reload, by what became of its lines. In a function of its own, so that no request clears
-/// the places of its answers.
+/// Answers a reload, by what became of its lines. In a function of its own, so that no request
+/// clears the places of its answers.
 #[inline(never)]
 fn answer_reload<A: Answerer>(
     alloc: Global,

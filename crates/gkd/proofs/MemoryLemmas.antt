@@ -33,12 +33,15 @@ either P true x y p q = p
 either P false x y p q = q
 
 -- ---- rulings
-register_apart : (s : State) (e : EndpointParts) (refusal : Option RegisterRefusal) → Some register.NoMemory ≢ refusal
+register_apart : (s : State) (e : EndpointParts) (refusal : Option RegisterRefusal) → Some
+    register.NoMemory ≢ refusal
     → RegisterRefused e.id register.NoMemory ≢ (registration_unless s e refusal).verdict
-register_apart s e (Some refusal) other h = let same : register.NoMemory ≡ refusal = cc in other (ap Some same)
+register_apart s e (Some refusal) other h = let same : register.NoMemory ≡ refusal = cc in other
+    (ap Some same)
 register_apart s e None other h = cc
 
-register_refusal_apart : (s : State) (e : EndpointParts) → Some register.NoMemory ≢ register_refusal s e
+register_refusal_apart : (s : State) (e : EndpointParts) → Some register.NoMemory ≢ register_refusal
+    s e
 register_refusal_apart s e =
     let P : Option RegisterRefusal → Type 0 = λ refusal. Some register.NoMemory ≢ refusal in
     let id : P (Some (register.DuplicateAlias Id)) = λ h. cc in
@@ -48,7 +51,8 @@ register_refusal_apart s e =
     either P _ _ _ (either P _ _ _ id (either P _ _ _ alias none)) zone
 
 unless_apart : (zone : List ℕ) (destination : Destination) (call : OpenCall) (over : Option Over)
-    → AdmitRefused call.number admit.NoMemory ≢ (admission_unless zone destination call over).verdict
+    → AdmitRefused call.number admit.NoMemory ≢ (admission_unless zone destination call
+    over).verdict
 unless_apart zone destination call None h = cc
 unless_apart zone destination call (Some over) h = cc
 
@@ -66,37 +70,45 @@ admit_apart s call digits units (Some caller) h =
     let P : Ruling → Type 0 = λ r. AdmitRefused call admit.NoMemory ≢ r.verdict in
     let taken : P (call_open_ruling caller call) = λ i. cc in
     either P _ _ _ taken
-    (to_apart s caller call units (plan_of s.commands digits) (route_of s.commands s.endpoints caller.zone digits)) h
+    (to_apart s caller call units (plan_of s.commands digits)
+    (route_of s.commands s.endpoints caller.zone digits)) h
 
-change_unless_apart : (id : List ℕ) (call units : ℕ) (over : Option Over) → ChangeRefused call change.NoMemory ≢ (change_unless id call units over).verdict
+change_unless_apart : (id : List ℕ) (call units : ℕ) (over : Option Over) → ChangeRefused call
+    change.NoMemory ≢ (change_unless id call units over).verdict
 change_unless_apart id call units None h = cc
 change_unless_apart id call units (Some over) h = cc
 
-change_apart : (s : State) (id : List ℕ) (call units : ℕ) (held : Option OpenCall) → ChangeRefused call change.NoMemory ≢ (change_ruling s id call units held).verdict
+change_apart : (s : State) (id : List ℕ) (call units : ℕ) (held : Option OpenCall) → ChangeRefused
+    call change.NoMemory ≢ (change_ruling s id call units held).verdict
 change_apart s id call units None h = cc
 change_apart s id call units (Some held) h =
     let P : Ruling → Type 0 = λ r. ChangeRefused call change.NoMemory ≢ r.verdict in
     let other : P (unrouted (ChangeRefused call change.NotYours) Nothing) = λ i. cc in
-    either P _ _ _ (change_unless_apart id call units (over_of s.commands s.calls (record held { units = units }))) other h
+    either P _ _ _ (change_unless_apart id call units (over_of s.commands s.calls
+    (record held { units = units }))) other h
 
 -- ---- steps
 -- a step's reply is a refusal by a count, or the verdict
-outcome_apart : (s : State) (event : PlainEvent) (ruling : Ruling) (lacking : Reply) (refusal : Option Reply) → Some lacking ≢ refusal → lacking ≢ ruling.verdict
+outcome_apart : (s : State) (event : PlainEvent) (ruling : Ruling) (lacking : Reply)
+    (refusal : Option Reply) → Some lacking ≢ refusal → lacking ≢ ruling.verdict
     → lacking ≢ (outcome_of s event ruling refusal).reply
 outcome_apart s event ruling lacking (Some reply) counts ruled = λ h. counts (ap Some h)
 outcome_apart s event ruling lacking None counts ruled = ruled
 
-step_apart : (s : State) (event : PlainEvent) (lacking : Reply) → Some lacking ≢ count_refusal s event (ruling_of s event) → lacking ≢ (ruling_of s event).verdict
+step_apart : (s : State) (event : PlainEvent) (lacking : Reply) → Some lacking ≢ count_refusal s
+    event (ruling_of s event) → lacking ≢ (ruling_of s event).verdict
     → Some lacking ≢ Some (step s event).reply
 unfolding step
 step_apart s event lacking counts ruled h =
     let same : lacking ≡ (step s event).reply = cc in
-    outcome_apart s event (ruling_of s event) lacking (count_refusal s event (ruling_of s event)) counts ruled same
+    outcome_apart s event (ruling_of s event) lacking (count_refusal s event (ruling_of s event))
+    counts ruled same
 
 pub lasts : (s : State) (event : PlainEvent) → no_memory_reply_of event ≢ Some (step s event).reply
 unfolding count_refusal ruling_of
 lasts s (Registering e) =
-    let P : Option Reply → Type 0 = λ refusal. Some (RegisterRefused e.id register.NoMemory) ≢ refusal in
+    let P : Option Reply → Type 0 = λ refusal. Some (RegisterRefused e.id register.NoMemory) ≢
+    refusal in
     let endpoints : P (Some (RegisterRefused e.id register.EndpointsFull)) = λ h. cc in
     let records : P (Some (RegisterRefused e.id register.RecordFull)) = λ h. cc in
     let none : P None = λ h. cc in
@@ -104,14 +116,16 @@ lasts s (Registering e) =
     (either P _ _ _ endpoints (either P _ _ _ records none))
     (register_apart s e (register_refusal s e) (register_refusal_apart s e))
 lasts s (Unregistering id) =
-    let P : Option Reply → Type 0 = λ refusal. Some (UnregisterRefused id unregister.NoMemory) ≢ refusal in
+    let P : Option Reply → Type 0 = λ refusal. Some (UnregisterRefused id unregister.NoMemory) ≢
+    refusal in
     let Q : Ruling → Type 0 = λ r. UnregisterRefused id unregister.NoMemory ≢ r.verdict in
     let records : P (Some (UnregisterRefused id unregister.RecordFull)) = λ h. cc in
     let none : P None = λ h. cc in
     let calls : Q (unrouted (UnregisterRefused id unregister.CallInProgress) Nothing) = λ h. cc in
     let left : Q (unrouted (Unregistered id) (Remove id)) = λ h. cc in
     let unknown : Q (unrouted (UnregisterRefused id unregister.NotRegistered) Nothing) = λ h. cc in
-    step_apart s (Unregistering id) (UnregisterRefused id unregister.NoMemory) (either P _ _ _ records none)
+    step_apart s (Unregistering id) (UnregisterRefused id unregister.NoMemory)
+    (either P _ _ _ records none)
     (either Q _ _ _ (either Q _ _ _ calls left) unknown)
 lasts s (Admitting id call digits units) =
     let P : Option Reply → Type 0 = λ refusal. Some (AdmitRefused call admit.NoMemory) ≢ refusal in
@@ -122,10 +136,12 @@ lasts s (Admitting id call digits units) =
     (either P _ _ _ calls (either P _ _ _ records none))
     (admit_apart s call digits units (endpoint_of s.endpoints id))
 lasts s (Changing id call units) =
-    let P : Option Reply → Type 0 = λ refusal. Some (ChangeRefused call change.NoMemory) ≢ refusal in
+    let P : Option Reply → Type 0 = λ refusal. Some (ChangeRefused call change.NoMemory) ≢ refusal
+    in
     let records : P (Some (ChangeRefused call change.RecordFull)) = λ h. cc in
     let none : P None = λ h. cc in
-    step_apart s (Changing id call units) (ChangeRefused call change.NoMemory) (either P _ _ _ records none)
+    step_apart s (Changing id call units) (ChangeRefused call change.NoMemory)
+    (either P _ _ _ records none)
     (change_apart s id call units (call_of s.calls call))
 lasts s (Releasing id call) = λ h. cc
 lasts s (Reloading commands) =

@@ -1,4 +1,5 @@
--- What is computed as the output of a run is one that it may write, and the only one if memory lasts.
+-- What is computed as the output of a run is one that it may write, and the only one if memory
+-- lasts.
 use Rattle.std.proofs.Common.{◌≡◌, ℕ, Bool, true, false, cond, List, [], ◌∷◌, ◌++◌, refl, sym, ap, subst, ◌∙◌, ⊎_elim, inl, inr}
 use Rattle.std.specs.Prelude.{◌≢◌, Option, Some, None, Result, Ok, Err, option_map}
 use Rattle.command_reader.specs.declared.faults.LineFault.{LineFault}
@@ -26,30 +27,42 @@ use Rattle.gkd.specs.Run.{opened}
 use Rattle.gkd.specs.Output.{reloading, answer_to, core_with, answer_of, core_of, replies_of, output_after, output_of, OutputIsRun, AnsweredInMemory, RunsInMemory, OutputIsRunInMemory, OutputIsOnlyRun}
 use Rattle.gkd.proofs.MemoryLemmas.{lasts}
 
-replied : (core : CoreParts) (sequence : ℕ) (event : PlainEvent) → Replies core sequence event (Reply sequence (step (state_of core) event).reply) (core_after core event)
-replied core sequence event = ((step (state_of core) event).reply, refl, answers_as_the_machine core event)
+replied : (core : CoreParts) (sequence : ℕ) (event : PlainEvent) → Replies core sequence event
+    (Reply sequence (step (state_of core) event).reply) (core_after core event)
+replied core sequence event = (
+  (step (state_of core) event).reply,
+  refl,
+  answers_as_the_machine core
+      event,
+)
 
-reloaded : (core : CoreParts) (sequence : ℕ) (read : Result Configuration LineFault) → ReloadsBy core sequence read (answer_to core sequence (reloading read)) (core_with core (reloading read))
+reloaded : (core : CoreParts) (sequence : ℕ) (read : Result Configuration LineFault) → ReloadsBy
+    core sequence read (answer_to core sequence (reloading read)) (core_with core (reloading read))
 reloaded core sequence (Ok configuration) = replied core sequence (Reloading configuration.commands)
 reloaded core sequence (Err fault) = (refl, refl)
 
-answered : (core : CoreParts) (request : Result Request RequestFault) → Answered MayAnswer core request (answer_of core request) (core_of core request)
+answered : (core : CoreParts) (request : Result Request RequestFault) → Answered MayAnswer core
+    request (answer_of core request) (core_of core request)
 answered core (Ok (Register sequence endpoint)) = replied core sequence (Registering endpoint)
 answered core (Ok (Unregister sequence id)) = replied core sequence (Unregistering id)
-answered core (Ok (Admit sequence id call digits units)) = replied core sequence (Admitting id call digits units)
+answered core (Ok (Admit sequence id call digits units)) = replied core sequence
+    (Admitting id call digits units)
 answered core (Ok (Change sequence id call units)) = replied core sequence (Changing id call units)
 answered core (Ok (Release sequence id call)) = replied core sequence (Releasing id call)
-answered core (Ok (Reload sequence lines)) = inl (reloaded core sequence (reading_in (lines_of lines)))
+answered core (Ok (Reload sequence lines)) = inl (reloaded core sequence
+    (reading_in (lines_of lines)))
 answered core (Err fault) = (refl, refl)
 
-may_get : (core : CoreParts) (asked : Asked) → MayGet MayAnswer core asked (answer_of core asked.request) (core_of core asked.request)
+may_get : (core : CoreParts) (asked : Asked) → MayGet MayAnswer core asked
+    (answer_of core asked.request) (core_of core asked.request)
 may_get core asked = inl (answered core asked.request)
 
 last_of : CoreParts → List Asked → CoreParts
 last_of core [] = core
 last_of core (asked ∷ others) = last_of (core_of core asked.request) others
 
-runs : (core : CoreParts) (asked : List Asked) → Runs MayAnswer core asked (replies_of core asked) (last_of core asked)
+runs : (core : CoreParts) (asked : List Asked) → Runs MayAnswer core asked (replies_of core asked)
+    (last_of core asked)
 unfolding last_of
 runs core [] = (refl, refl)
 runs core (asked ∷ others) = (
@@ -61,17 +74,29 @@ runs core (asked ∷ others) = (
   refl,
 )
 
-run_after : (limits : Limits) (rest text : List ℕ) (read : Result Configuration LineFault) → output_after limits rest read ≡ Ok text
-    → (configuration : Configuration) × (read ≡ Ok configuration) × ((last : CoreParts) × Runs MayAnswer (opened configuration limits) (requests_of rest) text last)
+run_after : (limits : Limits) (rest text : List ℕ) (read : Result Configuration LineFault) →
+    output_after limits rest read ≡ Ok text
+    → (configuration : Configuration) × (read ≡ Ok configuration) ×
+    ((last : CoreParts) × Runs MayAnswer (opened configuration limits) (requests_of rest) text
+    last)
 run_after limits rest text (Ok configuration) h =
     let core = opened configuration limits in
-    let same : replies_of core (requests_of rest) ≡ text = cc in
-    (configuration, refl, (last_of core (requests_of rest), subst (λ (t : List ℕ). Runs MayAnswer core (requests_of rest) t (last_of core (requests_of rest))) same (runs core (requests_of rest))))
+    let same : replies_of core (requests_of rest) ≡ text = cc in (
+      configuration,
+      refl,
+      (
+        last_of core (requests_of rest),
+        subst
+            (λ (t : List ℕ). Runs MayAnswer core (requests_of rest) t (last_of core (requests_of rest)))
+            same (runs core (requests_of rest)),
+      ),
+    )
 run_after limits rest text (Err fault) h = let no_such : ⊥ = cc in absurd no_such
 
 pub output_runs : OutputIsRun
 unfolding output_of
-output_runs limits bytes text h = run_after limits (rest_of EndLine bytes) text (reading_in (configuration_of EndLine bytes)) h
+output_runs limits bytes text h = run_after limits (rest_of EndLine bytes) text
+    (reading_in (configuration_of EndLine bytes)) h
 
 -- ---- if memory lasts
 same_some : {x y : CoreReply} → Some x ≡ Some y → x ≡ y
@@ -81,84 +106,131 @@ same_ok : (r : Result (List ℕ) LineFault) (x y : List ℕ) → r ≡ Ok x → 
 same_ok r x y h i = cc
 
 -- a core's reply that does not say that memory ran out is the machine's
-reply_in_memory : (old new : CoreParts) (sequence : ℕ) (event : PlainEvent) (answer : Answer) → Replies old sequence event answer new → option_map (Reply sequence) (no_memory_reply_of event) ≢ Some answer
+reply_in_memory : (old new : CoreParts) (sequence : ℕ) (event : PlainEvent) (answer : Answer) →
+    Replies old sequence event answer new → option_map (Reply sequence) (no_memory_reply_of event) ≢
+    Some answer
     → (answer ≡ Reply sequence (step (state_of old) event).reply) × (new ≡ core_after old event)
 reply_in_memory old new sequence event answer replies lasts = by replies.2
   where
-    unrecorded : (recorded : Bool) → (step (state_of old) event).recorded ≡ recorded → cond recorded (no_memory_reply_of event) (Some (step (state_of old) event).reply) ≡ Some replies.0
-        → new ≡ old → (answer ≡ Reply sequence (step (state_of old) event).reply) × (new ≡ core_after old event)
-    unrecorded true e is same = absurd (lasts (ap (option_map (Reply sequence)) is ∙ ap Some (sym replies.1)))
+    unrecorded : (recorded : Bool) → (step (state_of old) event).recorded ≡ recorded → cond recorded
+        (no_memory_reply_of event) (Some (step (state_of old) event).reply) ≡ Some replies.0
+        → new ≡ old → (answer ≡ Reply sequence (step (state_of old) event).reply) ×
+        (new ≡ core_after old event)
+    unrecorded true e is same = absurd (lasts (ap (option_map (Reply sequence)) is ∙ ap Some
+        (sym replies.1)))
     unrecorded false e is same = (
       replies.1 ∙ ap (Reply sequence) (sym (same_some is)),
       same ∙ sym (ap (λ t. cond t (with_entry old event) old) e),
     )
 
-    by : MayReply old event replies.0 new → (answer ≡ Reply sequence (step (state_of old) event).reply) × (new ≡ core_after old event)
+    by : MayReply old event replies.0 new → (answer ≡ Reply sequence
+        (step (state_of old) event).reply) × (new ≡ core_after old event)
     by (inl r) = (
       replies.1 ∙ ap (Reply sequence) r.1.reply_is,
       r.1.new_is ∙ sym (ap (λ t. cond t (with_entry old event) old) r.1.recorded),
     )
     by (inr u) = unrecorded (step (state_of old) event).recorded refl u.reply_is u.unchanged
 
-reload_in_memory : (old new : CoreParts) (sequence : ℕ) (read : Result Configuration LineFault) (answer : Answer) → ReloadsBy old sequence read answer new → Some (reload_without_memory sequence) ≢ Some answer
+reload_in_memory : (old new : CoreParts) (sequence : ℕ) (read : Result Configuration LineFault)
+    (answer : Answer) → ReloadsBy old sequence read answer new → Some
+    (reload_without_memory sequence) ≢ Some answer
     → (answer ≡ answer_to old sequence (reloading read)) × (new ≡ core_with old (reloading read))
-reload_in_memory old new sequence (Ok configuration) answer replies lasts = reply_in_memory old new sequence (Reloading configuration.commands) answer replies lasts
+reload_in_memory old new sequence (Ok configuration) answer replies lasts = reply_in_memory old new
+    sequence (Reloading configuration.commands) answer replies lasts
 reload_in_memory old new sequence (Err fault) answer replies lasts = replies
 
-only_answer : (old new : CoreParts) (request : Result Request RequestFault) (answer : Answer) → AnsweredInMemory old request answer new → (answer ≡ answer_of old request) × (new ≡ core_of old request)
-only_answer old new (Ok (Register sequence endpoint)) answer a = reply_in_memory old new sequence (Registering endpoint) answer a.0 a.1
-only_answer old new (Ok (Unregister sequence id)) answer a = reply_in_memory old new sequence (Unregistering id) answer a.0 a.1
-only_answer old new (Ok (Admit sequence id call digits units)) answer a = reply_in_memory old new sequence (Admitting id call digits units) answer a.0 a.1
-only_answer old new (Ok (Change sequence id call units)) answer a = reply_in_memory old new sequence (Changing id call units) answer a.0 a.1
-only_answer old new (Ok (Release sequence id call)) answer a = reply_in_memory old new sequence (Releasing id call) answer a.0 a.1
+only_answer : (old new : CoreParts) (request : Result Request RequestFault) (answer : Answer) →
+    AnsweredInMemory old request answer new → (answer ≡ answer_of old request) ×
+    (new ≡ core_of old request)
+only_answer old new (Ok (Register sequence endpoint)) answer a = reply_in_memory old new sequence
+    (Registering endpoint) answer a.0 a.1
+only_answer old new (Ok (Unregister sequence id)) answer a = reply_in_memory old new sequence
+    (Unregistering id) answer a.0 a.1
+only_answer old new (Ok (Admit sequence id call digits units)) answer a = reply_in_memory old new
+    sequence (Admitting id call digits units) answer a.0 a.1
+only_answer old new (Ok (Change sequence id call units)) answer a = reply_in_memory old new sequence
+    (Changing id call units) answer a.0 a.1
+only_answer old new (Ok (Release sequence id call)) answer a = reply_in_memory old new sequence
+    (Releasing id call) answer a.0 a.1
 only_answer old new (Ok (Reload sequence lines)) answer a =
     ⊎_elim
-    (λ (r : ReloadsBy old sequence (reading_in (lines_of lines)) answer new). reload_in_memory old new sequence (reading_in (lines_of lines)) answer r a.1)
-    (λ (r : (answer ≡ reload_without_memory sequence) × (new ≡ old) × MayLackMemory (lines_of lines)). absurd (a.1 (ap Some (sym r.0)))) a.0
+    (λ (r : ReloadsBy old sequence (reading_in (lines_of lines)) answer new). reload_in_memory old
+    new sequence (reading_in (lines_of lines)) answer r a.1)
+    (λ (r : (answer ≡ reload_without_memory sequence) × (new ≡ old) × MayLackMemory
+    (lines_of lines)). absurd (a.1 (ap Some (sym r.0)))) a.0
 only_answer old new (Err fault) answer a = a
 
-only_text : (core : CoreParts) (asked : List Asked) (text : List ℕ) (last : CoreParts) → RunsInMemory core asked text last → replies_of core asked ≡ text
+only_text : (core : CoreParts) (asked : List Asked) (text : List ℕ) (last : CoreParts) →
+    RunsInMemory core asked text last → replies_of core asked ≡ text
 only_text core [] text last r = sym r.0
 only_text core (asked ∷ others) text last r =
-    let one : (r.0 ≡ answer_of core asked.request) × (r.2 ≡ core_of core asked.request) = only_answer core r.2 asked.request r.0 r.3 in
+    let one : (r.0 ≡ answer_of core asked.request) × (r.2 ≡ core_of core asked.request) =
+    only_answer core r.2 asked.request r.0 r.3 in
     ap (λ answer. line_of answer ++ replies_of (core_of core asked.request) others) (sym one.0)
     ∙ ap (λ (mid : CoreParts). line_of r.0 ++ replies_of mid others) (sym one.1)
     ∙ ap (λ rest. line_of r.0 ++ rest) (only_text r.2 others r.1 last r.4)
     ∙ sym r.5
 
 -- what is computed under an accepted configuration
-computed : (limits : Limits) (bytes : List ℕ) (configuration : Configuration) → reading_in (configuration_of EndLine bytes) ≡ Ok configuration
-    → output_of limits bytes ≡ Ok (replies_of (opened configuration limits) (requests_of (rest_of EndLine bytes)))
+computed : (limits : Limits) (bytes : List ℕ) (configuration : Configuration) → reading_in
+    (configuration_of EndLine bytes) ≡ Ok configuration
+    → output_of limits bytes ≡ Ok (replies_of (opened configuration limits)
+    (requests_of (rest_of EndLine bytes)))
 unfolding output_of
-computed limits bytes configuration accepted = ap (output_after limits (rest_of EndLine bytes)) accepted
+computed limits bytes configuration accepted = ap (output_after limits (rest_of EndLine bytes))
+    accepted
 
 pub output_is_only : OutputIsOnlyRun
 output_is_only limits bytes text configuration last accepted runs =
-    computed limits bytes configuration accepted ∙ ap Ok (only_text (opened configuration limits) (requests_of (rest_of EndLine bytes)) text last runs)
+    computed limits bytes configuration accepted ∙ ap Ok
+    (only_text (opened configuration limits) (requests_of (rest_of EndLine bytes)) text last
+    runs)
 
 -- the machine's own replies are given in memory
-mapped_apart : (sequence : ℕ) (lacking : Option CoreReply) (reply : CoreReply) → lacking ≢ Some reply → option_map (Reply sequence) lacking ≢ Some (Reply sequence reply)
-mapped_apart sequence (Some other) reply apart h = let same : other ≡ reply = cc in apart (ap Some same)
+mapped_apart : (sequence : ℕ) (lacking : Option CoreReply) (reply : CoreReply) → lacking ≢ Some
+    reply → option_map (Reply sequence) lacking ≢ Some (Reply sequence reply)
+mapped_apart sequence (Some other) reply apart h = let same : other ≡ reply = cc in apart
+    (ap Some same)
 mapped_apart sequence None reply apart h = cc
 
-event_lasts : (core : CoreParts) (sequence : ℕ) (event : PlainEvent) → option_map (Reply sequence) (no_memory_reply_of event) ≢ Some (Reply sequence (step (state_of core) event).reply)
-event_lasts core sequence event = mapped_apart sequence (no_memory_reply_of event) (step (state_of core) event).reply (lasts (state_of core) event)
+event_lasts : (core : CoreParts) (sequence : ℕ) (event : PlainEvent) → option_map (Reply sequence)
+    (no_memory_reply_of event) ≢ Some (Reply sequence (step (state_of core) event).reply)
+event_lasts core sequence event = mapped_apart sequence (no_memory_reply_of event)
+    (step (state_of core) event).reply (lasts (state_of core) event)
 
-reload_lasts : (core : CoreParts) (sequence : ℕ) (read : Result Configuration LineFault) → Some (reload_without_memory sequence) ≢ Some (answer_to core sequence (reloading read))
-reload_lasts core sequence (Ok configuration) = event_lasts core sequence (Reloading configuration.commands)
+reload_lasts : (core : CoreParts) (sequence : ℕ) (read : Result Configuration LineFault) → Some
+    (reload_without_memory sequence) ≢ Some (answer_to core sequence (reloading read))
+reload_lasts core sequence (Ok configuration) = event_lasts core sequence
+    (Reloading configuration.commands)
 reload_lasts core sequence (Err fault) = λ h. cc
 
-answered_in_memory : (core : CoreParts) (request : Result Request RequestFault) → AnsweredInMemory core request (answer_of core request) (core_of core request)
-answered_in_memory core (Ok (Register sequence endpoint)) = (replied core sequence (Registering endpoint), event_lasts core sequence (Registering endpoint))
-answered_in_memory core (Ok (Unregister sequence id)) = (replied core sequence (Unregistering id), event_lasts core sequence (Unregistering id))
-answered_in_memory core (Ok (Admit sequence id call digits units)) = (replied core sequence (Admitting id call digits units), event_lasts core sequence (Admitting id call digits units))
-answered_in_memory core (Ok (Change sequence id call units)) = (replied core sequence (Changing id call units), event_lasts core sequence (Changing id call units))
-answered_in_memory core (Ok (Release sequence id call)) = (replied core sequence (Releasing id call), event_lasts core sequence (Releasing id call))
-answered_in_memory core (Ok (Reload sequence lines)) =
-    (inl (reloaded core sequence (reading_in (lines_of lines))), reload_lasts core sequence (reading_in (lines_of lines)))
+answered_in_memory : (core : CoreParts) (request : Result Request RequestFault) → AnsweredInMemory
+    core request (answer_of core request) (core_of core request)
+answered_in_memory core (Ok (Register sequence endpoint)) =
+    (replied core sequence (Registering endpoint), event_lasts core sequence (Registering endpoint))
+answered_in_memory core (Ok (Unregister sequence id)) =
+    (replied core sequence (Unregistering id), event_lasts core sequence (Unregistering id))
+answered_in_memory core (Ok (Admit sequence id call digits units)) = (
+  replied core sequence (Admitting id call digits units),
+  event_lasts core sequence
+      (Admitting id call digits units),
+)
+answered_in_memory core (Ok (Change sequence id call units)) = (
+  replied core sequence (Changing id call units),
+  event_lasts core sequence
+      (Changing id call units),
+)
+answered_in_memory core (Ok (Release sequence id call)) =
+    (replied core sequence (Releasing id call), event_lasts core sequence (Releasing id call))
+answered_in_memory core (Ok (Reload sequence lines)) = (
+  inl (reloaded core sequence (reading_in (lines_of lines))),
+  reload_lasts core sequence
+      (reading_in (lines_of lines)),
+)
 answered_in_memory core (Err fault) = (refl, refl)
 
-runs_in_memory : (core : CoreParts) (asked : List Asked) → RunsInMemory core asked (replies_of core asked) (last_of core asked)
+runs_in_memory : (core : CoreParts) (asked : List Asked) → RunsInMemory core asked
+    (replies_of core asked) (last_of core asked)
 unfolding last_of
 runs_in_memory core [] = (refl, refl)
 runs_in_memory core (asked ∷ others) = (
@@ -175,5 +247,12 @@ output_lasts limits bytes text h =
     let run = output_runs limits bytes text h in
     let core : CoreParts = opened run.0 limits in
     let asked : List Asked = requests_of (rest_of EndLine bytes) in
-    let same : replies_of core asked ≡ text = same_ok _ _ _ (computed limits bytes run.0 run.1) h in
-    (run.0, run.1, (last_of core asked, subst (λ (t : List ℕ). RunsInMemory core asked t (last_of core asked)) same (runs_in_memory core asked)))
+    let same : replies_of core asked ≡ text = same_ok _ _ _ (computed limits bytes run.0 run.1) h in (
+      run.0,
+      run.1,
+      (
+        last_of core asked,
+        subst (λ (t : List ℕ). RunsInMemory core asked t
+            (last_of core asked)) same (runs_in_memory core asked),
+      ),
+    )

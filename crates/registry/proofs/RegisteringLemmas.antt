@@ -11,20 +11,21 @@ use Rattle.registry.specs.declared.faults.Duplicate.TheVariants.{Id, E164}
 use Rattle.registry.specs.declared.faults.RegistryFault.{RegistryFault}
 use Rattle.registry.specs.declared.faults.RegistryFault.TheVariants.{UnknownZone, DuplicateAlias, NotRegistered}
 use Rattle.registry.specs.Endpoint.{EndpointParts}
-use Rattle.registry.specs.Registration.{RegistryParts, registration_fault, registered_in, id_is_taken, alias_is_taken, without_endpoint, has_id, registered_unless, endpoint_of, unregistered_in, is_full_for, is_registered, with_endpoint}
-use Rattle.registry.specs.Registering.{fault_among, registered_among, placed_in}
+use Rattle.registry.specs.Registration.{RegistryParts, placement_of, registered_in, id_is_taken, alias_is_taken, without_endpoint, has_id, registered_unless, endpoint_of, unregistered_in, is_full_for, is_registered, with_endpoint}
+use Rattle.registry.specs.Registering.{placement_among, registered_among, placed_in}
 use Rattle.registry.proofs.FindLemmas.{found-some, found-none}
 use Rattle.registry.proofs.IndexChanges.{put_at, put_later}
 
-pub fault_of_local : (commands : List Command) (endpoints : List EndpointParts) (e : EndpointParts)
-    → fault_among endpoints e (local_zone commands e.zone)
-    ≡ registration_fault commands endpoints e
-fault_of_local commands endpoints e = by (is_local commands (zone_meant commands e.zone))
+pub placement_of_local : (commands : List Command) (endpoints : List EndpointParts)
+    (e : EndpointParts)
+    → placement_among endpoints e (local_zone commands e.zone)
+    ≡ placement_of commands endpoints e
+placement_of_local commands endpoints e = by (is_local commands (zone_meant commands e.zone))
   where
     by : (b : Bool)
-        → fault_among endpoints e (if b then Some (zone_meant commands e.zone) else None)
-        ≡ (if b then fault_among endpoints e (Some (zone_meant commands e.zone))
-        else fault_among endpoints e None)
+        → placement_among endpoints e (if b then Some (zone_meant commands e.zone) else None)
+        ≡ (if b then placement_among endpoints e (Some (zone_meant commands e.zone))
+        else placement_among endpoints e None)
     by true = refl
     by false = refl
 

@@ -7,13 +7,13 @@ use Rattle.registry.specs.declared.faults.RegistryFault.TheVariants.{UnknownZone
 use Rattle.registry.specs.Endpoint.{EndpointParts}
 use Rattle.registry.specs.Registration.{RegistryParts, id_is_taken, alias_is_taken, is_full_for, with_endpoint}
 
--- why an endpoint may not register, room aside
-abbrev pub fault_among : List EndpointParts → EndpointParts → Option (List ℕ)
-    → Option RegistryFault
-fault_among endpoints e None = Some UnknownZone
-fault_among endpoints e (Some zone) =
-    if id_is_taken endpoints e then Some (DuplicateAlias Id)
-    else (if alias_is_taken endpoints e then Some (DuplicateAlias E164) else None)
+-- that zone, if the endpoint may register in it, room aside, or the fault
+abbrev pub placement_among : List EndpointParts → EndpointParts → Option (List ℕ)
+    → Result (List ℕ) RegistryFault
+placement_among endpoints e None = Err UnknownZone
+placement_among endpoints e (Some zone) =
+    if id_is_taken endpoints e then Err (DuplicateAlias Id)
+    else (if alias_is_taken endpoints e then Err (DuplicateAlias E164) else Ok zone)
 
 -- the registry with the endpoint in that zone, if there is room
 abbrev pub placed_in : RegistryParts → EndpointParts → List ℕ → Result RegistryParts RegistryFault

@@ -55,6 +55,16 @@ abbrev pub registration_fault : List Command → List EndpointParts → Endpoint
 registration_fault commands endpoints e =
     registration_refusal UnknownZone DuplicateAlias commands endpoints e
 
+-- the local zone in which an endpoint may register, room aside, or the fault
+abbrev pub placement_of : List Command → List EndpointParts → EndpointParts
+    → Result (List ℕ) RegistryFault
+placement_of commands endpoints e =
+    if is_local commands (zone_meant commands e.zone)
+    then (if id_is_taken endpoints e then Err (DuplicateAlias Id)
+    else (if alias_is_taken endpoints e then Err (DuplicateAlias E164)
+    else Ok (zone_meant commands e.zone)))
+    else Err UnknownZone
+
 -- ---- what changes
 -- the endpoint in the place of the one with its ID, or else at the end
 abbrev pub with_endpoint : List EndpointParts → EndpointParts → List EndpointParts

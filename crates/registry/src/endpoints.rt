@@ -24,12 +24,12 @@ pub enum EndpointKind {
 /// most 8 different technology prefixes. A contract sees it as `EndpointParts`.
 #[derive(Drop)]
 pub struct Endpoint {
-    kind: EndpointKind,
-    id: Name,
-    zone: Name,
-    address: Address,
-    aliases: Vec<Dialled>,
-    technologies: Vec<TechPrefix>,
+    pub(crate) kind: EndpointKind,
+    pub(crate) id: Name,
+    pub(crate) zone: Name,
+    pub(crate) address: Address,
+    pub(crate) aliases: Vec<Dialled>,
+    pub(crate) technologies: Vec<TechPrefix>,
 }
 
 impl Model for Endpoint {

@@ -2,6 +2,7 @@
 //! prefix.
 #![tactic(auto)]
 
+pub mod brief_endpoint;
 mod choosing;
 mod endpoint_number;
 pub mod endpoints;
@@ -16,6 +17,7 @@ mod roll;
 mod served;
 mod shelf;
 
+pub use brief_endpoint::BriefEndpoint;
 pub use endpoints::{Endpoint, EndpointKind};
 pub use faults::{Duplicate, RegistryFault};
 pub use registry::Registry;

@@ -1,13 +1,13 @@
 //! The registered endpoints: who may register, and who is found.
 
-ghost use Rattle.std.specs.Prelude.{◌≡◌, [], Some, false, length, slice_get, IfOk, IfSome};
+ghost use Rattle.std.specs.Prelude.{◌≡◌, [], Some, false, length, slice_get, IfOk, IfSome, OnOk, OnErr};
 ghost use Rattle.std.specs.Option.{option_copied};
 ghost use Rattle.gk_terms.specs.Outcome.{Changes, ChangesUnlessMemory};
 ghost use Rattle.registry.specs.declared.faults.RegistryFault.TheVariants.{NoMemory};
-ghost use Rattle.registry.specs.Registration.{IsRegistry, endpoint_of, is_registered, by_alias, is_full_for, alias_is_taken, registration_fault, registered_in, unregistered_in, with_kept_zones};
+ghost use Rattle.registry.specs.Registration.{IsRegistry, endpoint_of, is_registered, by_alias, is_full_for, alias_is_taken, placement_of, with_endpoint, registered_in, unregistered_in, with_kept_zones};
 ghost use Rattle.compiler.specs.Plan.{row_meant};
 ghost use Rattle.registry.specs.Gateway.{gateway_of};
-ghost use Rattle.registry.specs.Registering.{fault_among, placed_in, registered_among};
+ghost use Rattle.registry.specs.Registering.{placement_among, placed_in, registered_among};
 
 use crate::endpoints::Endpoint;
 use crate::faults::{Duplicate, RegistryFault};
@@ -113,18 +113,19 @@ impl Registry {
         }
     }
 
-    /// Why the endpoint may not register, room aside: the first of `UnknownZone`, if the zone that
-    /// it means is not a local one, `DuplicateAlias(Id)`, if its ID is registered from another
-    /// address, and `DuplicateAlias(E164)`, if an alias is another endpoint's, in whatever zone.
-    pub fn fault_of(&self, endpoint: &Endpoint, tables: &Tables) -> Option<RegistryFault>
-        ensures { result
-            ≡ registration_fault tables.now.commands self.now.endpoints endpoint.now }
+    #[tactic(auto, using(crate::proofs::RegisteringLemmas::placement_of_local))]
+    /// The local zone in which the endpoint may register, room aside. It is the zone that the
+    /// endpoint means, or the first fault of `UnknownZone`, if that is not a local one,
+    /// `DuplicateAlias(Id)`, if the ID is registered from another address, and
+    /// `DuplicateAlias(E164)`, if an alias is another endpoint's, in whatever zone.
+    pub fn placement(&self, endpoint: &Endpoint, tables: &Tables) -> Result<Name, RegistryFault>
+        ensures { result ≡ placement_of tables.now.commands self.now.endpoints endpoint.now }
     {
-        self.fault_among(endpoint, tables.local_zone(endpoint.zone()))
+        self.placement_in(endpoint, tables.local_zone(endpoint.zone()))
     }
 
     /// Registers the endpoint in the zone that it means: in the place of the one with its ID, or
-    /// else after the others. It is refused as `fault_of` says, and then as `TooMany`, if it is a
+    /// else after the others. It is refused as `placement` says, and then as `TooMany`, if it is a
     /// new one and there are as many as there may be. If memory runs out it is `NoMemory`; so it is
     /// if each of the 4,294,967,295 numbers is in use. After an error nothing has changed.
     pub fn register(&mut self, endpoint: Endpoint, tables: &Tables) -> Result<(), RegistryFault>
@@ -133,6 +134,24 @@ impl Registry {
     {
         let zone = tables.local_zone(endpoint.zone());
         self.register_in(endpoint, zone)
+    }
+
+    /// Puts an endpoint that may register into this zone: in the place of the one with its ID, or
+    /// else after the others. For a caller that has asked for its `placement` and knows that there
+    /// is room, so that neither is looked up again. If memory runs out, or each of the
+    /// 4,294,967,295 numbers is in use, nothing has changed.
+    pub fn put(&mut self, endpoint: Endpoint, zone: Name) -> Result<(), AllocError>
+        requires free { alias_is_taken self.old.endpoints endpoint ≡ false }
+        requires room { is_full_for self.old endpoint ≡ false }
+        ensures ok { OnOk result (self.new ≡ record self.old {
+          endpoints = with_endpoint self.old.endpoints (record endpoint { zone = zone });
+        }) }
+        ensures err { OnErr result (self.new ≡ self.old) }
+    {
+        match self.shelf.put(endpoint.in_zone(zone), self.alloc) {
+            Ok(()) => Ok(()),
+            Err(error) => Err(error),
+        }
     }
 
     /// Takes out the endpoint with this ID and gives it. Without one it is `NotRegistered`. Takes
@@ -168,20 +187,20 @@ impl Registry {
         })
     }
 
-    /// Why the endpoint may not register in the zone that was looked up, room aside.
-    fn fault_among(&self, endpoint: &Endpoint, zone: Option<Name>) -> Option<RegistryFault>
-        ensures { result ≡ fault_among self.now.endpoints endpoint.now zone }
+    /// The zone that was looked up, if the endpoint may register in it, room aside.
+    fn placement_in(&self, endpoint: &Endpoint, zone: Option<Name>) -> Result<Name, RegistryFault>
+        ensures { result ≡ placement_among self.now.endpoints endpoint.now zone }
     {
-        if zone.is_none() {
-            return Some(RegistryFault::UnknownZone);
-        }
+        let Some(zone) = zone else {
+            return Err(RegistryFault::UnknownZone);
+        };
         if self.shelf.id_is_taken(endpoint) {
-            return Some(RegistryFault::DuplicateAlias(Duplicate::Id));
+            return Err(RegistryFault::DuplicateAlias(Duplicate::Id));
         }
         if self.shelf.alias_is_taken(endpoint) {
-            return Some(RegistryFault::DuplicateAlias(Duplicate::E164));
+            return Err(RegistryFault::DuplicateAlias(Duplicate::E164));
         }
-        None
+        Ok(zone)
     }
 
     /// Whether the endpoint is a new one and there are as many as there may be.
@@ -217,7 +236,7 @@ impl Registry {
         if self.is_full_for(&endpoint) {
             return Err(RegistryFault::TooMany);
         }
-        match self.shelf.put(endpoint.in_zone(zone), self.alloc) {
+        match self.put(endpoint, zone) {
             Ok(()) => Ok(()),
             Err(_) => Err(RegistryFault::NoMemory),
         }

@@ -1,9 +1,11 @@
 //! An endpoint's limits and its copy.
 
 use gk_terms::{Address, Dialled, Name, TechPrefix};
+use registry::BriefEndpoint;
 use registry::endpoints::{Endpoint, EndpointKind};
 use registry::faults::RegistryFault;
 use std::alloc::Global;
+use std::mem::size_of;
 use std::test::Fail;
 
 const NUMBERS: [&str; 17] = [
@@ -69,4 +71,10 @@ fn copies(rt: HostRuntime) -> Result<(), Fail> {
     assert_eq!(rt; copy.address(), Address::new([10, 0, 1, 1], 1720));
     assert!(rt; copy.has_alias(&Dialled::read(b"1")?));
     Ok(())
+}
+
+#[test]
+fn a_brief_endpoint_takes_96_bytes(rt: HostRuntime) {
+    let bytes = size_of::<BriefEndpoint>();
+    assert!(rt; bytes <= 96, "{bytes}");
 }

@@ -3,6 +3,7 @@
 use crate::registry_tests::{
     assert_at, assert_chosen, gateway, is_found, register, tables_of, terminal,
 };
+use compiler::Tables;
 use registry::registry::Registry;
 use std::alloc::Global;
 use std::process::Abort;
@@ -31,7 +32,12 @@ const LEFT: [(&str, &[&str]); 4] = [
 
 /// Registers endpoints of all zones.
 fn register_all(rt: &impl Abort, registry: &mut Registry, alloc: Global) -> Result<(), Fail> {
-    let tables = &tables_of(rt, alloc, ZONES)?;
+    let tables = tables_of(rt, alloc, ZONES)?;
+    register_each(registry, &tables, alloc)
+}
+
+/// The same by these tables.
+fn register_each(registry: &mut Registry, tables: &Tables, alloc: Global) -> Result<(), Fail> {
     register(registry, tables, terminal(alloc, "tb", "b", 1, "1"))?;
     register(registry, tables, terminal(alloc, "t0", "-", 2, "2"))?;
     register(registry, tables, terminal(alloc, "ta", "a", 3, "3"))?;
@@ -50,6 +56,16 @@ fn assert_left(
 ) -> Result<(), Fail> {
     let tables = tables_of(rt, alloc, lines)?;
     registry.keep_zones(&tables);
+    assert_ids(rt, registry, &tables, ids)
+}
+
+/// Asserts that the endpoints that are left have these IDs, and who is found by these tables.
+fn assert_ids(
+    rt: &impl Abort,
+    registry: &Registry,
+    tables: &Tables,
+    ids: &[&str],
+) -> Result<(), Fail> {
     assert_eq!(rt; registry.len(), ids.len());
     for (place, id) in ids.iter().enumerate() {
         assert_at(rt, registry, place, id);
@@ -58,16 +74,20 @@ fn assert_left(
     assert!(rt; is_found(registry, "b", "1")?);
     assert_eq!(rt; is_found(registry, "a", "3")?, ids.len() > 4);
     let chosen = if ids.len() > 4 { Some("ga") } else { None };
-    assert_chosen(rt, registry, &tables, None, chosen)
+    assert_chosen(rt, registry, tables, None, chosen)
 }
 
 #[test]
 fn keeps_local_zones(rt: HostRuntime) -> Result<(), Fail> {
     let alloc = rt.alloc();
-    let mut registry = Registry::new(alloc, 6);
-    register_all(&rt, &mut registry, alloc)?;
+    assert_kept(&rt, &mut Registry::new(alloc, 6), alloc)
+}
+
+/// Asserts which endpoints are left after each change of the zones.
+fn assert_kept(rt: &impl Abort, registry: &mut Registry, alloc: Global) -> Result<(), Fail> {
+    register_all(rt, registry, alloc)?;
     for (lines, ids) in LEFT {
-        assert_left(&rt, &mut registry, alloc, lines, ids)?;
+        assert_left(rt, registry, alloc, lines, ids)?;
     }
     Ok(())
 }

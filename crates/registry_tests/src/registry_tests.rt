@@ -127,7 +127,10 @@ fn assert_order(
         fault,
     )?;
     let newcomer = terminal(alloc, "tc", "a", 3, "3")?;
-    assert_eq!(rt; registry.fault_of(&newcomer, tables), None);
+    assert_eq!(rt;
+        registry.placement(&newcomer, tables),
+        Ok(Name::read(b"a")?)
+    );
     assert_eq!(rt; registry.len(), 2);
     Ok(())
 }
@@ -145,6 +148,7 @@ fn assert_place(
     assert!(rt; !is_found(registry, "a", "3")?);
     assert!(rt; is_found(registry, "b", "3")?);
     assert_order_of_two(rt, registry);
+    assert_order_of_two(rt, &registry.copy()?);
     Ok(())
 }
 
@@ -187,10 +191,7 @@ fn refuses_in_order(rt: HostRuntime) -> Result<(), Fail> {
 fn keeps_the_place(rt: HostRuntime) -> Result<(), Fail> {
     let alloc = rt.alloc();
     let tables = tables_of(&rt, alloc, LINES)?;
-    let mut registry = Registry::new(alloc, 2);
-    assert_place(&rt, &mut registry, &tables, alloc)?;
-    assert_order_of_two(&rt, &registry.copy()?);
-    Ok(())
+    assert_place(&rt, &mut Registry::new(alloc, 2), &tables, alloc)
 }
 
 #[test]

@@ -27,9 +27,9 @@ use Rattle.rulings.specs.State.{State}
 use Rattle.rulings.specs.Events.{PlainEvent, Registering, Unregistering, Admitting, Changing, Releasing, Reloading}
 use Rattle.rulings.specs.Routing.{route_of}
 
--- what is ruled of an event, apart from counts and memory: the verdict; of an admission, the zone of
--- the caller, if it is registered, and where the digits lead, if that was looked for; and what it
--- changes
+-- what is ruled of an event, apart from counts and memory: the verdict; of an admission, the zone
+-- of the caller, if it is registered, and where the digits lead, if that was looked for; and what
+-- it changes
 pub record Ruling : Type 0 where
   pub verdict : Reply
   pub zone : Option (List ℕ)

@@ -41,7 +41,8 @@ impl Machine {
     #[inline(never)]
     pub fn count_refusal(&self, event: &Event, ruling: &LentRuling<'_>) -> Option<Reply>
         ensures { result
-            ≡ Spec.count_refusal (States.bare self.now) (plain event.now) (ruling_meant ruling.now) }
+            ≡ Spec.count_refusal (States.bare self.now) (plain event.now)
+            (ruling_meant ruling.now) }
     {
         match event {
             Event::Register(endpoint) => {
@@ -70,7 +71,8 @@ impl Machine {
     /// Whether there is such a refusal. It is asked for each event, so it makes no reply.
     pub fn is_refused_by_count(&self, event: &Event, ruling: &LentRuling<'_>) -> bool
         ensures { result ≡ is_some
-            (Spec.count_refusal (States.bare self.now) (plain event.now) (ruling_meant ruling.now)) }
+            (Spec.count_refusal (States.bare self.now) (plain event.now)
+            (ruling_meant ruling.now)) }
     {
         match event {
             Event::Register(endpoint) => {

@@ -1,19 +1,18 @@
 //! The machine: the state of a running core, except for the tables in force.
 
 ghost use Rattle.std.specs.Prelude.{◌≡◌, ◌≤◌, ◌+◌, nat_le, None, false, true, length, OnOk, OnErr};
-ghost use Rattle.registry.specs.Registration.{is_registered, with_endpoint, without_endpoint, in_zone_meant, kept_zones};
+ghost use Rattle.registry.specs.Registration.{alias_is_taken, is_registered, with_endpoint, without_endpoint, kept_zones};
 ghost use Rattle.bandwidth.specs.Calls.{call_of, is_open, with_call, with_changed, without_call};
 ghost use Rattle.rulings.specs.State.{bare, idle, under};
 ghost use Rattle.rulings.specs.Limits.{are_limits};
 ghost use Rattle.rulings.specs.Events.{plain};
-ghost use Rattle.rulings.specs.Ruling.{register_refusal};
 ghost use Rattle.rulings.specs.Step.{with_effect, with_count};
 ghost use Rattle.rulings.specs.Founded.{is_full_of_endpoints, is_owned, IsFounded, IsReloadable, IsUnder, IsFallible, takes_memory};
 
 use crate::calling::{close_in, open_in, resize_in};
 use crate::events::Event;
 use crate::limits::Limits;
-use crate::registering::{register_in, remove_from};
+use crate::registering::remove_from;
 use crate::rulings::Effect;
 use bandwidth::{OpenCall, OpenCalls};
 use compiler::Tables;
@@ -192,7 +191,8 @@ impl Machine {
         }
     }
 
-    /// Puts a copy of the endpoint that asks among the endpoints, in the zone that it means.
+    #[tactic(auto, using(crate::proofs::RegisteringLemmas::not_taken))]
+    /// Puts a copy of the endpoint that asks among the endpoints, in this zone.
     #[inline(never)]
     fn put(&mut self, tables: &Tables, event: &Event, zone: Name) -> Result<(), AllocError>
         requires founded { IsFounded (under tables.now.commands self.old) (plain event.now)
@@ -203,7 +203,7 @@ impl Machine {
         ensures err { OnErr result ((self.new ≡ self.old) × IsFallible (plain event.now)) }
     {
         match event {
-            Event::Register(endpoint) => self.register(tables, endpoint.copy()?),
+            Event::Register(endpoint) => self.register(endpoint.copy()?, zone),
             Event::Unregister { .. }
             | Event::Admit { .. }
             | Event::Change { .. }
@@ -241,20 +241,16 @@ impl Machine {
         self.registry.keep_zones(tables);
     }
 
-    #[tactic(auto, using(crate::proofs::RegisteringLemmas::not_refused))]
-    /// Registers an endpoint that no refusal meets and for which there is room.
-    fn register(&mut self, tables: &Tables, endpoint: Endpoint) -> Result<(), AllocError>
-        requires unrefused { register_refusal (under tables.now.commands self.old) endpoint
-            ≡ None }
-        requires room { is_full_of_endpoints (under tables.now.commands self.old) endpoint
-            ≡ false }
+    /// Registers an endpoint in this zone that no refusal meets and for which there is room.
+    fn register(&mut self, endpoint: Endpoint, zone: Name) -> Result<(), AllocError>
+        requires free { alias_is_taken self.old.endpoints endpoint ≡ false }
+        requires room { is_full_of_endpoints (bare self.old) endpoint ≡ false }
         ensures ok { OnOk result (self.new ≡ record self.old {
-          endpoints
-              = with_endpoint self.old.endpoints (in_zone_meant tables.now.commands endpoint);
+          endpoints = with_endpoint self.old.endpoints (record endpoint { zone = zone });
         }) }
         ensures err { OnErr result (self.new ≡ self.old) }
     {
-        register_in(&mut self.registry, tables, endpoint)
+        self.registry.put(endpoint, zone)
     }
 
     /// Takes out an endpoint that is registered.

@@ -98,6 +98,7 @@ impl Machine {
         }
     }
 
+    #[tactic(auto, using(crate::proofs::RegisteringLemmas::placed, crate::proofs::RegisteringLemmas::not_placed, crate::proofs::RegisteringLemmas::refused_as))]
     /// The local zone in which the endpoint may register, or the first refusal.
     fn placement(&self, tables: &Tables, endpoint: &Endpoint) -> Result<Name, RegisterRefusal>
         ensures { MatchResult result
@@ -107,12 +108,9 @@ impl Machine {
             (λ reason. Spec.register_refusal (under tables.now.commands self.now) endpoint.now
             ≡ Some reason) }
     {
-        if let Some(fault) = self.registry().fault_of(endpoint, tables) {
-            return Err(refusal_of(fault));
-        }
-        match tables.local_zone(endpoint.zone()) {
-            Some(zone) => Ok(zone),
-            None => unreachable!(),
+        match self.registry().placement(endpoint, tables) {
+            Ok(zone) => Ok(zone),
+            Err(fault) => Err(refusal_of(fault)),
         }
     }
 

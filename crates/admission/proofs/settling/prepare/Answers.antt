@@ -41,7 +41,8 @@ returns-clause-places c =
       ap (λ (h : RecordParts). h.kept) c.in_ok-keep.ensures.ok,
       ap (λ (h : RecordParts). h.kept) c.give_back-2.ensures,
       ap (λ (s : State). length s.calls) (moved
-          ∙ ap (λ e. with_count (with_effect (under (in_force c.args.history.now) c.args.machine.now)
+          ∙ ap (λ e. with_count (with_effect (under (in_force c.args.history.now)
+          c.args.machine.now)
           (plain c.args.event.now) e)) c.requires.ruled),
       c.saturating_sub-more.ensures,
       c.places_needed-needed.ensures ∙ ap places_needed c.requires.ruled,

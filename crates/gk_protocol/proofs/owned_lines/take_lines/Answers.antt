@@ -8,7 +8,9 @@ loop-taken-preserved g c =
     let taken = c.in_ok-next_line.ensures in
     record {
       ended = taken.ended;
-      under_way = lines_go_on _ _ _ _ _ _ _ _ _ _ (taken.unended_line c.if-not-branch.false) c.loop-taken.invariant.under_way (taken.line c.if-not-branch.false) c.with_line-owned.ensures;
+      under_way = lines_go_on _ _ _ _ _ _ _ _ _ _ (taken.unended_line c.if-not-branch.false)
+          c.loop-taken.invariant.under_way (taken.line c.if-not-branch.false)
+          c.with_line-owned.ensures;
       turns = turns_then _ _ _ _ _ _ c.loop-taken.invariant.turns c.next_line.ensures.turns;
       noted = taken.noted ∙ c.loop-taken.invariant.noted;
       work = omega (arith, c.loop-taken.invariant.work, c.next_line.ensures.work);
@@ -17,4 +19,6 @@ loop-taken-preserved g c =
 pub returns-then-not-branch-clause-taken : goal.returns-then-not-branch-clause-taken
 returns-then-not-branch-clause-taken g c =
     let ended = c.in_ok-next_line.ensures in
-    lines_cut _ _ _ _ _ _ _ _ _ c.loop-taken-test.true c.loop-taken.invariant.under_way (ended.nothing_taken c.if-not-branch.true) (ended.none c.if-not-branch.true) ended.stays_ended
+    lines_cut _ _ _ _ _ _ _ _ _ c.loop-taken-test.true c.loop-taken.invariant.under_way
+    (ended.nothing_taken c.if-not-branch.true) (ended.none c.if-not-branch.true)
+    ended.stays_ended

@@ -9,8 +9,11 @@ invariant-loop-taken g l =
     let remaining = g.R.Source.remaining in
     record {
       ended : AtEndIfEnded l.lines (remaining l.reader);
-      under_way : KnownStep (left_of l.fn.lines (remaining l.fn.reader)) (left_of l.lines (remaining l.reader)) (LinesUnderWay l.fn.lines.ended l.lines.ended l._taken l.owned);
-      turns : CountsTurns (g.R.Source.calls l.fn.reader) (g.R.Source.calls l.reader) l.fn.lines.turns l.lines.turns;
+      under_way : KnownStep (left_of l.fn.lines (remaining l.fn.reader))
+          (left_of l.lines (remaining l.reader)) (LinesUnderWay l.fn.lines.ended l.lines.ended
+          l._taken l.owned);
+      turns : CountsTurns (g.R.Source.calls l.fn.reader) (g.R.Source.calls l.reader)
+          l.fn.lines.turns l.lines.turns;
       noted : g.R.Source.has_failed l.reader ≡ g.R.Source.has_failed l.fn.reader;
       work : work_left l.lines ≤ work_left l.fn.lines;
     }

@@ -10,41 +10,59 @@ pub returns-in-RRQ : goal.returns-in-RRQ
 returns-in-RRQ g c =
     let word = c.in-Some.word.now in
     let words = words_of c.next.new.self in
-    let first = text_from_reads word (codes "RRQ") (search rules) (search rules, (search rules, (search rules, tt))) in
-    heard_registration g.A.Answerer.may_answer _ _ c.args.line.now _ words _ (asks_at c.args.line.now word (codes "RRQ") words (search rules) (search rules) first)
-    (registers_at c.args.line.now word (codes "RRQ") words (search rules) (search rules) first) c.register.ensures
+    let first = text_from_reads word (codes "RRQ") (search rules)
+    (search rules, (search rules, (search rules, tt))) in
+    heard_registration g.A.Answerer.may_answer _ _ c.args.line.now _ words _
+    (asks_at c.args.line.now word (codes "RRQ") words (search rules) (search rules) first)
+    (registers_at c.args.line.now word (codes "RRQ") words (search rules) (search rules) first)
+    c.register.ensures
 
 pub returns-in-CFG : goal.returns-in-CFG
 returns-in-CFG g c =
     let word = c.in-Some.word.now in
     let words = words_of c.next.new.self in
-    let first = text_from_reads word (codes "CFG") (search rules) (search rules, (search rules, (search rules, tt))) in
-    heard_reload g.A.Answerer.may_answer _ c.args.line.now _ (reload_at words) _ (asks_at c.args.line.now word (codes "CFG") words (search rules) (search rules) first) c.reload.ensures
+    let first = text_from_reads word (codes "CFG") (search rules)
+    (search rules, (search rules, (search rules, tt))) in
+    heard_reload g.A.Answerer.may_answer _ c.args.line.now _ (reload_at words) _
+    (asks_at c.args.line.now word (codes "CFG") words (search rules) (search rules) first)
+    c.reload.ensures
 
 pub returns-in-URQ : goal.returns-in-URQ
 returns-in-URQ g c =
     let word = c.in-Some.word.now in
     let words = words_of c.next.new.self in
-    let first = text_from_reads word (codes "URQ") (search rules) (search rules, (search rules, (search rules, tt))) in
-    heard_request g.A.Answerer.may_answer _ _ c.args.line.now _ (unregister_at words) _ (asks_at c.args.line.now word (codes "URQ") words (search rules) (search rules) first) c.unregister.ensures
+    let first = text_from_reads word (codes "URQ") (search rules)
+    (search rules, (search rules, (search rules, tt))) in
+    heard_request g.A.Answerer.may_answer _ _ c.args.line.now _ (unregister_at words) _
+    (asks_at c.args.line.now word (codes "URQ") words (search rules) (search rules) first)
+    c.unregister.ensures
 
 pub returns-in-ARQ : goal.returns-in-ARQ
 returns-in-ARQ g c =
     let word = c.in-Some.word.now in
     let words = words_of c.next.new.self in
-    let first = text_from_reads word (codes "ARQ") (search rules) (search rules, (search rules, (search rules, tt))) in
-    heard_request g.A.Answerer.may_answer _ _ c.args.line.now _ (admit_at words) _ (asks_at c.args.line.now word (codes "ARQ") words (search rules) (search rules) first) c.admit.ensures
+    let first = text_from_reads word (codes "ARQ") (search rules)
+    (search rules, (search rules, (search rules, tt))) in
+    heard_request g.A.Answerer.may_answer _ _ c.args.line.now _ (admit_at words) _
+    (asks_at c.args.line.now word (codes "ARQ") words (search rules) (search rules) first)
+    c.admit.ensures
 
 pub returns-in-BRQ : goal.returns-in-BRQ
 returns-in-BRQ g c =
     let word = c.in-Some.word.now in
     let words = words_of c.next.new.self in
-    let first = text_from_reads word (codes "BRQ") (search rules) (search rules, (search rules, (search rules, tt))) in
-    heard_request g.A.Answerer.may_answer _ _ c.args.line.now _ (change_at words) _ (asks_at c.args.line.now word (codes "BRQ") words (search rules) (search rules) first) c.change.ensures
+    let first = text_from_reads word (codes "BRQ") (search rules)
+    (search rules, (search rules, (search rules, tt))) in
+    heard_request g.A.Answerer.may_answer _ _ c.args.line.now _ (change_at words) _
+    (asks_at c.args.line.now word (codes "BRQ") words (search rules) (search rules) first)
+    c.change.ensures
 
 pub returns-in-DRQ : goal.returns-in-DRQ
 returns-in-DRQ g c =
     let word = c.in-Some.word.now in
     let words = words_of c.next.new.self in
-    let first = text_from_reads word (codes "DRQ") (search rules) (search rules, (search rules, (search rules, tt))) in
-    heard_request g.A.Answerer.may_answer _ _ c.args.line.now _ (release_at words) _ (asks_at c.args.line.now word (codes "DRQ") words (search rules) (search rules) first) c.release.ensures
+    let first = text_from_reads word (codes "DRQ") (search rules)
+    (search rules, (search rules, (search rules, tt))) in
+    heard_request g.A.Answerer.may_answer _ _ c.args.line.now _ (release_at words) _
+    (asks_at c.args.line.now word (codes "DRQ") words (search rules) (search rules) first)
+    c.release.ensures

@@ -8,4 +8,9 @@ pub returns : goal.returns
 returns c =
     let fields = c.well_formed.0.1.0 in
     subst (λ (lines : LineReaderParts). length lines.pending ≤ PIECE_BYTES) fields.1.0
-    (omega (arith, fields.1.1.1, length-take (fields.0.end - fields.0.start) (drop fields.0.start fields.0.piece)))
+    (omega (
+      arith,
+      fields.1.1.1,
+      length-take (fields.0.end - fields.0.start)
+          (drop fields.0.start fields.0.piece),
+    ))

@@ -11,13 +11,23 @@ pub returns-in-Ok-Answered-clause-progress : goal.returns-in-Ok-Answered-clause-
 returns-in-Ok-Answered-clause-progress g c =
     let line = content_of c.args.line.now in
     let arm = c.in-Ok-Answered in
-    let told : Hears g.A.Answerer.may_answer c.args.answerer.now c.content.result.now (Ok heard.Answered) c.hear.new.reply c.hear.new.answerer = rw (arm.field-0-is) at arm.ensures in
-    by_itself g.A.Answerer.may_answer _ c.args.lines.now.ended c.args.answerer.now c.hear.new.answerer line _ (Ok Answered)
-    (answered_by_itself g.A.Answerer.may_answer c.args.answerer.now c.hear.new.answerer line c.hear.new.reply (rw c.content.ensures at told))
+    let told : Hears g.A.Answerer.may_answer c.args.answerer.now c.content.result.now
+    (Ok heard.Answered) c.hear.new.reply c.hear.new.answerer = rw (arm.field-0-is) at
+    arm.ensures in
+    by_itself g.A.Answerer.may_answer _ c.args.lines.now.ended c.args.answerer.now
+    c.hear.new.answerer line _ (Ok Answered)
+    (answered_by_itself g.A.Answerer.may_answer c.args.answerer.now c.hear.new.answerer line
+    c.hear.new.reply (rw c.content.ensures at told))
 
 pub returns-in-Err-clause-progress : goal.returns-in-Err-clause-progress
 returns-in-Err-clause-progress g c =
     let line = content_of c.args.line.now in
     let fault = c.in-Err.fault in
-    by_itself g.A.Answerer.may_answer _ c.args.lines.now.ended c.args.answerer.now c.hear.new.answerer line _ (Ok Answered)
-    (Malformed fault, c.show_fault.ensures, answered_fault g.A.Answerer.may_answer c.args.answerer.now c.hear.new.answerer line c.hear.new.reply fault (rw c.content.ensures at c.in-Err.ensures))
+    by_itself g.A.Answerer.may_answer _ c.args.lines.now.ended c.args.answerer.now
+    c.hear.new.answerer line _ (Ok Answered) (
+      Malformed fault,
+      c.show_fault.ensures,
+      answered_fault g.A.Answerer.may_answer
+          c.args.answerer.now c.hear.new.answerer line c.hear.new.reply fault
+          (rw c.content.ensures at c.in-Err.ensures),
+    )

@@ -11,8 +11,11 @@ invariant-loop-lines g l =
     record {
       counted : l.replies + work_left l.lines ≤ work_left l.fn.lines;
       ended : AtEndIfEnded l.lines (remaining l.reader);
-      under_way : KnownStep (left_of l.fn.lines (remaining l.fn.reader)) (left_of l.lines (remaining l.reader)) (UnderWay g.A.Answerer.may_answer l.lines.ended l.fn.answerer l.answerer (contents l.fn.writer) (contents l.writer) l.replies);
-      turns : CountsTurns (g.R.Source.calls l.fn.reader) (g.R.Source.calls l.reader) l.fn.lines.turns l.lines.turns;
+      under_way : KnownStep (left_of l.fn.lines (remaining l.fn.reader))
+          (left_of l.lines (remaining l.reader)) (UnderWay g.A.Answerer.may_answer l.lines.ended
+          l.fn.answerer l.answerer (contents l.fn.writer) (contents l.writer) l.replies);
+      turns : CountsTurns (g.R.Source.calls l.fn.reader) (g.R.Source.calls l.reader)
+          l.fn.lines.turns l.lines.turns;
       reader_noted : g.R.Source.has_failed l.reader ≡ g.R.Source.has_failed l.fn.reader;
       writer_noted : g.W.Sink.has_failed l.writer ≡ g.W.Sink.has_failed l.fn.writer;
     }

@@ -77,8 +77,10 @@ pub returns-in-Err-clause-reserved : goal.returns-in-Err-clause-reserved
 returns-in-Err-clause-reserved c =
     λ was puts.
     let light
-    : (takes_memory (ruling_of (state_of c.args.self.now) (Events.plain c.args.event.now)).effect ≡ false)
-    × (places_needed (ruling_of (state_of c.args.self.now) (Events.plain c.args.event.now)).effect ≡ 1) =
+    : (takes_memory (ruling_of (state_of c.args.self.now) (Events.plain c.args.event.now)).effect ≡
+    false)
+    × (places_needed (ruling_of (state_of c.args.self.now) (Events.plain c.args.event.now)).effect ≡
+    1) =
     reload_is_light _ _ puts in
     let kept : c.places_reserved-reserved.result ≡ 1 =
     c.places_reserved-reserved.ensures

@@ -12,7 +12,8 @@ returns-in-Some-clause-err c =
 
 pub returns-in-Some-clause-again : goal.returns-in-Some-clause-again
 returns-in-Some-clause-again c =
-    λ _. reload_not_recorded _ _ _ c.self.invariant _ c.self.view_is _ (ruling_meant c.reload.result) _
+    λ _. reload_not_recorded _ _ _ c.self.invariant _ c.self.view_is _
+    (ruling_meant c.reload.result) _
     c.reload.ensures (sym c.reload_refusal.ensures ∙ c.in-Some.is)
 
 pub returns-then-self-clause-ok : goal.returns-then-self-clause-ok

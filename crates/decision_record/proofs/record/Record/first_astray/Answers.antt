@@ -12,7 +12,8 @@ loop-place-preserved c =
 
 pub returns-clause-none : goal.returns-clause-none
 returns-clause-none c =
-    all_seen (Stands c.args.self.now.entries) c.args.receipts.now c.loop-place.place c.loop-place-test.false
+    all_seen (Stands c.args.self.now.entries) c.args.receipts.now c.loop-place.place
+    c.loop-place-test.false
     c.loop-place.invariant
 
 pub returns-then-not-stands-clause-first : goal.returns-then-not-stands-clause-first

@@ -13,7 +13,8 @@ invariant_of-self c =
           (omega (arith, stored.room, is.slots.1)) (omega (arith, stored.room_aside, is.aside.1))
           (omega (arith, stored.room_registrations, is.registrations.1))
           (omega (arith, stored.room_reloads, is.reloads.2)),
-      last_alike c.self.inside.slots c.reserve_each.new.slots c.self.inside.aside c.reserve_each.new.aside
+      last_alike c.self.inside.slots c.reserve_each.new.slots c.self.inside.aside
+          c.reserve_each.new.aside
           c.self.inside.registrations c.reserve_each.new.registrations
           c.self.inside.reloads c.reserve_each.new.reloads
           is.slots.0 is.aside.0 is.registrations.0 is.reloads.0 _ is.reloads.1 c.self.invariant.1,
@@ -27,7 +28,8 @@ returns-in_err-reserve_each-clause-err c =
         opening = (arc_value c.self.inside.opening).commands;
         entries = es;
         kept = c.self.inside.kept;
-      }) (told_alike c.self.inside.slots c.reserve_each.new.slots c.self.inside.aside c.reserve_each.new.aside
+      }) (told_alike c.self.inside.slots c.reserve_each.new.slots c.self.inside.aside
+          c.reserve_each.new.aside
           c.self.inside.registrations c.reserve_each.new.registrations
           c.self.inside.reloads c.reserve_each.new.reloads
           is.slots.0 is.aside.0 is.registrations.0 is.reloads.0) ∙ c.self.view_is,
@@ -40,7 +42,8 @@ invariant_of-self-2 c =
     let room = c.in_ok-reserve_each.ensures.ok in (
       stored_alike _ _ _ _ _ _ _ _ is.slots.0 is.aside.0 is.registrations.0 is.reloads.0 _ _
           c.self.invariant.0 room.0 room.1 room.2 room.3,
-      last_alike c.self.inside.slots c.reserve_each.new.slots c.self.inside.aside c.reserve_each.new.aside
+      last_alike c.self.inside.slots c.reserve_each.new.slots c.self.inside.aside
+          c.reserve_each.new.aside
           c.self.inside.registrations c.reserve_each.new.registrations
           c.self.inside.reloads c.reserve_each.new.reloads
           is.slots.0 is.aside.0 is.registrations.0 is.reloads.0 _ is.reloads.1 c.self.invariant.1,
@@ -53,7 +56,8 @@ returns-clause-ok c =
       opening = (arc_value c.self.inside.opening).commands;
       entries = es;
       kept = c.self.inside.kept + c.args.places;
-    }) (told_alike c.self.inside.slots c.reserve_each.new.slots c.self.inside.aside c.reserve_each.new.aside
+    }) (told_alike c.self.inside.slots c.reserve_each.new.slots c.self.inside.aside
+    c.reserve_each.new.aside
     c.self.inside.registrations c.reserve_each.new.registrations
     c.self.inside.reloads c.reserve_each.new.reloads
     is.slots.0 is.aside.0 is.registrations.0 is.reloads.0)

@@ -56,7 +56,8 @@ last c = by (entry_meant [] [] [] c.args.slot.now) refl c.requires.meant
 pub invariant_of-self : goal.invariant_of-self
 invariant_of-self c = (
   stored_told _ _ _ _ _ _ (stored c),
-  subst (λ es. IsLastReload (arc_value c.self.inside.opening).commands c.self.inside.reloads.last es)
+  subst (λ es. IsLastReload (arc_value c.self.inside.opening).commands c.self.inside.reloads.last
+      es)
       (sym (told_are _ _ _ _ _ _ (stored c))) (last c),
 )
 

@@ -1,25 +1,27 @@
 use Rattle.std.proofs.Common.{◌≤◌, ◌-◌, ◌++◌, [], ◌∷◌, ap, ◌∙◌, arith}
 use Rattle.pieces.specs.Pieces.{PiecesParts}
-use Rattle.decision_record.specs.SlotList.{brief_slot, slots_told, AreHeld}
+use Rattle.decision_record.specs.SlotList.{slots_told, AreHeld}
 use Rattle.decision_record.specs.declared.slots.Slot.{Slot}
-use Rattle.decision_record.specs.declared.slot_kinds.BriefSlot.{BriefSlot}
+use Rattle.decision_record.specs.declared.slots.Slot.TheVariants as slot
+use Rattle.decision_record.specs.declared.slots.BriefSlot.{BriefSlot}
 use Rattle.decision_record.proofs.SlotListLemmas.{brief_held, told_are, held_told}
 use Rattle.decision_record.proofs.slot_list.SlotList.push_brief.Goals as goal
 
 held : (c : goal.After-self-1)
-    → AreHeld c.push-2.new.self c.self.inside.routed c.self.inside.refused c.push.new.self c.self.inside.wide
+    → AreHeld c.push-2.new.self c.self.inside.routed c.self.inside.refused c.push.new.self
+    c.self.inside.wide
     (slots_told c.self.inside.places c.self.inside.routed c.self.inside.refused c.self.inside.brief
     c.self.inside.wide
-    ++ brief_slot c.args.brief ∷ []) (c.self.inside.room - 1)
+    ++ slot.Brief c.args.brief.now ∷ []) (c.self.inside.room - 1)
 held c =
     let one : 1 ≤ c.self.inside.room =
     omega (arith, c.requires.room, ap (λ (h : PiecesParts Slot). h.room) c.self.view_is) in
     brief_held _ _ _ _ _ _ _ c.self.invariant one c.len-place.result
-    c.args.brief c.push.new.self c.push-2.new.self c.len-place.ensures.value
+    c.args.brief.now c.push.new.self c.push-2.new.self c.len-place.ensures.value
     (c.push.ensures ∙ ap (λ (a : BriefSlot). record {
       items = c.self.inside.brief.items ++ a ∷ [];
       room = c.self.inside.brief.room - 1;
-    }) c.new.ensures)
+    }) c.of.ensures)
     c.push-2.ensures
 
 pub invariant_of-self : goal.invariant_of-self
@@ -30,6 +32,6 @@ returns c =
     ap (λ ss. record { items = ss; room = c.self.inside.room - 1 })
     (told_are _ _ _ _ _ _ _ (held c))
     ∙ ap (λ (h : PiecesParts Slot). record {
-      items = h.items ++ brief_slot c.args.brief ∷ [];
+      items = h.items ++ slot.Brief c.args.brief.now ∷ [];
       room = h.room - 1;
     }) c.self.view_is

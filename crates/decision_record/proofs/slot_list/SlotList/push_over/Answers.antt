@@ -2,25 +2,26 @@ use Rattle.std.proofs.Common.{◌≤◌, ◌-◌, ◌++◌, [], ◌∷◌, ap, �
 use Rattle.pieces.specs.Pieces.{PiecesParts}
 use Rattle.decision_record.specs.SlotList.{over_slot, slots_told, AreHeld}
 use Rattle.decision_record.specs.declared.slots.Slot.{Slot}
-use Rattle.decision_record.specs.declared.slot_kinds.RoutedAdmission.{RoutedAdmission}
+use Rattle.decision_record.specs.declared.slots.RoutedAdmission.{RoutedAdmission}
 use Rattle.decision_record.specs.declared.slot_places.SlotPlace.{SlotPlace}
 use Rattle.decision_record.proofs.SlotListLemmas.{over_held, told_are, held_told}
 use Rattle.decision_record.proofs.slot_list.SlotList.push_over.Goals as goal
 
 held : (c : goal.After-self-1)
-    → AreHeld c.push-2.new.self c.push.new.self c.self.inside.refused c.self.inside.brief c.self.inside.wide
+    → AreHeld c.push-2.new.self c.push.new.self c.self.inside.refused c.self.inside.brief
+    c.self.inside.wide
     (slots_told c.self.inside.places c.self.inside.routed c.self.inside.refused c.self.inside.brief
     c.self.inside.wide
-    ++ over_slot c.args.over.now c.args.admission ∷ []) (c.self.inside.room - 1)
+    ++ over_slot c.args.over.now c.args.admission.now ∷ []) (c.self.inside.room - 1)
 held c =
     let one : 1 ≤ c.self.inside.room =
     omega (arith, c.requires.room, ap (λ (h : PiecesParts Slot). h.room) c.self.view_is) in
     over_held _ _ _ _ _ _ _ c.self.invariant one c.args.over.now c.len-place.result
-    c.args.admission c.push.new.self c.push-2.new.self c.len-place.ensures.value
+    c.args.admission.now c.push.new.self c.push-2.new.self c.len-place.ensures.value
     (c.push.ensures ∙ ap (λ (a : RoutedAdmission). record {
       items = c.self.inside.routed.items ++ a ∷ [];
       room = c.self.inside.routed.room - 1;
-    }) c.new.ensures)
+    }) c.of.ensures)
     (c.push-2.ensures ∙ ap (λ (p : SlotPlace). record {
       items = c.self.inside.places.items ++ p ∷ [];
       room = c.self.inside.places.room - 1;
@@ -34,6 +35,6 @@ returns c =
     ap (λ ss. record { items = ss; room = c.self.inside.room - 1 })
     (told_are _ _ _ _ _ _ _ (held c))
     ∙ ap (λ (h : PiecesParts Slot). record {
-      items = h.items ++ over_slot c.args.over.now c.args.admission ∷ [];
+      items = h.items ++ over_slot c.args.over.now c.args.admission.now ∷ [];
       room = h.room - 1;
     }) c.self.view_is

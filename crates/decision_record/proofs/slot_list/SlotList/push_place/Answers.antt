@@ -7,7 +7,8 @@ use Rattle.decision_record.proofs.SlotListLemmas.{alone_held, told_are, held_tol
 use Rattle.decision_record.proofs.slot_list.SlotList.push_place.Goals as goal
 
 held : (c : goal.After-self-1)
-    → AreHeld c.push.new.self c.self.inside.routed c.self.inside.refused c.self.inside.brief c.self.inside.wide
+    → AreHeld c.push.new.self c.self.inside.routed c.self.inside.refused c.self.inside.brief
+    c.self.inside.wide
     (slots_told c.self.inside.places c.self.inside.routed c.self.inside.refused c.self.inside.brief
     c.self.inside.wide
     ++ cons_option (place_meant [] [] [] [] c.args.place) []) (c.self.inside.room - 1)

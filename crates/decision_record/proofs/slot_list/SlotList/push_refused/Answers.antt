@@ -1,25 +1,27 @@
 use Rattle.std.proofs.Common.{◌≤◌, ◌-◌, ◌++◌, [], ◌∷◌, ap, ◌∙◌, arith}
 use Rattle.pieces.specs.Pieces.{PiecesParts}
-use Rattle.decision_record.specs.SlotList.{refused_slot, slots_told, AreHeld}
+use Rattle.decision_record.specs.SlotList.{slots_told, AreHeld}
 use Rattle.decision_record.specs.declared.slots.Slot.{Slot}
-use Rattle.decision_record.specs.declared.slot_kinds.RefusedAdmission.{RefusedAdmission}
+use Rattle.decision_record.specs.declared.slots.Slot.TheVariants as slot
+use Rattle.decision_record.specs.declared.slots.RefusedAdmission.{RefusedAdmission}
 use Rattle.decision_record.proofs.SlotListLemmas.{refused_held, told_are, held_told}
 use Rattle.decision_record.proofs.slot_list.SlotList.push_refused.Goals as goal
 
 held : (c : goal.After-self-1)
-    → AreHeld c.push-2.new.self c.self.inside.routed c.push.new.self c.self.inside.brief c.self.inside.wide
+    → AreHeld c.push-2.new.self c.self.inside.routed c.push.new.self c.self.inside.brief
+    c.self.inside.wide
     (slots_told c.self.inside.places c.self.inside.routed c.self.inside.refused c.self.inside.brief
     c.self.inside.wide
-    ++ refused_slot c.args.admission ∷ []) (c.self.inside.room - 1)
+    ++ slot.Refused c.args.admission.now ∷ []) (c.self.inside.room - 1)
 held c =
     let one : 1 ≤ c.self.inside.room =
     omega (arith, c.requires.room, ap (λ (h : PiecesParts Slot). h.room) c.self.view_is) in
     refused_held _ _ _ _ _ _ _ c.self.invariant one c.len-place.result
-    c.args.admission c.push.new.self c.push-2.new.self c.len-place.ensures.value
+    c.args.admission.now c.push.new.self c.push-2.new.self c.len-place.ensures.value
     (c.push.ensures ∙ ap (λ (a : RefusedAdmission). record {
       items = c.self.inside.refused.items ++ a ∷ [];
       room = c.self.inside.refused.room - 1;
-    }) c.new.ensures)
+    }) c.of.ensures)
     c.push-2.ensures
 
 pub invariant_of-self : goal.invariant_of-self
@@ -30,6 +32,6 @@ returns c =
     ap (λ ss. record { items = ss; room = c.self.inside.room - 1 })
     (told_are _ _ _ _ _ _ _ (held c))
     ∙ ap (λ (h : PiecesParts Slot). record {
-      items = h.items ++ refused_slot c.args.admission ∷ [];
+      items = h.items ++ slot.Refused c.args.admission.now ∷ [];
       room = h.room - 1;
     }) c.self.view_is

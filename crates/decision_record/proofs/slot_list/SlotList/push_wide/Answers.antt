@@ -1,25 +1,27 @@
 use Rattle.std.proofs.Common.{◌≤◌, ◌-◌, ◌++◌, [], ◌∷◌, ap, ◌∙◌, arith}
 use Rattle.pieces.specs.Pieces.{PiecesParts}
-use Rattle.decision_record.specs.SlotList.{wide_slot, slots_told, AreHeld}
+use Rattle.decision_record.specs.SlotList.{slots_told, AreHeld}
 use Rattle.decision_record.specs.declared.slots.Slot.{Slot}
-use Rattle.decision_record.specs.declared.slot_kinds.WideSlot.{WideSlot}
+use Rattle.decision_record.specs.declared.slots.Slot.TheVariants as slot
+use Rattle.decision_record.specs.declared.slots.WideSlot.{WideSlot}
 use Rattle.decision_record.proofs.SlotListLemmas.{wide_held, told_are, held_told}
 use Rattle.decision_record.proofs.slot_list.SlotList.push_wide.Goals as goal
 
 held : (c : goal.After-self-1)
-    → AreHeld c.push-2.new.self c.self.inside.routed c.self.inside.refused c.self.inside.brief c.push.new.self
+    → AreHeld c.push-2.new.self c.self.inside.routed c.self.inside.refused c.self.inside.brief
+    c.push.new.self
     (slots_told c.self.inside.places c.self.inside.routed c.self.inside.refused c.self.inside.brief
     c.self.inside.wide
-    ++ wide_slot c.args.wide ∷ []) (c.self.inside.room - 1)
+    ++ slot.Wide c.args.wide.now ∷ []) (c.self.inside.room - 1)
 held c =
     let one : 1 ≤ c.self.inside.room =
     omega (arith, c.requires.room, ap (λ (h : PiecesParts Slot). h.room) c.self.view_is) in
     wide_held _ _ _ _ _ _ _ c.self.invariant one c.len-place.result
-    c.args.wide c.push.new.self c.push-2.new.self c.len-place.ensures.value
+    c.args.wide.now c.push.new.self c.push-2.new.self c.len-place.ensures.value
     (c.push.ensures ∙ ap (λ (a : WideSlot). record {
       items = c.self.inside.wide.items ++ a ∷ [];
       room = c.self.inside.wide.room - 1;
-    }) c.new.ensures)
+    }) c.of.ensures)
     c.push-2.ensures
 
 pub invariant_of-self : goal.invariant_of-self
@@ -30,6 +32,6 @@ returns c =
     ap (λ ss. record { items = ss; room = c.self.inside.room - 1 })
     (told_are _ _ _ _ _ _ _ (held c))
     ∙ ap (λ (h : PiecesParts Slot). record {
-      items = h.items ++ wide_slot c.args.wide ∷ [];
+      items = h.items ++ slot.Wide c.args.wide.now ∷ [];
       room = h.room - 1;
     }) c.self.view_is

@@ -10,5 +10,6 @@ invariant_of-self c =
     c.remove-removed.new.self.entries number c.self.invariant
     (c.remove-removed.ensures.numbered number c.number_for-number.ensures.number)
     (subst (λ gone. Leaves c.self.inside.served c.leave.new.self number gone None)
-    (c.endpoint_in.ensures ∙ c.as_ref.ensures.value ∙ c.remove-removed.ensures.removed ∙ c.number_for-number.ensures.kept)
+    (c.endpoint_in.ensures ∙ c.as_ref.ensures.value ∙ c.remove-removed.ensures.removed ∙
+    c.number_for-number.ensures.kept)
     c.leave.ensures)

@@ -20,7 +20,8 @@ invariant_of-self-then-number-self c =
     let numbered = MatchResult-at_ok _ _ _ c.unwrap.ensures c.insert-numbered.ensures.updates in
     roll_put c.self.inside.endpoints.entries c.insert.new.self.entries
     c.self.inside.numbers.entries c.reserve.new.self.entries c.self.inside.next c.self.invariant
-    c.reserve.ensures.entries.2 c.insert-numbered.new.self.entries c.args.endpoint c.id-id.result.now
+    c.reserve.ensures.entries.2 c.insert-numbered.new.self.entries c.args.endpoint
+    c.id-id.result.now
     number c.id-id.ensures fits set numbered.0 c.insert.ensures.ordered
     (number + 1) (omega (arith, last)) (omega arith)
 
@@ -34,7 +35,8 @@ invariant_of-self-else-number-self c =
     let numbered = MatchResult-at_ok _ _ _ c.unwrap.ensures c.insert-numbered.ensures.updates in
     roll_put c.self.inside.endpoints.entries c.insert.new.self.entries
     c.self.inside.numbers.entries c.reserve.new.self.entries c.self.inside.next c.self.invariant
-    c.reserve.ensures.entries.2 c.insert-numbered.new.self.entries c.args.endpoint c.id-id.result.now
+    c.reserve.ensures.entries.2 c.insert-numbered.new.self.entries c.args.endpoint
+    c.id-id.result.now
     number c.id-id.ensures fits set numbered.0 c.insert.ensures.ordered
     c.self.inside.next (omega arith)
     (less_than_next c.self.inside.endpoints.entries c.self.inside.numbers.entries

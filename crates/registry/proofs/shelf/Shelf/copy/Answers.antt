@@ -14,7 +14,8 @@ put_numbered-requires-clause-free c =
     copy_free (endpoints_of c.args.self.now) (endpoints_of c.loop-held.copy)
     c.loop-held.held-iterator c.next.new.self c.in_ok-copy.field-0
     c.loop-held.copy.next c.loop-held.invariant
-    (c.in-Some.ensures.steps ∙ ap (λ e. e ∷ c.next.new.self) (sym (c.in_ok-copy.ensures ∙ c.endpoint.ensures)))
+    (c.in-Some.ensures.steps ∙ ap (λ e. e ∷ c.next.new.self)
+    (sym (c.in_ok-copy.ensures ∙ c.endpoint.ensures)))
     (subst HaveDifferentIds of_all (different_ids entries owners c.self.invariant))
     (subst ShareNoAlias of_all (no_shared_alias entries owners c.self.invariant))
 
@@ -26,7 +27,8 @@ put_numbered-requires-clause-room c =
     copy_room (endpoints_of c.args.self.now) (endpoints_of c.loop-held.copy)
     c.loop-held.held-iterator c.next.new.self c.in_ok-copy.field-0
     c.loop-held.copy.next c.loop-held.invariant
-    (c.in-Some.ensures.steps ∙ ap (λ e. e ∷ c.next.new.self) (sym (c.in_ok-copy.ensures ∙ c.endpoint.ensures)))
+    (c.in-Some.ensures.steps ∙ ap (λ e. e ∷ c.next.new.self)
+    (sym (c.in_ok-copy.ensures ∙ c.endpoint.ensures)))
     (subst HaveDifferentIds of_all (different_ids entries owners c.self.invariant))
     (subst ShareNoAlias of_all (no_shared_alias entries owners c.self.invariant))
     c.requires.few
@@ -39,7 +41,8 @@ loop-held-preserved c =
     copy_more (endpoints_of c.args.self.now) (endpoints_of c.loop-held.copy)
     c.loop-held.held-iterator c.next.new.self c.in_ok-copy.field-0
     c.loop-held.copy.next c.loop-held.invariant
-    (c.in-Some.ensures.steps ∙ ap (λ e. e ∷ c.next.new.self) (sym (c.in_ok-copy.ensures ∙ c.endpoint.ensures)))
+    (c.in-Some.ensures.steps ∙ ap (λ e. e ∷ c.next.new.self)
+    (sym (c.in_ok-copy.ensures ∙ c.endpoint.ensures)))
     (subst HaveDifferentIds of_all (different_ids entries owners c.self.invariant))
     (subst ShareNoAlias of_all (no_shared_alias entries owners c.self.invariant))
     (endpoints_of c.put_numbered.new.self) c.put_numbered.new.self.next

@@ -1,9 +1,9 @@
-use Rattle.std.proofs.Common.{◌≡◌, false, length, ap, sym, ◌∙◌, arith}
+use Rattle.std.proofs.Common.{◌≡◌, false, length, ap, ◌∙◌, arith}
 use Rattle.registry.specs.Roll.{endpoints_of}
 use Rattle.registry.specs.Registration.{RegistryParts, is_full_for, with_endpoint}
 use Rattle.registry.proofs.RegisteringLemmas.{fits}
-use Rattle.registry.proofs.registry.Registry.place.Goals as goal
-use Rattle.registry.proofs.registry.Registry.place.Goals.{in-Ok, in-Err}
+use Rattle.registry.proofs.registry.Registry.put.Goals as goal
+use Rattle.registry.proofs.registry.Registry.put.Goals.{in-Ok, in-Err}
 
 pub invariant_of-self : goal.invariant_of-self
 invariant_of-self c = elim c.match-put.branch [
@@ -13,8 +13,7 @@ invariant_of-self c = elim c.match-put.branch [
         most = c.self.inside.most;
       } in
       let room : is_full_for before c.args.endpoint ≡ false =
-      ap (λ r. is_full_for r c.args.endpoint) c.self.view_is
-      ∙ sym c.is_full_for.ensures ∙ c.if-is_full_for.false in
+      ap (λ r. is_full_for r c.args.endpoint) c.self.view_is ∙ c.requires.room in
       let long = ap length (w.in-Ok.ensures.ok
       ∙ ap (with_endpoint (endpoints_of c.self.inside.shelf)) c.in_zone.ensures) in
       let enough = fits before c.args.endpoint c.args.zone c.self.invariant room in

@@ -1,0 +1,139 @@
+//! Slots as the lists of a record hold them.
+
+ghost use Rattle.std.specs.Prelude.{◌≡◌};
+
+use crate::slots::{BriefSlot, RefusedAdmission, RoutedAdmission, WideSlot};
+use std::marker::Model;
+
+/// An admission with a destination as a list holds it, with a view of its own, so that the list
+/// need not know what is inside. A contract sees the admission.
+#[derive(Clone, Copy)]
+pub struct HeldRouted {
+    admission: RoutedAdmission,
+}
+
+impl Model for HeldRouted {
+    ghost use Rattle.decision_record.specs.declared.slots.RoutedAdmission.{RoutedAdmission};
+
+    ghost Value = { RoutedAdmission };
+
+    ghost view = { λ h. h.admission };
+
+    ghost inverse = { λ item. record { admission = item } };
+}
+
+impl HeldRouted {
+    /// This admission.
+    pub fn of(admission: &RoutedAdmission) -> HeldRouted
+        ensures { result ≡ admission.now }
+    {
+        HeldRouted {
+            admission: *admission,
+        }
+    }
+
+    /// The admission.
+    pub fn admission(&self) -> &RoutedAdmission
+        ensures { result.now ≡ self.now }
+    {
+        &self.admission
+    }
+}
+
+/// The same of an admission without a destination.
+#[derive(Clone, Copy)]
+pub struct HeldRefused {
+    admission: RefusedAdmission,
+}
+
+impl Model for HeldRefused {
+    ghost use Rattle.decision_record.specs.declared.slots.RefusedAdmission.{RefusedAdmission};
+
+    ghost Value = { RefusedAdmission };
+
+    ghost view = { λ h. h.admission };
+
+    ghost inverse = { λ item. record { admission = item } };
+}
+
+impl HeldRefused {
+    /// This admission.
+    pub fn of(admission: &RefusedAdmission) -> HeldRefused
+        ensures { result ≡ admission.now }
+    {
+        HeldRefused {
+            admission: *admission,
+        }
+    }
+
+    /// The admission.
+    pub fn admission(&self) -> &RefusedAdmission
+        ensures { result.now ≡ self.now }
+    {
+        &self.admission
+    }
+}
+
+/// The same of a brief slot.
+#[derive(Clone, Copy)]
+pub struct HeldBrief {
+    brief: BriefSlot,
+}
+
+impl Model for HeldBrief {
+    ghost use Rattle.decision_record.specs.declared.slots.BriefSlot.{BriefSlot};
+
+    ghost Value = { BriefSlot };
+
+    ghost view = { λ h. h.brief };
+
+    ghost inverse = { λ item. record { brief = item } };
+}
+
+impl HeldBrief {
+    /// This brief slot.
+    pub fn of(brief: &BriefSlot) -> HeldBrief
+        ensures { result ≡ brief.now }
+    {
+        HeldBrief { brief: *brief }
+    }
+
+    /// The brief slot.
+    pub fn brief(&self) -> &BriefSlot
+        ensures { result.now ≡ self.now }
+    {
+        &self.brief
+    }
+}
+
+/// The same of a slot with the name of the zone of a limit.
+#[derive(Clone, Copy)]
+pub struct HeldWide {
+    wide: WideSlot,
+}
+
+impl Model for HeldWide {
+    ghost use Rattle.decision_record.specs.declared.slots.WideSlot.{WideSlot};
+
+    ghost Value = { WideSlot };
+
+    ghost view = { λ h. h.wide };
+
+    ghost inverse = { λ item. record { wide = item } };
+}
+
+impl HeldWide {
+    /// This slot.
+    pub fn of(wide: &WideSlot) -> HeldWide
+        ensures { result ≡ wide.now }
+    {
+        HeldWide { wide: *wide }
+    }
+
+    /// The slot.
+    pub fn wide(&self) -> &WideSlot
+        ensures { result.now ≡ self.now }
+    {
+        &self.wide
+    }
+}
