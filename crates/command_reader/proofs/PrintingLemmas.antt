@@ -19,30 +19,41 @@ text-append : (front rest : List Command) → text_of (front ++ rest) ≡ text_o
 text-append front rest = flat_map-append line_of_command front rest
 
 -- what is left of a list begins with its next element
-cut_at : (commands : List Command) (i : ℕ) (d : Command) → i < length commands → take i commands ++ (get_or commands i d ∷ drop (i + 1) commands) ≡ commands
+cut_at : (commands : List Command) (i : ℕ) (d : Command) → i < length commands → take i commands ++
+    (get_or commands i d ∷ drop (i + 1) commands) ≡ commands
 cut_at commands i d h =
     let next : i + 1 ≡ suc i = omega arith in
-    ap (λ rest. take i commands ++ rest) (ap (λ n. get_or commands i d ∷ drop n commands) next ∙ sym (drop-cons commands i d h)) ∙ take-append-drop i commands
+    ap (λ rest. take i commands ++ rest) (ap (λ n. get_or commands i d ∷ drop n commands) next ∙ sym
+    (drop-cons commands i d h)) ∙ take-append-drop i commands
 
 -- one more line
-pub line_more : (a b c : Option (List ℕ)) (commands : List Command) (i : ℕ) (d : Command) → i < length commands
-    → Appends a b (text_of (take i commands)) → Appends b c (line_of_command (get_or commands i d)) → Appends a c (text_of (take (i + 1) commands))
+pub line_more : (a b c : Option (List ℕ)) (commands : List Command) (i : ℕ) (d : Command) → i <
+    length commands
+    → Appends a b (text_of (take i commands)) → Appends b c (line_of_command (get_or commands i d))
+    → Appends a c (text_of (take (i + 1) commands))
 line_more a b c commands i d h before line =
     let next = get_or commands i d in
-    let lines : text_of (take (i + 1) commands) ≡ text_of (take i commands) ++ line_of_command next =
-    ap text_of (take_more commands i d h) ∙ text-append (take i commands) (next ∷ []) ∙ ap (λ text. text_of (take i commands) ++ text) (append-nil (line_of_command next)) in
-    subst (Appends a c) (sym lines) (appends_more a b c (text_of (take i commands)) (line_of_command next) before line)
+    let lines : text_of (take (i + 1) commands) ≡ text_of (take i commands) ++ line_of_command next
+    =
+    ap text_of (take_more commands i d h) ∙ text-append (take i commands) (next ∷ []) ∙ ap
+    (λ text. text_of (take i commands) ++ text) (append-nil (line_of_command next)) in
+    subst (Appends a c) (sym lines) (appends_more a b c (text_of (take i commands))
+    (line_of_command next) before line)
 
 -- a writer that fails within a line holds a front of the whole
-pub front_of_all : (a b c : Option (List ℕ)) (commands : List Command) (i : ℕ) (d : Command) → i < length commands
-    → Appends a b (text_of (take i commands)) → AppendsFront b c (line_of_command (get_or commands i d)) → AppendsFront a c (text_of commands)
+pub front_of_all : (a b c : Option (List ℕ)) (commands : List Command) (i : ℕ) (d : Command) → i <
+    length commands
+    → Appends a b (text_of (take i commands)) → AppendsFront b c
+    (line_of_command (get_or commands i d)) → AppendsFront a c (text_of commands)
 front_of_all a b c commands i d h before (rest, (front, split, added)) =
     let lines = text_of (take i commands) in
     let others = text_of (drop (i + 1) commands) in
     let whole : text_of commands ≡ (lines ++ front) ++ (rest ++ others) =
-    ap text_of (sym (cut_at commands i d h)) ∙ text-append (take i commands) (get_or commands i d ∷ drop (i + 1) commands)
+    ap text_of (sym (cut_at commands i d h)) ∙ text-append (take i commands)
+    (get_or commands i d ∷ drop (i + 1) commands)
     ∙ ap (λ line. lines ++ (line ++ others)) split
-    ∙ ap (λ text. lines ++ text) (append_assoc front rest others) ∙ sym (append_assoc lines front (rest ++ others)) in
+    ∙ ap (λ text. lines ++ text) (append_assoc front rest others) ∙ sym
+    (append_assoc lines front (rest ++ others)) in
     (rest ++ others, (lines ++ front, whole, appends_more a b c lines front before added))
 
 -- what holds anyway, if there is a fault

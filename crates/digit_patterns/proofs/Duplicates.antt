@@ -10,23 +10,32 @@ use Rattle.digit_patterns.specs.Duplicate.{has_pattern, duplicate_from}
 abbrev pub duplicate_after : {V : Type 0} → List (PatternParts × V) → ℕ → Option ℕ
 duplicate_after rows place = duplicate_from place (take place rows) (drop place rows)
 
-module _ {V : Type 0} (rows : List (PatternParts × V)) (place : ℕ) (row : PatternParts × V) (stands : row ≡ get_or rows place row) (within : place < length rows) where
+module _ {V : Type 0} (rows : List (PatternParts × V)) (place : ℕ) (row : PatternParts × V)
+    (stands : row ≡ get_or rows place row) (within : place < length rows) where
   -- a step of the search
-  step : duplicate_after rows place ≡ cond (has_pattern row.0 (take place rows)) (Some place) (duplicate_after rows (place + 1))
+  step : duplicate_after rows place ≡ cond (has_pattern row.0 (take place rows)) (Some place)
+      (duplicate_after rows (place + 1))
   step =
-      ap (duplicate_from place (take place rows)) (drop_more rows place row within ∙ ap (λ r. r ∷ drop (place + 1) rows) (sym stands))
-      ∙ ap (λ front. cond (has_pattern row.0 (take place rows)) (Some place) (duplicate_from (place + 1) front (drop (place + 1) rows))) (sym (take_more rows place row within ∙ ap (λ r. take place rows ++ r ∷ []) (sym stands)))
+      ap (duplicate_from place (take place rows)) (drop_more rows place row within ∙ ap
+      (λ r. r ∷ drop (place + 1) rows) (sym stands))
+      ∙ ap (λ front. cond (has_pattern row.0 (take place rows)) (Some place)
+      (duplicate_from (place + 1) front (drop (place + 1) rows)))
+      (sym (take_more rows place row within ∙ ap (λ r. take place rows ++ r ∷ []) (sym stands)))
 
   -- no earlier row has the pattern
-  pub duplicate_after-new : has_pattern row.0 (take place rows) ≡ false → duplicate_after rows place ≡ duplicate_after rows (place + 1)
+  pub duplicate_after-new : has_pattern row.0 (take place rows) ≡ false → duplicate_after rows place
+      ≡ duplicate_after rows (place + 1)
   duplicate_after-new e = step ∙ ap (λ b. cond b (Some place) (duplicate_after rows (place + 1))) e
 
   -- an earlier row has it
-  pub duplicate_after-found : has_pattern row.0 (take place rows) ≡ true → duplicate_after rows place ≡ Some place
-  duplicate_after-found e = step ∙ ap (λ b. cond b (Some place) (duplicate_after rows (place + 1))) e
+  pub duplicate_after-found : has_pattern row.0 (take place rows) ≡ true → duplicate_after rows
+      place ≡ Some place
+  duplicate_after-found e = step ∙ ap (λ b. cond b (Some place) (duplicate_after rows (place + 1)))
+      e
 
   -- one more row is seen
-  pub has_pattern_more : (p : PatternParts) → cond (same_pattern row.0 p) true (has_pattern p (take place rows)) ≡ has_pattern p (take (place + 1) rows)
+  pub has_pattern_more : (p : PatternParts) → cond (same_pattern row.0 p) true
+      (has_pattern p (take place rows)) ≡ has_pattern p (take (place + 1) rows)
   has_pattern_more p =
       flipped (same_pattern row.0 p) (has_pattern p (take place rows))
       ∙ ap (λ r. has_pattern p (take place rows) || same_pattern r.0 p) stands

@@ -19,10 +19,12 @@ IsRankOrder-is_above = record {
     lower : (a b c : ℕ) → is_above (a, b, c) (a, b, c) ≡ false
     lower a b c = grind (arith, nat_tests)
 
-    chain : (a b c d e f g h i : ℕ) → is_above (a, b, c) (d, e, f) ≡ true → is_above (d, e, f) (g, h, i) ≡ true → is_above (a, b, c) (g, h, i) ≡ true
+    chain : (a b c d e f g h i : ℕ) → is_above (a, b, c) (d, e, f) ≡ true → is_above (d, e, f)
+        (g, h, i) ≡ true → is_above (a, b, c) (g, h, i) ≡ true
     chain a b c d e f g h i j k = grind (arith, nat_tests)
 
-    split : (a b c d e f g h i : ℕ) → is_above (a, b, c) (g, h, i) ≡ true → is_above (a, b, c) (d, e, f) ≡ false → is_above (d, e, f) (g, h, i) ≡ true
+    split : (a b c d e f g h i : ℕ) → is_above (a, b, c) (g, h, i) ≡ true → is_above (a, b, c)
+        (d, e, f) ≡ false → is_above (d, e, f) (g, h, i) ≡ true
     split a b c d e f g h i j k = grind (arith, nat_tests)
 
 -- so are patterns by their ranks
@@ -34,9 +36,14 @@ pub IsRankOrder-ranks_above : {V : Type 0} → IsRankOrder (ranks_above {V = V})
 IsRankOrder-ranks_above = IsRankOrder-on (λ row. row.0) outranks IsRankOrder-outranks
 
 -- the best row comes of one pass over the matching rows
-pub best_of-pass : {V : Type 0} (rows : List (PatternParts × V)) (text : List ℕ) → best_of rows text ≡ fold (better ranks_above) None (filter (row_matches text) rows)
-best_of-pass rows text = first_unbeaten-pass ranks_above IsRankOrder-ranks_above (filter (row_matches text) rows)
+pub best_of-pass : {V : Type 0} (rows : List (PatternParts × V)) (text : List ℕ) → best_of rows text
+    ≡ fold (better ranks_above) None (filter (row_matches text) rows)
+best_of-pass rows text = first_unbeaten-pass ranks_above IsRankOrder-ranks_above
+    (filter (row_matches text) rows)
 
 -- the same of a pass that has seen so many rows, and there are no more
-pub best_of-after : {V : Type 0} (rows : List (PatternParts × V)) (text : List ℕ) (n : ℕ) → length rows ≤ n → fold (better ranks_above) None (filter (row_matches text) (take n rows)) ≡ best_of rows text
-best_of-after rows text n h = ap (λ xs. fold (better ranks_above) None (filter (row_matches text) xs)) (take_all n rows h) ∙ sym (best_of-pass rows text)
+pub best_of-after : {V : Type 0} (rows : List (PatternParts × V)) (text : List ℕ) (n : ℕ) → length
+    rows ≤ n → fold (better ranks_above) None (filter (row_matches text) (take n rows)) ≡ best_of
+    rows text
+best_of-after rows text n h = ap (λ xs. fold (better ranks_above) None
+    (filter (row_matches text) xs)) (take_all n rows h) ∙ sym (best_of-pass rows text)

@@ -13,15 +13,25 @@ pub record LinesTaken (ended : Bool) (bytes rest : List ℕ) (raws : List (List 
   pub read : List ℕ
   pub split : bytes ≡ read ++ rest
   pub read_lines : raw_lines_of read ≡ raws
-  pub joins : ended ≡ false → (more : List ℕ) → raw_lines_of (read ++ more) ≡ raws ++ raw_lines_of more
+  pub joins : ended ≡ false → (more : List ℕ) → raw_lines_of (read ++ more) ≡ raws ++ raw_lines_of
+      more
   pub feeds : ended ≡ false → filter (list_any (λ b. b == 10)) raws ≡ raws
 
 pub none_taken : (ended : Bool) (bytes : List ℕ) → LinesTaken ended bytes bytes []
-none_taken ended bytes = record { read = []; split = refl; read_lines = refl; joins = λ _ more. refl; feeds = λ _. refl }
+none_taken ended bytes = record {
+  read = [];
+  split = refl;
+  read_lines = refl;
+  joins = λ _ more.
+      refl;
+  feeds = λ _. refl;
+}
 
 -- one more line
-pub one_more_taken : (ended next_ended : Bool) (kept bytes rest next : List ℕ) (raws : List (List ℕ)) → ended ≡ false → LinesTaken ended bytes rest raws
-    → (t : TakesLine next_ended kept rest next) → LinesTaken next_ended bytes next (raws ++ t.raw ∷ [])
+pub one_more_taken : (ended next_ended : Bool) (kept bytes rest next : List ℕ)
+    (raws : List (List ℕ)) → ended ≡ false → LinesTaken ended bytes rest raws
+    → (t : TakesLine next_ended kept rest next) → LinesTaken next_ended bytes next
+    (raws ++ t.raw ∷ [])
 one_more_taken ended next_ended kept bytes rest next raws unended l t = record {
   read = l.read ++ t.raw;
   split = l.split ∙ ap (λ r. l.read ++ r) t.split ∙ sym (append_assoc l.read t.raw next);
@@ -37,7 +47,8 @@ one_more_taken ended next_ended kept bytes rest next raws unended l t = record {
 }
 
 -- with one more whole line each has its line feed
-pub one_more_whole : (ended : Bool) (bytes rest : List ℕ) (raws : List (List ℕ)) (raw : List ℕ) → ended ≡ false → LinesTaken ended bytes rest raws → IsWholeLine raw
+pub one_more_whole : (ended : Bool) (bytes rest : List ℕ) (raws : List (List ℕ)) (raw : List ℕ) →
+    ended ≡ false → LinesTaken ended bytes rest raws → IsWholeLine raw
     → filter (list_any (λ b. b == 10)) (raws ++ raw ∷ []) ≡ raws ++ raw ∷ []
 one_more_whole ended bytes rest raws raw unended l whole =
     filter-append (list_any (λ b. b == 10)) raws (raw ∷ [])
@@ -45,7 +56,8 @@ one_more_whole ended bytes rest raws raw unended l whole =
     ∙ ap (λ b. raws ++ cond b (raw ∷ []) []) (whole_line_has_feed raw whole)
 
 -- at the end of the input they are all lines
-pub all_taken : (ended : Bool) (bytes rest : List ℕ) (raws : List (List ℕ)) → LinesTaken ended bytes rest raws → rest ≡ [] → raw_lines_of bytes ≡ raws
+pub all_taken : (ended : Bool) (bytes rest : List ℕ) (raws : List (List ℕ)) → LinesTaken ended bytes
+    rest raws → rest ≡ [] → raw_lines_of bytes ≡ raws
 all_taken ended bytes rest raws l none =
     ap raw_lines_of (l.split ∙ ap (λ r. l.read ++ r) none ∙ append-nil l.read) ∙ l.read_lines
 
@@ -55,7 +67,8 @@ pub record WholeLinesRead (bytes rest : List ℕ) (raws : List (List ℕ)) : Typ
   pub split : bytes ≡ read ++ rest
   pub whole : filter (list_any (λ b. b == 10)) (raw_lines_of read) ≡ raws
 
-pub whole_lines_read : (ended : Bool) (bytes rest next : List ℕ) (raws : List (List ℕ)) → ended ≡ false → LinesTaken ended bytes rest raws → TakesPart rest next → WholeLinesRead bytes next raws
+pub whole_lines_read : (ended : Bool) (bytes rest next : List ℕ) (raws : List (List ℕ)) → ended ≡
+    false → LinesTaken ended bytes rest raws → TakesPart rest next → WholeLinesRead bytes next raws
 whole_lines_read ended bytes rest next raws unended l part = record {
   read = l.read ++ part.0;
   split = l.split ∙ ap (λ r. l.read ++ r) part.2 ∙ sym (append_assoc l.read part.0 next);

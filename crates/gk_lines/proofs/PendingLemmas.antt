@@ -5,7 +5,9 @@ use Rattle.std.proofs.lemmas.List.{drop-take, drop-drop}
 use Rattle.gk_lines.specs.LineReader.{CountsTurns, GaveBytes}
 
 -- bytes that are taken from the front of a part
-pub take-drop-taken : (bytes : List ℕ) (start end count : ℕ) → count ≤ end - start → take (end - (start + count)) (drop (start + count) bytes) ≡ drop count (take (end - start) (drop start bytes))
+pub take-drop-taken : (bytes : List ℕ) (start end count : ℕ) → count ≤ end - start → take
+    (end - (start + count)) (drop (start + count) bytes) ≡ drop count
+    (take (end - start) (drop start bytes))
 take-drop-taken bytes start end count h =
     let left : end - (start + count) ≡ (end - start) - count = omega (arith, h) in
     let whole : count + ((end - start) - count) ≡ end - start = omega (arith, h) in
@@ -21,7 +23,8 @@ turns_then a b c s t u first second small =
     second (subst (λ (n : ℕ). n < 2 ^ 64) (sym same) small) ∙ same
 
 -- bytes that the reader gave for the turns of one call after another
-pub gave_then : (a b c : Option (List ℕ)) (s t u : ℕ) → GaveBytes a b s t → GaveBytes b c t u → GaveBytes a c s u
+pub gave_then : (a b c : Option (List ℕ)) (s t u : ℕ) → GaveBytes a b s t → GaveBytes b c t u →
+    GaveBytes a c s u
 gave_then None b c s t u first second = tt
 gave_then (Some xs) None c s t u first second = absurd first
 gave_then (Some xs) (Some ys) None s t u first second = absurd second

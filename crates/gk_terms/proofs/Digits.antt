@@ -12,11 +12,13 @@ grows a [] = omega arith
 grows a (d ∷ ds) = omega (arith, grows (next_value a d) ds)
 
 -- one digit further
-pub value_of_more : (ds : List ℕ) (i d : ℕ) → i < length ds → value_of (take (i + 1) ds) ≡ 10 * value_of (take i ds) + (get_or ds i d - 48)
+pub value_of_more : (ds : List ℕ) (i d : ℕ) → i < length ds → value_of (take (i + 1) ds) ≡ 10 *
+    value_of (take i ds) + (get_or ds i d - 48)
 value_of_more ds i d h = fold_more next_value 0 ds i d h
 
 -- the value of a front, with the next digit, is at most that of all
-pub value_of_front : (ds : List ℕ) (i d : ℕ) → i < length ds → 10 * value_of (take i ds) + (get_or ds i d - 48) ≤ value_of ds
+pub value_of_front : (ds : List ℕ) (i d : ℕ) → i < length ds → 10 * value_of (take i ds) +
+    (get_or ds i d - 48) ≤ value_of ds
 value_of_front ds i d h =
     let front = take (i + 1) ds in
     let rest = drop (i + 1) ds in

@@ -37,7 +37,8 @@ module _ (book : Book) where
     h.0,
     λ (seat : ℕ) (seen : Seen) (at : get_elem? (views ++ [] ∷ []) seat ≡ some seen).
         ⊎_elim (h.1 seat seen)
-        (λ (e : [] ≡ seen). subst (λ (z : Seen). IsPrefix z (list_of shown)) e (list_of shown, refl))
+        (λ (e : [] ≡ seen). subst (λ (z : Seen). IsPrefix z (list_of shown)) e
+        (list_of shown, refl))
         (at_snoc views [] seen seat at),
   )
 

@@ -6,7 +6,9 @@ use Rattle.command_reader.specs.declared.commands.Command.{Command}
 use Rattle.command_reader.specs.declared.commands.Command.TheVariants.{ZoneLocal, ZoneRemote, ZonePrefix, GwTypePrefix, RejectUnknownPrefix, BandwidthDefault, BandwidthZone, BandwidthRemote}
 use Rattle.command_reader.specs.Zones.{first_local_of, is_local_command}
 
-one_more : (command : Command) (lines : List Command) → (is_some (first_local_of lines) ≡ list_any is_local_command lines) → is_some (first_local_of (command ∷ lines)) ≡ list_any is_local_command (command ∷ lines)
+one_more : (command : Command) (lines : List Command) →
+    (is_some (first_local_of lines) ≡ list_any is_local_command lines) → is_some
+    (first_local_of (command ∷ lines)) ≡ list_any is_local_command (command ∷ lines)
 one_more (ZoneLocal name domain address) lines h = refl
 one_more (ZoneRemote name domain address cost priority) lines h = h
 one_more (ZonePrefix zone pattern gateways) lines h = h
@@ -17,6 +19,7 @@ one_more (BandwidthZone kind zone size) lines h = h
 one_more (BandwidthRemote size) lines h = h
 
 -- a local zone is found if a command declares one
-pub some_local : (commands : List Command) → list_any is_local_command commands ≡ is_some (first_local_of commands)
+pub some_local : (commands : List Command) → list_any is_local_command commands ≡ is_some
+    (first_local_of commands)
 some_local [] = refl
 some_local (command ∷ commands) = sym (one_more command commands (sym (some_local commands)))

@@ -21,7 +21,8 @@ pub record IsSpelledBy (words : List (List ℕ)) (command : Command) : Type 0 wh
   pub same : command_words command ≡ words
   pub solid : AreWords words
 
-pub prints_as_read : (words : List (List ℕ)) (command : Command) → IsSpelledBy words command → command_at words ≡ Ok (Some command) → cost words ≤ 513 → IsSaidAgain command
+pub prints_as_read : (words : List (List ℕ)) (command : Command) → IsSpelledBy words command →
+    command_at words ≡ Ok (Some command) → cost words ≤ 513 → IsSaidAgain command
 prints_as_read words command s said fits = record {
   said = ap command_at s.same ∙ said;
   solid = subst AreWords (sym s.same) s.solid;
@@ -51,10 +52,15 @@ pub record IsSaid (line : List ℕ) (command : Command) : Type 0 where
   pub fits : cost (words_of line) ≤ 513
   pub said : command_at (words_of line) ≡ Ok (Some command)
 
-pub line_said : (line : List ℕ) (command : Command) → line_of line ≡ Ok (Some command) → IsSaid line command
+pub line_said : (line : List ℕ) (command : Command) → line_of line ≡ Ok (Some command) → IsSaid line
+    command
 unfolding line_of
 line_said line command h = by (is_too_long line) refl h
   where
-    by : (b : Bool) → is_too_long line ≡ b → cond b (Err TooLong) (command_at (words_of line)) ≡ Ok (Some command) → IsSaid line command
+    by : (b : Bool) → is_too_long line ≡ b → cond b (Err TooLong) (command_at (words_of line)) ≡ Ok
+        (Some command) → IsSaid line command
     by true e f = absurd (let no : ⊥ = cc in no)
-    by false e f = record { fits = omega (arith, cost_read line, ltb-false 512 (length line) e); said = f }
+    by false e f = record {
+      fits = omega (arith, cost_read line, ltb-false 512 (length line) e);
+      said = f;
+    }

@@ -21,48 +21,67 @@ use Rattle.command_reader.specs.Accepted.{is_word, canonical_line, PrintsBack, L
 use Rattle.command_reader.proofs.read_back.Words.{lines_back}
 
 -- ---- lines one after another
-lines_after-append : (xs ys : List (List ℕ)) (before read : Progress) → lines_after before xs ≡ Ok read → lines_after before (xs ++ ys) ≡ lines_after read ys
-lines_after-append [] ys before read h = let same : before ≡ read = cc in ap (λ b. lines_after b ys) same
-lines_after-append (x ∷ xs) ys before read h = by (λ p g. lines_after-append xs ys p read g) (line_after before x) h
+lines_after-append : (xs ys : List (List ℕ)) (before read : Progress) → lines_after before xs ≡ Ok
+    read → lines_after before (xs ++ ys) ≡ lines_after read ys
+lines_after-append [] ys before read h = let same : before ≡ read = cc in ap (λ b. lines_after b ys)
+    same
+lines_after-append (x ∷ xs) ys before read h = by (λ p g. lines_after-append xs ys p read g)
+    (line_after before x) h
   where
-    by : ((p : Progress) → lines_after p xs ≡ Ok read → lines_after p (xs ++ ys) ≡ lines_after read ys) → (o : Result Progress FaultKind)
-        → line_then (line_count before + 1) (λ p. lines_after p xs) o ≡ Ok read → line_then (line_count before + 1) (λ p. lines_after p (xs ++ ys)) o ≡ lines_after read ys
+    by : ((p : Progress) → lines_after p xs ≡ Ok read → lines_after p (xs ++ ys) ≡ lines_after read
+        ys) → (o : Result Progress FaultKind)
+        → line_then (line_count before + 1) (λ p. lines_after p xs) o ≡ Ok read → line_then
+        (line_count before + 1) (λ p. lines_after p (xs ++ ys)) o ≡ lines_after read ys
     by rest (Ok p) f = rest p f
     by rest (Err kind) f = absurd (let no : ⊥ = cc in no)
 
 -- a line that says a command without a fault
-line_kept : (before : Progress) (line : List ℕ) (command : Command) → line_count before < MOST_LINES → line_of line ≡ Ok (Some command)
-    → command_fault (commands_in before) command ≡ None → line_after before line ≡ Ok (with_command before command)
+line_kept : (before : Progress) (line : List ℕ) (command : Command) → line_count before < MOST_LINES
+    → line_of line ≡ Ok (Some command)
+    → command_fault (commands_in before) command ≡ None → line_after before line ≡ Ok
+    (with_command before command)
 unfolding line_after
 line_kept before line command room said free =
-    ap (λ b. cond b (Err TooMany) (said_after before (line_of line))) (lt-leb MOST_LINES (line_count before) room)
+    ap (λ b. cond b (Err TooMany) (said_after before (line_of line)))
+    (lt-leb MOST_LINES (line_count before) room)
     ∙ ap (said_after before) said
     ∙ ap (λ fault. unless_fault fault (with_command before command)) free
 
-line_then-ok : (n : ℕ) (r : Result Progress FaultKind) (read : Progress) → r ≡ Ok read → line_then n (λ p. lines_after p []) r ≡ Ok read
+line_then-ok : (n : ℕ) (r : Result Progress FaultKind) (read : Progress) → r ≡ Ok read → line_then n
+    (λ p. lines_after p []) r ≡ Ok read
 line_then-ok n r read h = ap (line_then n (λ p. lines_after p [])) h
 
-commands_more : (before : Progress) (command : Command) → commands_in (with_command before command) ≡ commands_in before ++ command ∷ []
+commands_more : (before : Progress) (command : Command) → commands_in (with_command before command)
+    ≡ commands_in before ++ command ∷ []
 commands_more before command =
-    map-append (λ n. n.command) before.kept ((record { line = line_count before + 1; command = command }) ∷ [])
+    map-append (λ n. n.command) before.kept ((record {
+      line = line_count before + 1;
+      command =
+          command;
+    }) ∷ [])
 
 -- ---- lines that say commands, one each
 pub none_said : LinesSay [] []
 none_said = record { read = nothing_read; whole = refl; same = refl; none_passed = refl }
 
 -- one more line, and its command
-pub one_more_said : (lines : List (List ℕ)) (line : List ℕ) (commands : List Command) (command : Command)
+pub one_more_said : (lines : List (List ℕ)) (line : List ℕ) (commands : List Command)
+    (command : Command)
     → LinesSay lines commands → length commands < MOST_LINES → line_of line ≡ Ok (Some command)
-    → command_fault commands command ≡ None → LinesSay (lines ++ line ∷ []) (commands ++ command ∷ [])
+    → command_fault commands command ≡ None → LinesSay (lines ++ line ∷ [])
+    (commands ++ command ∷ [])
 one_more_said lines line commands command says room said free =
-    let count : length says.read.kept ≡ length commands = sym (length-map says.read.kept (λ n. n.command)) ∙ ap length says.same in
+    let count : length says.read.kept ≡ length commands = sym
+    (length-map says.read.kept (λ n. n.command)) ∙ ap length says.same in
     let fewer : line_count says.read < MOST_LINES = omega (arith, count, says.none_passed, room) in
     let next : line_after says.read line ≡ Ok (with_command says.read command) =
-    line_kept says.read line command fewer said (ap (λ cs. command_fault cs command) says.same ∙ free) in
+    line_kept says.read line command fewer said (ap (λ cs. command_fault cs command) says.same ∙
+    free) in
     record {
       read = with_command says.read command;
       whole = lines_after-append lines (line ∷ []) nothing_read says.read says.whole
-          ∙ line_then-ok (line_count says.read + 1) (line_after says.read line) (with_command says.read command) next;
+          ∙ line_then-ok (line_count says.read + 1) (line_after says.read line)
+          (with_command says.read command) next;
       same = commands_more says.read command ∙ ap (λ cs. cs ++ command ∷ []) says.same;
       none_passed = says.none_passed;
     }
@@ -72,40 +91,52 @@ pub none_printable : IsPrintable []
 none_printable = record { each = All-nil PrintsBack; again = none_said }
 
 -- one more command
-pub one_more_printable : (commands : List Command) (command : Command) → IsPrintable commands → length commands < MOST_LINES → PrintsBack command
+pub one_more_printable : (commands : List Command) (command : Command) → IsPrintable commands →
+    length commands < MOST_LINES → PrintsBack command
     → command_fault commands command ≡ None → IsPrintable (commands ++ command ∷ [])
 one_more_printable commands command p room back free = record {
   each = All-push PrintsBack commands command p.each back;
-  again = subst (λ lines. LinesSay lines (commands ++ command ∷ [])) (sym (map-append canonical_line commands (command ∷ [])))
-      (one_more_said (map canonical_line commands) (canonical_line command) commands command p.again room back.said free);
+  again = subst (λ lines. LinesSay lines (commands ++ command ∷ []))
+      (sym (map-append canonical_line commands (command ∷ [])))
+      (one_more_said (map canonical_line commands) (canonical_line command) commands command p.again
+      room back.said free);
 }
 
 -- the same in the words of the reader
-pub kept_printable : (before : Progress) (command : Command) → IsPrintable (commands_in before) → line_count before < MOST_LINES → PrintsBack command
-    → command_fault (commands_in before) command ≡ None → IsPrintable (commands_in (with_command before command))
+pub kept_printable : (before : Progress) (command : Command) → IsPrintable (commands_in before) →
+    line_count before < MOST_LINES → PrintsBack command
+    → command_fault (commands_in before) command ≡ None → IsPrintable
+    (commands_in (with_command before command))
 kept_printable before command p room back free =
-    let count : length (commands_in before) ≡ length before.kept = length-map before.kept (λ n. n.command) in
+    let count : length (commands_in before) ≡ length before.kept = length-map before.kept
+    (λ n. n.command) in
     subst IsPrintable (sym (commands_more before command))
     (one_more_printable (commands_in before) command p (omega (arith, count, room)) back free)
 
 -- ---- the zones of all
 found_none : (p : Command → Bool) (kept : List NumberedCommand) (f : NumberedCommand → LineFault)
-    → option_map f (find (λ n. p n.command) kept) ≡ None → list_any p (map (λ n. n.command) kept) ≡ false
+    → option_map f (find (λ n. p n.command) kept) ≡ None → list_any p (map (λ n. n.command) kept) ≡
+    false
 found_none p [] f h = refl
 found_none p (n ∷ kept) f h = by (λ g. found_none p kept f g) (p n.command) h
   where
-    by : (option_map f (find (λ n. p n.command) kept) ≡ None → list_any p (map (λ n. n.command) kept) ≡ false) → (b : Bool)
-        → option_map f (cond b (Some n) (find (λ n. p n.command) kept)) ≡ None → b || list_any p (map (λ n. n.command) kept) ≡ false
+    by : (option_map f (find (λ n. p n.command) kept) ≡ None → list_any p
+        (map (λ n. n.command) kept) ≡ false) → (b : Bool)
+        → option_map f (cond b (Some n) (find (λ n. p n.command) kept)) ≡ None → b || list_any p
+        (map (λ n. n.command) kept) ≡ false
     by rest true g = absurd (let no : ⊥ = cc in no)
     by rest false g = rest g
 
 none_found : (p : Command → Bool) (kept : List NumberedCommand) (f : NumberedCommand → LineFault)
-    → list_any p (map (λ n. n.command) kept) ≡ false → option_map f (find (λ n. p n.command) kept) ≡ None
+    → list_any p (map (λ n. n.command) kept) ≡ false → option_map f (find (λ n. p n.command) kept) ≡
+    None
 none_found p [] f h = refl
 none_found p (n ∷ kept) f h = by (λ g. none_found p kept f g) (p n.command) h
   where
-    by : (list_any p (map (λ n. n.command) kept) ≡ false → option_map f (find (λ n. p n.command) kept) ≡ None) → (b : Bool)
-        → b || list_any p (map (λ n. n.command) kept) ≡ false → option_map f (cond b (Some n) (find (λ n. p n.command) kept)) ≡ None
+    by : (list_any p (map (λ n. n.command) kept) ≡ false → option_map f
+        (find (λ n. p n.command) kept) ≡ None) → (b : Bool)
+        → b || list_any p (map (λ n. n.command) kept) ≡ false → option_map f
+        (cond b (Some n) (find (λ n. p n.command) kept)) ≡ None
     by rest true g = absurd (let no : ⊥ = cc in no)
     by rest false g = rest g
 
@@ -115,61 +146,86 @@ pub record AreFinished (read : Progress) (configuration : Configuration) : Type 
   pub declared : list_any (names_unknown (commands_in read)) (commands_in read) ≡ false
   pub has_local : is_some (first_local_of (commands_in read)) ≡ true
 
-local_checked : (read : Progress) (configuration : Configuration) → local_zone_checked read ≡ Ok configuration
-    → list_any (names_unknown (commands_in read)) (commands_in read) ≡ false → AreFinished read configuration
-local_checked read configuration h declared = by (is_some (first_local_of (commands_in read))) refl h
+local_checked : (read : Progress) (configuration : Configuration) → local_zone_checked read ≡ Ok
+    configuration
+    → list_any (names_unknown (commands_in read)) (commands_in read) ≡ false → AreFinished read
+    configuration
+local_checked read configuration h declared = by (is_some (first_local_of (commands_in read))) refl
+    h
   where
     by : (b : Bool) → is_some (first_local_of (commands_in read)) ≡ b
-        → cond b (Ok (record { commands = commands_in read; passed = read.passed })) (Err (fault_at (line_count read + 1) NoLocalZone)) ≡ Ok configuration → AreFinished read configuration
+        → cond b (Ok (record { commands = commands_in read; passed = read.passed }))
+        (Err (fault_at (line_count read + 1) NoLocalZone)) ≡ Ok configuration → AreFinished read
+        configuration
     by true e f = record { same = cc; declared = declared; has_local = e }
     by false e f = absurd (let no : ⊥ = cc in no)
 
-pub finished_ok : (read : Progress) (configuration : Configuration) → finished read ≡ Ok configuration → AreFinished read configuration
+pub finished_ok : (read : Progress) (configuration : Configuration) → finished read ≡ Ok
+    configuration → AreFinished read configuration
 finished_ok read configuration h = by (unknown_zone read) refl h
   where
-    by : (o : Option LineFault) → unknown_zone read ≡ o → zones_checked read o ≡ Ok configuration → AreFinished read configuration
+    by : (o : Option LineFault) → unknown_zone read ≡ o → zones_checked read o ≡ Ok configuration →
+        AreFinished read configuration
     by (Some fault) e f = absurd (let no : ⊥ = cc in no)
-    by None e f = local_checked read configuration f (found_none (names_unknown (commands_in read)) read.kept (λ n. fault_at n.line UnknownZone) e)
+    by None e f = local_checked read configuration f (found_none (names_unknown (commands_in read))
+        read.kept (λ n. fault_at n.line UnknownZone) e)
 
 -- commands that were read to the end, and whose zones were found ok, are accepted
-pub accepted_lines : (read : Progress) → IsPrintable (commands_in read) → unknown_zone read ≡ None → is_some (first_local_of (commands_in read)) ≡ true
+pub accepted_lines : (read : Progress) → IsPrintable (commands_in read) → unknown_zone read ≡ None →
+    is_some (first_local_of (commands_in read)) ≡ true
     → IsAccepted (commands_in read)
 accepted_lines read p free has_local = record {
   printable = p;
-  declared = found_none (names_unknown (commands_in read)) read.kept (λ n. fault_at n.line UnknownZone) free;
+  declared = found_none (names_unknown (commands_in read)) read.kept
+      (λ n. fault_at n.line UnknownZone) free;
   has_local = has_local;
 }
 
-pub accepted : (read : Progress) (configuration : Configuration) → IsPrintable (commands_in read) → finished read ≡ Ok configuration → IsAccepted configuration.commands
+pub accepted : (read : Progress) (configuration : Configuration) → IsPrintable (commands_in read) →
+    finished read ≡ Ok configuration → IsAccepted configuration.commands
 accepted read configuration p h =
     let f = finished_ok read configuration h in
-    let is : IsAccepted (commands_in read) = record { printable = p; declared = f.declared; has_local = f.has_local } in
+    let is : IsAccepted (commands_in read) = record {
+      printable = p;
+      declared = f.declared;
+      has_local = f.has_local;
+    } in
     subst (λ (c : Configuration). IsAccepted c.commands) f.same is
 
 -- ---- the whole
-words_of_each : (lines : List Command) → AllByRecursion PrintsBack lines → list_all (λ c. list_all is_word (command_words c)) lines ≡ true
+words_of_each : (lines : List Command) → AllByRecursion PrintsBack lines → list_all
+    (λ c. list_all is_word (command_words c)) lines ≡ true
 words_of_each [] h = refl
 words_of_each (command ∷ lines) h = and_from _ _ h.0.words (words_of_each lines h.1)
 
-lines_printed : (lines : List Command) → IsPrintable lines → lines_of (text_of lines) ≡ map canonical_line lines
-lines_printed lines p = lines_back command_words lines (words_of_each lines (recursion_from_All PrintsBack lines p.each))
+lines_printed : (lines : List Command) → IsPrintable lines → lines_of (text_of lines) ≡ map
+    canonical_line lines
+lines_printed lines p = lines_back command_words lines (words_of_each lines
+    (recursion_from_All PrintsBack lines p.each))
 
 -- lines that say accepted commands are read as a configuration of them
-pub said_again : (lines : List (List ℕ)) (commands : List Command) → IsAccepted commands → LinesSay lines commands
+pub said_again : (lines : List (List ℕ)) (commands : List Command) → IsAccepted commands → LinesSay
+    lines commands
     → reading_in lines ≡ Ok (record { commands = commands; passed = 0 })
 said_again lines commands a says =
     let read : Progress = says.read in
-    let declared : list_any (names_unknown (commands_in read)) (commands_in read) ≡ false = ap (λ cs. list_any (names_unknown cs) cs) says.same ∙ a.declared in
-    let has_local : is_some (first_local_of (commands_in read)) ≡ true = ap (λ cs. is_some (first_local_of cs)) says.same ∙ a.has_local in
-    let configuration : Configuration = record { commands = commands_in read; passed = read.passed } in
+    let declared : list_any (names_unknown (commands_in read)) (commands_in read) ≡ false = ap
+    (λ cs. list_any (names_unknown cs) cs) says.same ∙ a.declared in
+    let has_local : is_some (first_local_of (commands_in read)) ≡ true = ap
+    (λ cs. is_some (first_local_of cs)) says.same ∙ a.has_local in
+    let configuration : Configuration = record { commands = commands_in read; passed = read.passed }
+    in
     ap whole_of says.whole
-    ∙ ap (zones_checked read) (none_found (names_unknown (commands_in read)) read.kept (λ n. fault_at n.line UnknownZone) declared)
-    ∙ ap (λ b. cond b (Ok configuration) (Err (fault_at (line_count read + 1) NoLocalZone))) has_local
+    ∙ ap (zones_checked read) (none_found (names_unknown (commands_in read)) read.kept
+    (λ n. fault_at n.line UnknownZone) declared)
+    ∙ ap (λ b. cond b (Ok configuration) (Err (fault_at (line_count read + 1) NoLocalZone)))
+    has_local
     ∙ ap (λ cs. Ok (record { commands = cs; passed = read.passed })) says.same
     ∙ ap (λ n. Ok (record { commands = commands; passed = n })) says.none_passed
 
 -- what is printed of accepted commands reads as those commands, with nothing passed over
-pub file_back : (commands : List Command) → IsAccepted commands → reading_of (text_of commands) ≡ Ok (record { commands = commands; passed = 0 })
+pub file_back : (commands : List Command) → IsAccepted commands → reading_of (text_of commands) ≡ Ok
+    (record { commands = commands; passed = 0 })
 unfolding reading_of
 file_back commands a =
     ap (λ ls. whole_of (lines_after nothing_read ls)) (lines_printed commands a.printable)

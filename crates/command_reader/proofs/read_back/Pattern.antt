@@ -32,14 +32,25 @@ length_star false = refl
 pattern_solid : (p : PatternParts) → IsPattern p → is_word (pattern_text p) ≡ true
 pattern_solid p h =
     let dots : List ℕ = replicate p.dots 46 in
-    let a = and_parts (list_all is_ascii_digit p.literals && nat_le 1 (character_count p)) (nat_le (character_count p) 32) h in
+    let a = and_parts (list_all is_ascii_digit p.literals && nat_le 1 (character_count p))
+    (nat_le (character_count p) 32) h in
     let b = and_parts (list_all is_ascii_digit p.literals) (nat_le 1 (character_count p)) a.0 in
     let some : 1 ≤ character_count p = leb-true 1 (character_count p) b.1 in
     let front : list_all is_visible (p.literals ++ dots) ≡ true =
-    list_all-append is_visible p.literals dots ∙ and_from _ _ (visible_digits p.literals b.0) (visible_dots p.dots) in
+    list_all-append is_visible p.literals dots ∙ and_from _ _ (visible_digits p.literals b.0)
+    (visible_dots p.dots) in
     word_from (pattern_text p)
-    (omega (arith, some, length-append (p.literals ++ dots) (star_text p.star), length-append p.literals dots, length-replicate {A = ℕ} p.dots 46, length_star p.star))
-    (list_all-append is_visible (p.literals ++ dots) (star_text p.star) ∙ and_from _ _ front (visible_star p.star))
+    (omega (
+      arith,
+      some,
+      length-append (p.literals ++ dots) (star_text p.star),
+      length-append
+          p.literals dots,
+      length-replicate {A = ℕ} p.dots 46,
+      length_star p.star,
+    ))
+    (list_all-append is_visible (p.literals ++ dots) (star_text p.star) ∙ and_from _ _ front
+    (visible_star p.star))
 
 -- a pattern that was read: its text
 pub record IsPatternOf (word : List ℕ) (p : PatternParts) : Type 0 where
@@ -47,7 +58,8 @@ pub record IsPatternOf (word : List ℕ) (p : PatternParts) : Type 0 where
   pub solid : is_word (pattern_text p) ≡ true
   pub spelled : pattern_of (pattern_text p) ≡ Some p
 
-pub pattern_read : (word : List ℕ) (p : PatternParts) → pattern_of word ≡ Some p → IsPatternOf word p
+pub pattern_read : (word : List ℕ) (p : PatternParts) → pattern_of word ≡ Some p → IsPatternOf word
+    p
 pattern_read word p h =
     let s = pattern_of-spelled word p h in
     record { same = s.1; solid = pattern_solid p s.0; spelled = ap pattern_of s.1 ∙ h }

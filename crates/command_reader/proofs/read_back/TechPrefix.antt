@@ -15,14 +15,16 @@ use Rattle.command_reader.proofs.read_back.Numbers.{then_some-parts}
 no_star : (b : ℕ) → is_technology_byte b ≡ true → (b == 42) ≡ false
 no_star b h = grind (arith, nat_tests)
 
-no_star_at : (text : List ℕ) (i : ℕ) → list_all is_technology_byte text ≡ true → (slice_index text i == 42) ≡ false
+no_star_at : (text : List ℕ) (i : ℕ) → list_all is_technology_byte text ≡ true →
+    (slice_index text i == 42) ≡ false
 no_star_at [] i h = refl
 no_star_at (b ∷ bs) zero h = no_star b (and_parts _ _ h).0
 no_star_at (b ∷ bs) (suc i) h = no_star_at bs i (and_parts _ _ h).1
 
 -- a text without a star keeps its last byte
 starless : (text : List ℕ) → list_all is_technology_byte text ≡ true → without_star text ≡ text
-starless text h = ap (λ b. cond b (take (length text - 1) text) text) (no_star_at text (length text - 1) h)
+starless text h = ap (λ b. cond b (take (length text - 1) text) text)
+    (no_star_at text (length text - 1) h)
 
 no_longer : (text : List ℕ) → length (without_star text) ≤ length text
 no_longer text = by (slice_index text (length text - 1) == 42)
@@ -39,17 +41,26 @@ pub record IsTechPrefixOf (word prefix : List ℕ) : Type 0 where
 
 tech_prefix_back : (prefix : List ℕ) → is_tech_prefix prefix ≡ true → IsTechPrefixOf prefix prefix
 tech_prefix_back prefix h =
-    let p = and_parts (nat_le 1 (length prefix) && nat_le (length prefix) 11) (list_all is_technology_byte prefix) h in
+    let p = and_parts (nat_le 1 (length prefix) && nat_le (length prefix) 11)
+    (list_all is_technology_byte prefix) h in
     let q = and_parts (nat_le 1 (length prefix)) (nat_le (length prefix) 11) p.0 in
     let same : without_star prefix ≡ prefix = starless prefix p.1 in
     record {
-      solid = word_from prefix (omega (arith, leb-true _ _ q.0)) (visible_from_tech_prefix prefix h);
-      spelled = ap (λ text. then_some (is_tech_prefix text) text) same ∙ ap (λ b. then_some b prefix) h;
+      solid = word_from prefix (omega (arith, leb-true _ _ q.0))
+          (visible_from_tech_prefix prefix h);
+      spelled = ap (λ text. then_some (is_tech_prefix text) text) same ∙ ap
+          (λ b. then_some b prefix) h;
       short = omega arith;
     }
 
-pub tech_prefix_read : (word prefix : List ℕ) → tech_prefix_of word ≡ Some prefix → IsTechPrefixOf word prefix
+pub tech_prefix_read : (word prefix : List ℕ) → tech_prefix_of word ≡ Some prefix → IsTechPrefixOf
+    word prefix
 tech_prefix_read word prefix h =
     let t = then_some-parts (is_tech_prefix (without_star word)) (without_star word) prefix h in
     let back = tech_prefix_back prefix (ap is_tech_prefix (sym t.1) ∙ t.0) in
-    record { solid = back.solid; spelled = back.spelled; short = subst (λ text. length text ≤ length word) t.1 (no_longer word) }
+    record {
+      solid = back.solid;
+      spelled = back.spelled;
+      short = subst
+          (λ text. length text ≤ length word) t.1 (no_longer word);
+    }

@@ -41,7 +41,8 @@ record IsTechnology (words : List (List ℕ)) (command : Command) : Type 0 where
   names : AreNamed options.hopoffs
   fits : cost (tail_of prefix options) ≤ cost words
 
-technology_read : (words : List (List ℕ)) (command : Command) → gw_type_prefix_at words ≡ Ok command → IsTechnology words command
+technology_read : (words : List (List ℕ)) (command : Command) → gw_type_prefix_at words ≡ Ok command
+    → IsTechnology words command
 technology_read words command h =
     let p = bound (field Missing tech_prefix_of BadPattern words) after_prefix command h in
     let f = field_read [] tech_prefix_of BadPattern words p.value p.read in
@@ -58,17 +59,22 @@ technology_read words command h =
       fits = omega (arith, options.fits, prefix.short, ap cost f.whole);
     }
 
-tail_again : (words : List (List ℕ)) (command : Command) (r : IsTechnology words command) → gw_type_prefix_at (tail_of r.prefix r.options) ≡ Ok command
+tail_again : (words : List (List ℕ)) (command : Command) (r : IsTechnology words command) →
+    gw_type_prefix_at (tail_of r.prefix r.options) ≡ Ok command
 tail_again words command r =
-    let rest : List (List ℕ) = hopoff_words r.options.hopoffs ++ default_words r.options.is_default in
-    bind_at (field Missing tech_prefix_of BadPattern (r.prefix ∷ rest)) after_prefix (r.prefix, rest)
-    (field_again [] tech_prefix_of BadPattern r.prefix rest r.prefix (record { kept = refl; spelled = r.prefix_spelled }))
+    let rest : List (List ℕ) = hopoff_words r.options.hopoffs ++ default_words r.options.is_default
+    in
+    bind_at (field Missing tech_prefix_of BadPattern (r.prefix ∷ rest)) after_prefix
+    (r.prefix, rest)
+    (field_again [] tech_prefix_of BadPattern r.prefix rest r.prefix
+    (record { kept = refl; spelled = r.prefix_spelled }))
     ∙ bind_at (options_at AnOption rest) (after_options r.prefix) r.options
     (options_again r.options.hopoffs r.options.is_default r.names)
     ∙ ap (λ c. Ok c) r.is
 
 -- a `gw-type-prefix` line prints back
-pub gw_type_prefix_back : (words : List (List ℕ)) (command : Command) → gw_type_prefix_at words ≡ Ok command
+pub gw_type_prefix_back : (words : List (List ℕ)) (command : Command) → gw_type_prefix_at words ≡ Ok
+    command
     → cost (codes "gw-type-prefix" ∷ words) ≤ 513 → IsSaidAgain command
 gw_type_prefix_back words command h fits =
     let r = technology_read words command h in
@@ -77,6 +83,7 @@ gw_type_prefix_back words command h fits =
     let short : cost (codes "gw-type-prefix" ∷ tail) ≤ 513 = omega (arith, fits, r.fits) in
     record {
       said = ap command_at (sym same) ∙ ap kept_command_of (tail_again words command r);
-      solid = subst AreWords same (and_from _ _ r.prefix_solid (options_solid r.options.hopoffs r.options.is_default r.names));
+      solid = subst AreWords same (and_from _ _ r.prefix_solid
+          (options_solid r.options.hopoffs r.options.is_default r.names));
       fits = subst (λ ws. cost ws ≤ 513) same short;
     }

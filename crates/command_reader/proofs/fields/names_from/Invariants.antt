@@ -5,4 +5,5 @@ use Rattle.command_reader.proofs.fields.names_from.Given as goal
 
 -- the words before those left are names, and they are held
 abbrev pub invariant-loop-word : goal.invariant-loop-word
-invariant-loop-word l = AreNames (l.fn.first ∷ words_of l.fn.words) (words_of l.word-iterator) l.names
+invariant-loop-word l = AreNames (l.fn.first ∷ words_of l.fn.words) (words_of l.word-iterator)
+    l.names

@@ -13,9 +13,12 @@ loop-command-preserved g c =
     let item = c.command-item.result in
     let bytes = c.as_bytes.ensures ∙ c.make_line.ensures ∙ ap line_of_command c.command-item.is in
     record {
-      written = line_more (contents c.args.writer.now) (contents c.loop-command.writer) (contents c.write_whole.new.sink) commands
-          c.loop-command.command-index item c.loop-command-test.true c.loop-command.invariant.written
-          (subst (Appends (contents c.loop-command.writer) (contents c.write_whole.new.sink)) bytes c.in_ok-write_whole.ensures.whole);
+      written = line_more (contents c.args.writer.now) (contents c.loop-command.writer)
+          (contents c.write_whole.new.sink) commands
+          c.loop-command.command-index item c.loop-command-test.true
+          c.loop-command.invariant.written
+          (subst (Appends (contents c.loop-command.writer) (contents c.write_whole.new.sink)) bytes
+          c.in_ok-write_whole.ensures.whole);
       noted = c.in_ok-write_whole.ensures.noted ∙ c.loop-command.invariant.noted;
     }
 
@@ -26,16 +29,20 @@ returns-in_err-write_whole-clause-front g c =
     let item = c.command-item.result in
     let bytes = c.as_bytes.ensures ∙ c.make_line.ensures ∙ ap line_of_command c.command-item.is in
     OnErr-from c.from_residual.result _
-    (front_of_all (contents c.args.writer.now) (contents c.loop-command.writer) (contents c.write_whole.new.sink) commands
+    (front_of_all (contents c.args.writer.now) (contents c.loop-command.writer)
+    (contents c.write_whole.new.sink) commands
     c.loop-command.command-index item c.loop-command-test.true c.loop-command.invariant.written
-    (subst (AppendsFront (contents c.loop-command.writer) (contents c.write_whole.new.sink)) bytes c.in_err-write_whole.ensures.front))
+    (subst (AppendsFront (contents c.loop-command.writer) (contents c.write_whole.new.sink)) bytes
+    c.in_err-write_whole.ensures.front))
 
 pub returns : goal.returns
 returns g c =
     let contents = g.W.Sink.contents in
     record {
-      whole = subst (λ ns. Appends (contents c.args.writer.now) (contents c.loop-command.writer) (text_of ns))
-          (take_all c.loop-command.command-index c.args.commands.now c.loop-command-test.false) c.loop-command.invariant.written;
+      whole = subst (λ ns. Appends (contents c.args.writer.now) (contents c.loop-command.writer)
+          (text_of ns))
+          (take_all c.loop-command.command-index c.args.commands.now c.loop-command-test.false)
+          c.loop-command.invariant.written;
       front = tt;
       noted = c.loop-command.invariant.noted;
     }

@@ -8,4 +8,5 @@ use Rattle.command_reader.proofs.reading.lines_in.Given as goal
 -- whatever may be answered of the lines that are left, after those read, may be answered of all lines
 abbrev pub invariant-loop-line : goal.invariant-loop-line
 invariant-loop-line l =
-    (end : Result Progress LineFault) → MayReadOn l.draft (lines_of l.line-iterator) end → MayReadOn nothing_read (lines_of l.fn.bytes) end
+    (end : Result Progress LineFault) → MayReadOn l.draft (lines_of l.line-iterator) end → MayReadOn
+    nothing_read (lines_of l.fn.bytes) end

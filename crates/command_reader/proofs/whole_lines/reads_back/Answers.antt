@@ -7,5 +7,9 @@ use Rattle.command_reader.proofs.whole_lines.reads_back.Goals as goal
 pub returns-then-bytes_before_feed-line : goal.returns-then-bytes_before_feed-line
 returns-then-bytes_before_feed-line c = λ other rest.
     line_first c.args.line.now rest
-    (HasNoFeed-whole c.args.line.now (omega (arith, c.bytes_before_feed.ensures.value, c.if-bytes_before_feed-line.true)))
+    (HasNoFeed-whole c.args.line.now (omega (
+      arith,
+      c.bytes_before_feed.ensures.value,
+      c.if-bytes_before_feed-line.true,
+    )))
     (sym c.ends_with_return.ensures ∙ not-true c.ends_with_return.result other)

@@ -15,7 +15,8 @@ pub returns-then-eq : goal.returns-then-eq
 returns-then-eq c = λ place row at.
     let zones = c.args.zones.now.entries in
     ap (is_about zones row) c.in_ok-row.ensures
-    ∙ about_some zones c.args.rows.now.entries (c.in_ok-row.row.0.now, c.in_ok-row.row.1.now) c.in_ok-place.place
+    ∙ about_some zones c.args.rows.now.entries (c.in_ok-row.row.0.now, c.in_ok-row.row.1.now)
+    c.in_ok-place.place
     c.in_ok-picked.field-0-0.now c.in_ok-picked.picked.now _ c.get_index_of.ensures.unique
     (sym c.get_index_of.ensures.index ∙ c.in_ok-place.was)
     (sym c.in_ok-picked.ensures.entry)
@@ -26,7 +27,8 @@ pub returns-else-eq : goal.returns-else-eq
 returns-else-eq c = λ place row at.
     let zones = c.args.zones.now.entries in
     ap (is_about zones row) c.in_ok-row.ensures
-    ∙ about_some zones c.args.rows.now.entries (c.in_ok-row.row.0.now, c.in_ok-row.row.1.now) c.in_ok-place.place
+    ∙ about_some zones c.args.rows.now.entries (c.in_ok-row.row.0.now, c.in_ok-row.row.1.now)
+    c.in_ok-place.place
     c.in_ok-picked.field-0-0.now c.in_ok-picked.picked.now _ c.get_index_of.ensures.unique
     (sym c.get_index_of.ensures.index ∙ c.in_ok-place.was)
     (sym c.in_ok-picked.ensures.entry)

@@ -9,8 +9,10 @@ invariant-loop-read g l =
     let remaining = g.R.Source.remaining in
     record {
       ended : AtEndIfEnded l.lines (remaining l.reader);
-      under_way : KnownStep (left_of l.fn.lines (remaining l.fn.reader)) (left_of l.lines (remaining l.reader)) (IsReading l.until l.lines.ended l.read);
-      turns : CountsTurns (g.R.Source.calls l.fn.reader) (g.R.Source.calls l.reader) l.fn.lines.turns l.lines.turns;
+      under_way : KnownStep (left_of l.fn.lines (remaining l.fn.reader))
+          (left_of l.lines (remaining l.reader)) (IsReading l.until l.lines.ended l.read);
+      turns : CountsTurns (g.R.Source.calls l.fn.reader) (g.R.Source.calls l.reader)
+          l.fn.lines.turns l.lines.turns;
       noted : g.R.Source.has_failed l.reader ≡ g.R.Source.has_failed l.fn.reader;
     }
 

@@ -5,4 +5,5 @@ use Rattle.digit_patterns.proofs.tables.best_row.Given as goal
 
 abbrev pub invariant-loop-row : goal.invariant-loop-row
 invariant-loop-row l =
-    l.best ≡ fold (better ranks_above) None (filter (row_matches (drop l.from l.dialled)) (take l.row-index l.rows))
+    l.best ≡ fold (better ranks_above) None (filter (row_matches (drop l.from l.dialled))
+    (take l.row-index l.rows))

@@ -16,4 +16,5 @@ returns-then-end-text c =
 
 pub returns-else-end-text : goal.returns-else-end-text
 returns-else-end-text c =
-    one_part (λ b. b == c.args.separator) c.args.text.now (omega (arith, c.length_before-end.ensures))
+    one_part (λ b. b == c.args.separator) c.args.text.now
+    (omega (arith, c.length_before-end.ensures))

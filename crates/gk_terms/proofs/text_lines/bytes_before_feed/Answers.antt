@@ -10,4 +10,5 @@ returns-in-Some-clause-value c =
 
 pub returns-in-None-clause-value : goal.returns-in-None-clause-value
 returns-in-None-clause-value c =
-    first_of_none (λ b. b == 10) c.args.text.now (λ k within. c.in-None.ensures k (omega arith) within)
+    first_of_none (λ b. b == 10) c.args.text.now (λ k within. c.in-None.ensures k (omega arith)
+    within)

@@ -4,7 +4,8 @@ use Rattle.gk_terms.proofs.text_lines.first_line.Goals as goal
 
 pub returns-then-end-text : goal.returns-then-end-text
 returns-then-end-text c =
-    rw (c.split_at.ensures.front, c.split_at.ensures.back, c.bytes_before_feed-end.ensures.value) (line_to_feed c.args.text.now c.requires)
+    rw (c.split_at.ensures.front, c.split_at.ensures.back, c.bytes_before_feed-end.ensures.value)
+    (line_to_feed c.args.text.now c.requires)
 
 pub returns-else-end-text : goal.returns-else-end-text
 returns-else-end-text c =

@@ -10,7 +10,8 @@ pub split_at-requires : goal.split_at-requires
 split_at-requires c = rw c.blanks_in_front.ensures (prefix_len-le-length is_blank c.args.line.now)
 
 pub split_at-requires-2 : goal.split_at-requires-2
-split_at-requires-2 c = rw c.length_of_word.ensures (prefix_len-le-length (λ b. not (is_blank b)) c.split_at.result.1.now)
+split_at-requires-2 c = rw c.length_of_word.ensures (prefix_len-le-length (λ b. not (is_blank b))
+    c.split_at.result.1.now)
 
 pub returns-clause-word : goal.returns-clause-word
 returns-clause-word c h =
@@ -27,4 +28,5 @@ returns-clause-none c h =
     let e : rest ≡ drop (prefix_len is_blank c.args.line.now) c.args.line.now =
     c.split_at.ensures.back ∙ ap (λ n. drop n c.args.line.now) c.blanks_in_front.ensures in
     let n : c.length_of_word.result ≡ position_or_len is_blank rest = c.length_of_word.ensures in
-    no_word c.args.line.now (ap (position_or_len is_blank) (sym e) ∙ sym n ∙ omega (arith, c.split_at-2.ensures.front_len))
+    no_word c.args.line.now (ap (position_or_len is_blank) (sym e) ∙ sym n ∙ omega
+    (arith, c.split_at-2.ensures.front_len))

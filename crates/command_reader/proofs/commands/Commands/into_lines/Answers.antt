@@ -7,4 +7,5 @@ use Rattle.command_reader.proofs.commands.Commands.into_lines.Goals as goal
 pub new-requires : goal.new-requires
 new-requires c =
     says_just_them c.in-Some.lines c.self.inside.commands.items c.self.invariant.1
-    (subst (λ kept. IfSome kept (λ lines. LinesSay lines c.self.inside.commands.items)) c.in-Some.is c.self.invariant.2)
+    (subst (λ kept. IfSome kept (λ lines. LinesSay lines c.self.inside.commands.items)) c.in-Some.is
+    c.self.invariant.2)

@@ -5,6 +5,8 @@ use Rattle.command_reader.proofs.draft.Draft.declares.Goals as goal
 
 pub returns : goal.returns
 returns c =
-    let same = held_commands c.self.inside.kept.numbers.items _ _ _ c.self.invariant.0 c.self.view_is in
+    let same = held_commands c.self.inside.kept.numbers.items _ _ _ c.self.invariant.0
+    c.self.view_is in
     let h = c.contains.ensures in
-    c.contains.ensures ∙ c.self.invariant.2.same c.args.name.now ∙ ap (λ cs. is_declared cs c.args.name.now) (sym same)
+    c.contains.ensures ∙ c.self.invariant.2.same c.args.name.now ∙ ap
+    (λ cs. is_declared cs c.args.name.now) (sym same)

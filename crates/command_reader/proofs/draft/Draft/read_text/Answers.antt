@@ -17,10 +17,20 @@ use Rattle.command_reader.proofs.draft.Draft.read_text.Goals as goal
 pub returns-in_err-add_line : goal.returns-in_err-add_line
 returns-in_err-add_line c =
     let p = err_from_is_err_and c.from_residual.result c.from_residual.ensures.1 in
-    let room : line_count c.args.self.now < MOST_LINES = omega (arith, c.if-before-ge-MOST_LINES.false, c.line_count-before.ensures.count) in
-    let same = held_commands c.self.inside.kept.numbers.items _ _ _ c.self.invariant.0 c.self.view_is in
-    let declared = subst (AreDeclared (keys c.self.inside.kept.declared)) (sym same) c.self.invariant.2 in
-    let old : Kept = record { commands = c.self.inside.kept.commands; numbers = c.self.inside.kept.numbers; declared = c.self.inside.kept.declared; line = c.line_count-before.result + 1 } in
+    let room : line_count c.args.self.now < MOST_LINES = omega
+    (arith, c.if-before-ge-MOST_LINES.false, c.line_count-before.ensures.count) in
+    let same = held_commands c.self.inside.kept.numbers.items _ _ _ c.self.invariant.0
+    c.self.view_is in
+    let declared = subst (AreDeclared (keys c.self.inside.kept.declared)) (sym same)
+    c.self.invariant.2 in
+    let old : Kept = record {
+      commands = c.self.inside.kept.commands;
+      numbers =
+          c.self.inside.kept.numbers;
+      declared = c.self.inside.kept.declared;
+      line =
+          c.line_count-before.result + 1;
+    } in
     rw (p.1, p.2) (
       line_refused old c.args.self.now c.args.line.now _ room declared c.in_err-add_line.ensures.0,
       rw (c.in_err-add_line.ensures.1.commands, c.in_err-add_line.ensures.1.numbers) c.self.view_is,
@@ -28,45 +38,99 @@ returns-in_err-add_line c =
 
 pub invariant_of-self-then-len-commands_before : goal.invariant_of-self-then-len-commands_before
 invariant_of-self-then-len-commands_before c =
-    let room : line_count c.args.self.now < MOST_LINES = omega (arith, c.if-before-ge-MOST_LINES.false, c.line_count-before.ensures.count) in
+    let room : line_count c.args.self.now < MOST_LINES = omega
+    (arith, c.if-before-ge-MOST_LINES.false, c.line_count-before.ensures.count) in
     let commands = c.self.inside.kept.commands.items in
     let numbers = c.self.inside.kept.numbers.items in
     let same = held_commands numbers _ _ _ c.self.invariant.0 c.self.view_is in
-    let declared = subst (AreDeclared (keys c.self.inside.kept.declared)) (sym same) c.self.invariant.2 in
-    let old : Kept = record { commands = c.self.inside.kept.commands; numbers = c.self.inside.kept.numbers; declared = c.self.inside.kept.declared; line = c.line_count-before.result + 1 } in
-    let more : length commands < length c.add_line.new.kept.commands.items = omega (arith, c.if-len-commands_before.true, c.len.ensures, c.len-commands_before.ensures) in
-    let kept = line_kept old c.add_line.new.kept c.args.self.now c.args.line.now room declared c.in_ok-add_line.ensures more in
+    let declared = subst (AreDeclared (keys c.self.inside.kept.declared)) (sym same)
+    c.self.invariant.2 in
+    let old : Kept = record {
+      commands = c.self.inside.kept.commands;
+      numbers =
+          c.self.inside.kept.numbers;
+      declared = c.self.inside.kept.declared;
+      line =
+          c.line_count-before.result + 1;
+    } in
+    let more : length commands < length c.add_line.new.kept.commands.items = omega
+    (arith, c.if-len-commands_before.true, c.len.ensures, c.len-commands_before.ensures) in
+    let kept = line_kept old c.add_line.new.kept c.args.self.now c.args.line.now room declared
+    c.in_ok-add_line.ensures more in
     let count = held_count numbers _ _ _ c.self.invariant.0 c.self.view_is in
-    let one_command : length c.add_line.new.kept.commands.items ≡ length commands + 1 = ap length kept.added.commands ∙ length-append commands _ in
-    let one_number : length c.add_line.new.kept.numbers.items ≡ length numbers + 1 = ap length kept.added.numbers ∙ length-append numbers _ in
-    let free = sym (same_fault (keys c.self.inside.kept.declared) commands kept.command c.self.invariant.2) ∙ kept.added.free in
+    let one_command : length c.add_line.new.kept.commands.items ≡ length commands + 1 = ap length
+    kept.added.commands ∙ length-append commands _ in
+    let one_number : length c.add_line.new.kept.numbers.items ≡ length numbers + 1 = ap length
+    kept.added.numbers ∙ length-append numbers _ in
+    let free = sym (same_fault (keys c.self.inside.kept.declared) commands kept.command
+    c.self.invariant.2) ∙ kept.added.free in
     let back = command_back c.args.line.now kept.command kept.said in (
       omega (arith, one_command, one_number, c.self.invariant.0),
       omega (arith, room, one_command, count),
       rw kept.added.commands (one_more_declared _ _ _ _ c.self.invariant.2 kept.added.declared),
-      rw kept.added.commands (one_more_printable commands kept.command c.self.invariant.3 (omega (arith, room, count)) back free),
-      rw kept.added.commands (one_more_kept c.self.inside.command_lines c.args.line.now _ commands kept.command c.self.invariant.4 (subst (λ lines. KeepsLine lines c.args.line.now c.keep_line.result) c.take.ensures.value c.keep_line.ensures) (omega (arith, room, count)) kept.said free),
+      rw kept.added.commands (one_more_printable commands kept.command c.self.invariant.3
+          (omega (arith, room, count)) back free),
+      rw kept.added.commands (one_more_kept c.self.inside.command_lines c.args.line.now _ commands
+          kept.command c.self.invariant.4 (subst (λ lines. KeepsLine lines c.args.line.now
+          c.keep_line.result) c.take.ensures.value c.keep_line.ensures) (omega (arith, room, count))
+          kept.said free),
     )
 
 pub returns-then-len-commands_before : goal.returns-then-len-commands_before
 returns-then-len-commands_before c =
-    let room : line_count c.args.self.now < MOST_LINES = omega (arith, c.if-before-ge-MOST_LINES.false, c.line_count-before.ensures.count) in
+    let room : line_count c.args.self.now < MOST_LINES = omega
+    (arith, c.if-before-ge-MOST_LINES.false, c.line_count-before.ensures.count) in
     let numbers = c.self.inside.kept.numbers.items in
     let same = held_commands numbers _ _ _ c.self.invariant.0 c.self.view_is in
-    let declared = subst (AreDeclared (keys c.self.inside.kept.declared)) (sym same) c.self.invariant.2 in
-    let old : Kept = record { commands = c.self.inside.kept.commands; numbers = c.self.inside.kept.numbers; declared = c.self.inside.kept.declared; line = c.line_count-before.result + 1 } in
-    let more : length c.self.inside.kept.commands.items < length c.add_line.new.kept.commands.items = omega (arith, c.if-len-commands_before.true, c.len.ensures, c.len-commands_before.ensures) in
-    let kept = line_kept old c.add_line.new.kept c.args.self.now c.args.line.now room declared c.in_ok-add_line.ensures more in
+    let declared = subst (AreDeclared (keys c.self.inside.kept.declared)) (sym same)
+    c.self.invariant.2 in
+    let old : Kept = record {
+      commands = c.self.inside.kept.commands;
+      numbers =
+          c.self.inside.kept.numbers;
+      declared = c.self.inside.kept.declared;
+      line =
+          c.line_count-before.result + 1;
+    } in
+    let more : length c.self.inside.kept.commands.items < length c.add_line.new.kept.commands.items
+    = omega (arith, c.if-len-commands_before.true, c.len.ensures, c.len-commands_before.ensures)
+    in
+    let kept = line_kept old c.add_line.new.kept c.args.self.now c.args.line.now room declared
+    c.in_ok-add_line.ensures more in
     let added =
-    held_more numbers c.add_line.new.kept.numbers.items c.self.inside.kept.commands.items c.add_line.new.kept.commands.items _ c.line_count-before.result c.args.self.now kept.command
-    c.self.invariant.0 c.self.view_is c.line_count-before.ensures.count kept.added.commands kept.added.numbers in
+    held_more numbers c.add_line.new.kept.numbers.items c.self.inside.kept.commands.items
+    c.add_line.new.kept.commands.items _ c.line_count-before.result c.args.self.now kept.command
+    c.self.invariant.0 c.self.view_is c.line_count-before.ensures.count kept.added.commands
+    kept.added.numbers in
     kept.after ∙ ap (λ (r : Progress). Ok r) added
 
 pub invariant_of-self-2 : goal.invariant_of-self-2
 invariant_of-self-2 c =
-    let room : line_count c.args.self.now < MOST_LINES = omega (arith, c.if-before-ge-MOST_LINES.false, c.line_count-before.ensures.count) in
-    let count = held_count c.self.inside.kept.numbers.items _ _ _ c.self.invariant.0 c.self.view_is in
-    let old : Kept = record { commands = c.self.inside.kept.commands; numbers = c.self.inside.kept.numbers; declared = c.self.inside.kept.declared; line = c.line_count-before.result + 1 } in
-    let passed = line_passed old c.add_line.new.kept c.args.self.now c.args.line.now room c.in_ok-add_line.ensures
-    (λ more. absurd (omega (arith, c.if-len-commands_before.false, c.len.ensures, c.len-commands_before.ensures, more))) in
-    rw (passed.same.commands, passed.same.numbers, passed.same.declared) (c.self.invariant.0, omega (arith, room, count), c.self.invariant.2, c.self.invariant.3, c.self.invariant.4)
+    let room : line_count c.args.self.now < MOST_LINES = omega
+    (arith, c.if-before-ge-MOST_LINES.false, c.line_count-before.ensures.count) in
+    let count = held_count c.self.inside.kept.numbers.items _ _ _ c.self.invariant.0 c.self.view_is
+    in
+    let old : Kept = record {
+      commands = c.self.inside.kept.commands;
+      numbers =
+          c.self.inside.kept.numbers;
+      declared = c.self.inside.kept.declared;
+      line =
+          c.line_count-before.result + 1;
+    } in
+    let passed = line_passed old c.add_line.new.kept c.args.self.now c.args.line.now room
+    c.in_ok-add_line.ensures
+    (λ more. absurd (omega (
+      arith,
+      c.if-len-commands_before.false,
+      c.len.ensures,
+      c.len-commands_before.ensures,
+      more,
+    ))) in
+    rw (passed.same.commands, passed.same.numbers, passed.same.declared) (
+      c.self.invariant.0,
+      omega (arith, room, count),
+      c.self.invariant.2,
+      c.self.invariant.3,
+      c.self.invariant.4,
+    )

@@ -5,4 +5,5 @@ use Rattle.gk_lines.proofs.line_buffer.LineBuffer.number.Goals as goal
 
 pub returns-clause-number : goal.returns-clause-number
 returns-clause-number c =
-    rw (c.digits.ensures.digits, c.push_byte.ensures) (extended_twice c.args.self.now (32 ∷ []) (decimal c.args.number))
+    rw (c.digits.ensures.digits, c.push_byte.ensures) (extended_twice c.args.self.now (32 ∷ [])
+    (decimal c.args.number))

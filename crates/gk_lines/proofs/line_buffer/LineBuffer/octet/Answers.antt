@@ -5,4 +5,5 @@ use Rattle.gk_lines.proofs.line_buffer.LineBuffer.octet.Goals as goal
 
 pub returns-clause-octet : goal.returns-clause-octet
 returns-clause-octet c =
-    rw (c.digits.ensures.digits, c.push_byte.ensures, c.from.ensures) (extended_twice c.args.self.now (46 ∷ []) (decimal c.args.octet))
+    rw (c.digits.ensures.digits, c.push_byte.ensures, c.from.ensures)
+    (extended_twice c.args.self.now (46 ∷ []) (decimal c.args.octet))

@@ -10,9 +10,12 @@ invariant-loop-more g l = record {
   ended : AtEndIfEnded l.self (g.R.Source.remaining l.reader);
   unended_line : IsTrue l.more → l.fn.self.ended ≡ false;
   stays_ended : l.self.ended ≡ false → l.fn.self.ended ≡ false;
-  line : LineSoFar (left_of l.fn.self (g.R.Source.remaining l.fn.reader)) (left_of l.self (g.R.Source.remaining l.reader)) l.line l.more;
-  turns : CountsTurns (g.R.Source.calls l.fn.reader) (g.R.Source.calls l.reader) l.fn.self.turns l.self.turns;
-  gave : GaveBytes (g.R.Source.remaining l.fn.reader) (g.R.Source.remaining l.reader) l.fn.self.turns l.self.turns;
+  line : LineSoFar (left_of l.fn.self (g.R.Source.remaining l.fn.reader))
+      (left_of l.self (g.R.Source.remaining l.reader)) l.line l.more;
+  turns : CountsTurns (g.R.Source.calls l.fn.reader) (g.R.Source.calls l.reader) l.fn.self.turns
+      l.self.turns;
+  gave : GaveBytes (g.R.Source.remaining l.fn.reader) (g.R.Source.remaining l.reader)
+      l.fn.self.turns l.self.turns;
   noted : g.R.Source.has_failed l.reader ≡ g.R.Source.has_failed l.fn.reader;
 }
 
