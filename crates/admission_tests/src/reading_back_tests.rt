@@ -7,6 +7,7 @@ use admission::{
 use gk_terms::Name;
 use registry::{Duplicate, Endpoint};
 use std::alloc::Global;
+use std::borrow::Cow;
 use std::process::Abort;
 use std::test::Fail;
 
@@ -18,23 +19,24 @@ fn short_and_long_names_read_back(rt: HostRuntime) -> Result<(), Fail> {
 
 /// Asserts that the entries of endpoints with short and long IDs read back.
 fn assert_names(rt: &impl Abort, alloc: Global, core: &mut Core) -> Result<(), Fail> {
-    for id in [
-        b"ta".as_slice(),
-        b"terminal-0123456789".as_slice(),
-        b"terminal-0123456789a".as_slice(),
+    for (id, is_brief) in [
+        (b"ta".as_slice(), true),
+        (b"terminal-0123456789".as_slice(), true),
+        (b"terminal-0123456789a".as_slice(), false),
     ] {
-        assert_reads_back(rt, alloc, core, id)?;
+        assert_reads_back(rt, alloc, core, id, is_brief)?;
     }
     Ok(())
 }
 
 /// Asserts that the entries of an endpoint with this ID give its receipts back, and those of its
-/// admissions the zone and the route.
+/// admissions the zone and the route; and that they are kept in few bytes or whole.
 fn assert_reads_back(
     rt: &impl Abort,
     alloc: Global,
     core: &mut Core,
     id: &[u8],
+    is_kept_brief: bool,
 ) -> Result<(), Fail> {
     let zone = Some(Name::read(b"gk-a")?);
     let route = Some(Route::To(away()?));
@@ -48,8 +50,9 @@ fn assert_reads_back(
     ] {
         let entry = entry(core.record(), receipt.number)?;
         assert_eq!(rt; entry.receipt(receipt.number), receipt);
-        assert_eq!(rt; entry.zone, zone);
-        assert_eq!(rt; entry.route, route);
+        assert_eq!(rt; entry.zone, zone, "entry {}", receipt.number);
+        assert_eq!(rt; entry.route, route, "entry {}", receipt.number);
+        assert_eq!(rt; is_brief(&entry), is_kept_brief, "entry {}", receipt.number);
     }
     Ok(())
 }
@@ -199,9 +202,13 @@ fn assert_registration(
     Ok(())
 }
 
-/// Whether the entry lends an endpoint in few bytes.
+/// Whether the entry is kept in few bytes: it lends an endpoint in few bytes, or its event was made
+/// of them and is not lent.
 fn is_brief(entry: &Entry<'_>) -> bool {
-    matches!(&entry.event, EntryEvent::Registration(_))
+    matches!(
+        &entry.event,
+        EntryEvent::Registration(_) | EntryEvent::Asked(Cow::Owned(_))
+    )
 }
 
 /// The endpoint that asks to be registered.

@@ -8,7 +8,7 @@ use admission::{
     Reply, STATED_LIMITS, UnregisterRefusal,
 };
 use compiler::Tables;
-use gk_terms::{Dialled, Name, Units, Version};
+use gk_terms::{Name, Units, Version};
 use std::alloc::Global;
 use std::process::Abort;
 use std::sync::Arc;
@@ -120,33 +120,6 @@ fn commands_reloaded(record: &Record, alloc: Global, number: u32) -> Result<(boo
 }
 
 #[test]
-fn plans_of_an_older_version_are_made_anew(rt: HostRuntime) -> Result<(), Fail> {
-    let mut core = core_within(rt.alloc(), STATED_LIMITS)?;
-    assert_plan(&rt, rt.alloc(), &mut core)
-}
-
-/// Asserts that a plan of version 1 is made anew in version 2.
-fn assert_plan(rt: &impl Abort, alloc: Global, core: &mut Core) -> Result<(), Fail> {
-    let digits = Dialled::read(b"4085551000")?;
-    let routed = core.route_here(&digits);
-    reloaded(core, alloc)?;
-    let endpoint = terminal(alloc, b"tb", 2, &[])?.in_zone(Name::read(b"gk-b")?);
-    core.register(endpoint)?;
-    if routed.version == core.version() {
-        return Err(Fail::new("the version is still in force"));
-    }
-    // In the first version these digits led to `gk-a`, and in the second they lead away.
-    let (reply, _) = core.admit(&routed, &Name::read(b"tb")?, 1001, Units::new(640))?;
-    let granted = Reply::Admitted {
-        call: 1001,
-        destination: away()?,
-        units: Units::new(640),
-    };
-    assert_eq!(rt; reply, granted);
-    Ok(())
-}
-
-#[test]
 fn reloads_are_spent_before_the_record_is_full(rt: HostRuntime) -> Result<(), Fail> {
     let limits = Limits {
         records: 1,
@@ -154,28 +127,13 @@ fn reloads_are_spent_before_the_record_is_full(rt: HostRuntime) -> Result<(), Fa
         ..STATED_LIMITS
     };
     let mut core = core_within(rt.alloc(), limits)?;
-    assert_refusal(&rt, rt.alloc(), &mut core, ReloadRefusal::ReloadsSpent)
-}
-
-#[test]
-fn a_full_record_takes_no_reload(rt: HostRuntime) -> Result<(), Fail> {
-    let limits = Limits {
-        records: 1,
-        reloads: 5,
-        ..STATED_LIMITS
-    };
-    let mut core = core_within(rt.alloc(), limits)?;
-    assert_refusal(&rt, rt.alloc(), &mut core, ReloadRefusal::RecordFull)
+    assert_refusal(&rt, rt.alloc(), &mut core)
 }
 
 /// Asserts why a second reload is refused, and its reservation too.
-fn assert_refusal(
-    rt: &impl Abort,
-    alloc: Global,
-    core: &mut Core,
-    reason: ReloadRefusal,
-) -> Result<(), Fail> {
+fn assert_refusal(rt: &impl Abort, alloc: Global, core: &mut Core) -> Result<(), Fail> {
     reloaded(core, alloc)?;
+    let reason = ReloadRefusal::ReloadsSpent;
     let refused = Reply::ReloadRefused { reason };
     assert_eq!(rt; core.reserve_reload(&tables(alloc)?).err(), Some(refused));
     assert_eq!(rt; core.reload(tables(alloc)?).err(), Some(refused));

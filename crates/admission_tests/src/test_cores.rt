@@ -1,8 +1,6 @@
 //! What the tests over a core share.
 
-use admission::{
-    Core, Destination, Entry, Event, Limits, OpeningFault, Receipt, Record, Reply, STATED_LIMITS,
-};
+use admission::{Core, Destination, Entry, Event, Limits, Receipt, Record};
 use command_reader::read;
 use compiler::Tables;
 use gk_terms::{Address, Dialled, Name, Units};
@@ -16,42 +14,6 @@ const ZONES: &[u8] = b"zone local gk-a example.com\n\
     zone remote gk-x example.com 10.9.0.1\n\
     zone prefix gk-a 408*\n\
     zone prefix gk-x 9*\n";
-
-/// Limits of which one is 0 or above the stated one.
-pub(crate) const BAD_LIMITS: [Limits; 8] = [
-    Limits {
-        endpoints: 0,
-        ..STATED_LIMITS
-    },
-    Limits {
-        calls: 0,
-        ..STATED_LIMITS
-    },
-    Limits {
-        records: 0,
-        ..STATED_LIMITS
-    },
-    Limits {
-        reloads: 0,
-        ..STATED_LIMITS
-    },
-    Limits {
-        endpoints: 10_001,
-        ..STATED_LIMITS
-    },
-    Limits {
-        calls: 50_001,
-        ..STATED_LIMITS
-    },
-    Limits {
-        records: 1_000_001,
-        ..STATED_LIMITS
-    },
-    Limits {
-        reloads: 4_097,
-        ..STATED_LIMITS
-    },
-];
 
 /// Other zones: `gk-b` here, and `gk-x` of another gatekeeper, to which all numbers go.
 const OTHER_ZONES: &[u8] = b"zone local gk-b example.com\n\
@@ -74,14 +36,9 @@ pub(crate) fn other_tables(alloc: Global) -> Result<Arc<Tables>, Fail> {
     tables_of(alloc, OTHER_ZONES)
 }
 
-/// What opening a core with these limits answers.
-pub(crate) fn opening(alloc: Global, limits: Limits) -> Result<Result<Core, OpeningFault>, Fail> {
-    Ok(Core::new(alloc, tables(alloc)?, limits))
-}
-
 /// A core with these limits.
 pub(crate) fn core_within(alloc: Global, limits: Limits) -> Result<Core, Fail> {
-    Ok(opening(alloc, limits)??)
+    Ok(Core::new(alloc, tables(alloc)?, limits)?)
 }
 
 /// A terminal of `gk-a` at 10.0.1.HOST, with these aliases.
@@ -121,14 +78,6 @@ pub(crate) fn receipt_of(core: &mut Core, event: Event) -> Result<Receipt, Fail>
         return Err(Fail::new("the receipt has another reply"));
     }
     Ok(receipt)
-}
-
-/// The reply to an event that is not recorded.
-pub(crate) fn reply_of_unrecorded(core: &mut Core, event: Event) -> Result<Reply, Fail> {
-    match core.answer(event) {
-        Ok(_) => Err(Fail::new("the event is recorded")),
-        Err(reply) => Ok(reply),
-    }
 }
 
 /// A registration, an admission, the same admission again, and an unregistration of each of two

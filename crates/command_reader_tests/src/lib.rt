@@ -6,10 +6,6 @@ mod accept_tests;
 #[cfg(test)]
 mod command_tests;
 #[cfg(test)]
-mod fault_tests;
-#[cfg(test)]
-mod limit_tests;
-#[cfg(test)]
 mod lines_tests;
 #[cfg(test)]
 mod print_tests;

@@ -40,16 +40,6 @@ bandwidth total zone gk-a 256
 bandwidth session default 128
 ";
 
-/// Zones that the lines below name.
-const ZONES: &str = "zone local a d
-zone local b d
-zone local hopoff d
-zone local seq d
-zone local blast d
-zone local default-technology d
-zone local gw d
-";
-
 /// What is printed of the commands of a text.
 fn printed(alloc: Global, text: &[u8]) -> Result<Vec<u8>, Fail> {
     let commands = read(alloc, text)?;
@@ -67,13 +57,6 @@ fn assert_prints(rt: &impl Abort, alloc: Global, text: &[u8], want: &[u8]) -> Re
     Ok(())
 }
 
-/// After zones, a line prints as another.
-fn assert_line_prints(rt: &impl Abort, alloc: Global, line: &str, want: &str) -> Result<(), Fail> {
-    let text = format!(in alloc; "{ZONES}{line}\n")?;
-    let want = format!(in alloc; "{ZONES}{want}\n")?;
-    assert_prints(rt, alloc, text.as_bytes(), want.as_bytes())
-}
-
 #[test]
 fn prints_canonical_lines(rt: HostRuntime) -> Result<(), Fail> {
     let commands = read(rt.alloc(), CONFIGURATION.as_bytes())?;
@@ -85,88 +68,6 @@ fn prints_canonical_lines(rt: HostRuntime) -> Result<(), Fail> {
         CONFIGURATION.as_bytes(),
         CANONICAL.as_bytes(),
     )
-}
-
-#[test]
-fn prints_zones(rt: HostRuntime) -> Result<(), Fail> {
-    for (line, want) in [
-        ("\tzone  local c d \r", "zone local c d"),
-        ("zone local c d 10.0.0.255", "zone local c d 10.0.0.255"),
-        (
-            "zone local c d 1.2.3.4 65535",
-            "zone local c d 1.2.3.4 65535",
-        ),
-        (
-            "zone remote cost d 10.9.0.1",
-            "zone remote cost d 10.9.0.1 1719 cost 50 priority 50",
-        ),
-        (
-            "zone remote c d 10.9.0.1 cost 1 priority 100",
-            "zone remote c d 10.9.0.1 1719 cost 1 priority 100",
-        ),
-        (
-            "zone remote c d 0.9.99.255 10",
-            "zone remote c d 0.9.99.255 10 cost 50 priority 50",
-        ),
-        ("zone prefix a * seq", "zone prefix a *"),
-        ("zone prefix a 40.. blast", "zone prefix a 40.."),
-        (
-            "zone prefix a .* gw-priority 10 g",
-            "zone prefix a .* gw-priority 10 g",
-        ),
-        (
-            "zone prefix a 9* seq gw-priority 0 g seq blast g",
-            "zone prefix a 9* gw-priority 0 g seq blast g",
-        ),
-    ] {
-        assert_line_prints(&rt, rt.alloc(), line, want)?;
-    }
-    Ok(())
-}
-
-#[test]
-fn prints_technology_prefixes(rt: HostRuntime) -> Result<(), Fail> {
-    for (line, want) in [
-        ("gw-type-prefix 2#", "gw-type-prefix 2#"),
-        ("gw-type-prefix 2#* seq blast", "gw-type-prefix 2#"),
-        (
-            "gw-type-prefix 2# hopoff seq seq",
-            "gw-type-prefix 2# hopoff seq",
-        ),
-        (
-            "gw-type-prefix 2# hopoff a hopoff seq b default-technology seq default-technology",
-            "gw-type-prefix 2# hopoff a hopoff seq b default-technology",
-        ),
-        (
-            "gw-type-prefix 2# default-technology hopoff b hopoff b a",
-            "gw-type-prefix 2# hopoff b b a default-technology",
-        ),
-        (
-            "gw-type-prefix 2# hopoff hopoff blast hopoff blast \
-            hopoff default-technology hopoff gw",
-            "gw-type-prefix 2# hopoff hopoff hopoff blast hopoff default-technology hopoff gw",
-        ),
-    ] {
-        assert_line_prints(&rt, rt.alloc(), line, want)?;
-    }
-    Ok(())
-}
-
-#[test]
-fn prints_limits(rt: HostRuntime) -> Result<(), Fail> {
-    for line in [
-        "arq reject-unknown-prefix",
-        "bandwidth total default 10000000",
-        "bandwidth interzone default 10",
-        "bandwidth session default 5000",
-        "bandwidth total zone a 1",
-        "bandwidth interzone zone b 99",
-        "bandwidth session zone a 100",
-        "bandwidth remote 10000000",
-    ] {
-        assert_line_prints(&rt, rt.alloc(), line, line)?;
-    }
-    Ok(())
 }
 
 /// Twelve lines are printed to a writer that fails at its call of this number.

@@ -1,56 +1,11 @@
-//! What the tests share: the reader on a text, and commands made of words.
+//! What the tests share: what was read of a text, and commands made of words.
 
-use command_reader::{
-    Command, Commands, FaultKind, GatewayPriority, LineFault, LocalAddress, Names, read,
-};
+use command_reader::{Command, Commands, GatewayPriority, LocalAddress, Names};
 use digit_patterns::Pattern;
 use gk_terms::{Address, Name, TechPrefix};
-use std::alloc::{AllocError, Global};
+use std::alloc::Global;
 use std::process::Abort;
 use std::test::Fail;
-
-/// Zones whose names are option words, and two others: seven lines.
-const ZONES: &str = "zone local a d\nzone local b d\nzone local seq d\nzone local blast d\n\
-    zone local gw d\nzone local hopoff d\nzone local default-technology d\n";
-
-/// The text has this fault.
-pub(crate) fn assert_fault(
-    rt: &impl Abort,
-    alloc: Global,
-    text: &[u8],
-    line: u32,
-    kind: FaultKind,
-) {
-    let want = Some(LineFault { line, kind });
-    assert_eq!(rt; read(alloc, text).err(), want, "at {}", text.escape_ascii());
-}
-
-/// The line has this fault, wherever it is; an earlier fault comes before it.
-pub(crate) fn assert_line_fault(
-    rt: &impl Abort,
-    alloc: Global,
-    line: &str,
-    kind: FaultKind,
-) -> Result<(), AllocError> {
-    let second = format!(in alloc; "zone local a d\n{line}\nend x\n")?;
-    assert_fault(rt, alloc, second.as_bytes(), 2, kind);
-    let first = format!(in alloc; "{line}\r\nzone local a d\n")?;
-    assert_fault(rt, alloc, first.as_bytes(), 1, kind);
-    let later = format!(in alloc; "zone prefix q 9*\n!\nend x\n{line}\n")?;
-    assert_fault(rt, alloc, later.as_bytes(), 3, FaultKind::Extra);
-    Ok(())
-}
-
-/// What was read is these commands, with so many lines passed over.
-fn assert_read(rt: &impl Abort, read: &Commands, commands: &[Command], passed: u32) {
-    assert_eq!(rt; read.len(), commands.len());
-    assert_eq!(rt; read.is_empty(), commands.is_empty());
-    assert_eq!(rt; read.passed(), passed);
-    for (place, command) in commands.iter().enumerate() {
-        assert_eq!(rt; read.get(place), Some(command));
-    }
-    assert_eq!(rt; read.get(commands.len()), None);
-}
 
 /// Both are the same commands in the same order.
 pub(crate) fn assert_same_commands(rt: &impl Abort, read: &Commands, wanted: &Commands) {
@@ -58,58 +13,6 @@ pub(crate) fn assert_same_commands(rt: &impl Abort, read: &Commands, wanted: &Co
     for place in 0..wanted.len() {
         assert_eq!(rt; read.get(place), wanted.get(place), "command {place}");
     }
-}
-
-/// The text is accepted as these commands, with so many lines passed over.
-pub(crate) fn assert_accepted(
-    rt: &impl Abort,
-    alloc: Global,
-    text: &[u8],
-    commands: &[Command],
-    passed: u32,
-) -> Result<(), LineFault> {
-    assert_read(rt, &read(alloc, text)?, commands, passed);
-    Ok(())
-}
-
-/// What was read ends with this command at place 7.
-fn assert_last(rt: &impl Abort, read: &Commands, line: &str, command: &Command) {
-    assert_eq!(rt; (read.len(), read.passed()), (8, 0), "at {line}");
-    assert_eq!(rt; read.get(7), Some(command), "at {line}");
-}
-
-/// After the zones `a`, `b`, and those that are named as option words, the line says this command.
-pub(crate) fn assert_says(
-    rt: &impl Abort,
-    alloc: Global,
-    line: &str,
-    command: Command,
-) -> Result<(), Fail> {
-    let text = format!(in alloc; "{ZONES}{line}\n")?;
-    assert_last(rt, &read(alloc, text.as_bytes())?, line, &command);
-    Ok(())
-}
-
-/// After one zone the line is passed over.
-pub(crate) fn assert_passed(rt: &impl Abort, alloc: Global, line: &str) -> Result<(), Fail> {
-    let text = format!(in alloc; "zone local a d\n{line}\n")?;
-    let read = read(alloc, text.as_bytes())?;
-    assert_eq!(rt; (read.len(), read.passed()), (1, 1), "at {line}");
-    Ok(())
-}
-
-/// A text, and after it another so many times over.
-pub(crate) fn repeated(
-    alloc: Global,
-    first: &str,
-    text: &str,
-    count: usize,
-) -> Result<Vec<u8>, AllocError> {
-    let mut all = Vec::from_slice(alloc, first.as_bytes())?;
-    for _i in 0..count {
-        all.extend_from_slice(text.as_bytes())?;
-    }
-    Ok(all)
 }
 
 /// A zone that is controlled here.

@@ -57,14 +57,8 @@ fn assert_each_zone(rt: &impl Abort, tables: &Tables) -> Result<(), Fail> {
 #[test]
 fn limits_zones(rt: HostRuntime) -> Result<(), Fail> {
     let tables = tables_of(&rt, rt.alloc(), LIMITS)?;
-    assert_each_zone(&rt, &tables)
-}
-
-#[test]
-fn limits_calls_to_remote_zones(rt: HostRuntime) -> Result<(), Fail> {
-    let tables = tables_of(&rt, rt.alloc(), LIMITS)?;
     assert_eq!(rt; tables.remote_limit(), Some(640));
-    Ok(())
+    assert_each_zone(&rt, &tables)
 }
 
 #[test]

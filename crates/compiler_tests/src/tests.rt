@@ -103,12 +103,6 @@ fn assert_rows(rt: &impl Abort, tables: &Tables) -> Result<(), Fail> {
     assert_caller(rt, tables, "1*408", None)
 }
 
-#[test]
-fn plans_by_rows(rt: HostRuntime) -> Result<(), Fail> {
-    let tables = tables_of(&rt, rt.alloc(), LINES)?;
-    assert_rows(&rt, &tables)
-}
-
 /// The plans by technology prefixes, of the lines.
 fn assert_technologies(rt: &impl Abort, tables: &Tables) -> Result<(), Fail> {
     assert_local(rt, tables, "1#4085551234", 4, Some("1#"), Some(1))?;
@@ -119,12 +113,6 @@ fn assert_technologies(rt: &impl Abort, tables: &Tables) -> Result<(), Fail> {
     assert_caller(rt, tables, "1#", Some("1#"))?;
     assert_caller(rt, tables, "1#*408", Some("1#"))?;
     assert_caller(rt, tables, "125", Some("12"))
-}
-
-#[test]
-fn plans_by_technology(rt: HostRuntime) -> Result<(), Fail> {
-    let tables = tables_of(&rt, rt.alloc(), LINES)?;
-    assert_technologies(&rt, &tables)
 }
 
 /// The tables of the lines, with one more.
@@ -177,12 +165,6 @@ fn assert_priorities(rt: &impl Abort, tables: &Tables) -> Result<(), Fail> {
     Ok(())
 }
 
-#[test]
-fn finds_priorities(rt: HostRuntime) -> Result<(), Fail> {
-    let tables = tables_of(&rt, rt.alloc(), GATEWAYS)?;
-    assert_priorities(&rt, &tables)
-}
-
 /// How many gateways are named for this row; nothing if none is.
 fn gateway_count(tables: &Tables, row: Option<u32>) -> Option<usize> {
     Some(tables.gateways(row.map(|row| RowNo::new(row)))?.len())
@@ -197,10 +179,10 @@ fn assert_gateways(rt: &impl Abort, tables: &Tables) {
 }
 
 #[test]
-fn finds_gateways(rt: HostRuntime) -> Result<(), Fail> {
+fn finds_gateways_and_their_priorities(rt: HostRuntime) -> Result<(), Fail> {
     let tables = tables_of(&rt, rt.alloc(), GATEWAYS)?;
     assert_gateways(&rt, &tables);
-    Ok(())
+    assert_priorities(&rt, &tables)
 }
 
 /// The zone of this name has this number, and this address if it is a remote one.
@@ -240,7 +222,14 @@ fn assert_zones(rt: &impl Abort, tables: &Tables) -> Result<(), Fail> {
 }
 
 #[test]
-fn tells_zones(rt: HostRuntime) -> Result<(), Fail> {
+fn plans_and_tells_zones(rt: HostRuntime) -> Result<(), Fail> {
     let tables = tables_of(&rt, rt.alloc(), LINES)?;
-    assert_zones(&rt, &tables)
+    assert_plans(&rt, &tables)
+}
+
+/// The plans and the zones of the lines.
+fn assert_plans(rt: &impl Abort, tables: &Tables) -> Result<(), Fail> {
+    assert_rows(rt, tables)?;
+    assert_technologies(rt, tables)?;
+    assert_zones(rt, tables)
 }

@@ -2,13 +2,10 @@
 
 use admission::Duplicate::{E164, Id};
 use admission::{
-    AdmitRefusal, ChangeRefusal as Change, Destination as At, RegisterRefusal as Register,
-    ReleaseRefusal as Release, ReloadRefusal as Reload, Reply, RouteRefusal,
-    UnregisterRefusal as Unregister,
+    AdmitRefusal, Destination as At, RegisterRefusal as Register, ReloadRefusal as Reload, Reply,
+    RouteRefusal, UnregisterRefusal as Unregister,
 };
-use bandwidth::Over;
 use command_reader::{FaultKind, LineFault};
-use compiler::LimitKind;
 use gk_lines::LineBuffer;
 use gk_protocol::answer_lines::show;
 use gk_protocol::answers::Answer;
@@ -104,56 +101,6 @@ fn each_answer_is_one_line(rt: HostRuntime) -> Result<(), Fail> {
         assert_shown(&rt, Answer::Malformed(fault), b"ERR ", word);
     }
     Ok(())
-}
-
-#[test]
-fn a_limit_is_named_with_its_zone(rt: HostRuntime) -> Result<(), Fail> {
-    let (call, zone) = (1_001, Name::read(b"gk-a")?);
-    for (kind, words) in [
-        (LimitKind::Session, "session gk-a"),
-        (LimitKind::Total, "total gk-a"),
-        (LimitKind::Interzone, "interzone gk-a"),
-    ] {
-        let over = Over::Zone { kind, zone };
-        let reason = AdmitRefusal::OverLimit(over);
-        let reply = Reply::AdmitRefused { call, reason };
-        assert_replied(&rt, reply, b"ARJ 5 1001 requestDenied ", words);
-        let reason = Change::OverLimit(over);
-        let reply = Reply::ChangeRefused { call, reason };
-        assert_replied(&rt, reply, b"BRJ 5 1001 insufficientResources ", words);
-    }
-    let reason = AdmitRefusal::OverLimit(Over::Remote);
-    let reply = Reply::AdmitRefused { call, reason };
-    assert_replied(&rt, reply, b"ARJ 5 1001 ", "requestDenied remote");
-    let reason = Change::OverLimit(Over::Remote);
-    let reply = Reply::ChangeRefused { call, reason };
-    assert_replied(&rt, reply, b"BRJ 5 1001 ", "insufficientResources remote");
-    Ok(())
-}
-
-#[test]
-fn changes_and_releases(rt: HostRuntime) {
-    let (call, units) = (1_001, Units::new(640));
-    let reply = Reply::Changed { call, units };
-    assert_replied(&rt, reply, b"BCF 5 ", "1001 640");
-    for (reason, words) in [
-        (Change::NoCall, "undefinedReason no-call"),
-        (Change::NotYours, "invalidPermission not-yours"),
-        (Change::RecordFull, "undefinedReason record-full"),
-        (Change::NoMemory, "undefinedReason no-memory"),
-    ] {
-        let reply = Reply::ChangeRefused { call, reason };
-        assert_replied(&rt, reply, b"BRJ 5 1001 ", words);
-    }
-    assert_replied(&rt, Reply::Released { call }, b"DCF 5 ", "1001");
-    for (reason, words) in [
-        (Release::NotRegistered, "notRegistered"),
-        (Release::NotYours, "requestToDropOther not-yours"),
-        (Release::NoCall, "requestToDropOther no-call"),
-    ] {
-        let reply = Reply::ReleaseRefused { call, reason };
-        assert_replied(&rt, reply, b"DRJ 5 1001 ", words);
-    }
 }
 
 #[test]

@@ -1,4 +1,5 @@
-//! Which lines are requests, by examples from outside.
+//! What is asked for by lines that are requests, by examples from outside; the faults of others are
+//! in the cases that the program runs.
 
 use gk_lines::LineBuffer;
 use gk_protocol::answerer::Answerer;
@@ -63,14 +64,6 @@ fn unasked(alloc: Global, line: &[u8]) -> Option<Result<Heard, RequestFault>> {
     }
 }
 
-/// The word of the fault of a line, for which nothing is asked.
-fn fault_word(alloc: Global, line: &[u8]) -> Option<&'static str> {
-    match unasked(alloc, line) {
-        Some(Err(fault)) => Some(fault.word()),
-        _ => None,
-    }
-}
-
 /// A registration with so many times this option, and last words.
 fn registration(alloc: Global, option: &str, count: u32, last: &str) -> Result<String, AllocError> {
     let mut line = String::new(alloc);
@@ -80,87 +73,6 @@ fn registration(alloc: Global, option: &str, count: u32, last: &str) -> Result<S
     }
     line.push_str(last)?;
     Ok(line)
-}
-
-#[test]
-fn faults(rt: HostRuntime) -> Result<(), Fail> {
-    let long = [b' '; 513];
-    for (line, word) in [
-        (long.as_slice(), "line"),
-        (b"XYZ 1", "word"),
-        (b"rrq 1", "word"),
-        (b"UCF 1 ta", "word"),
-        (b"urq 1 ta", "word"),
-        (b"URQ 0 ta", "seq"),
-        (b"URQ 65536 ta", "seq"),
-        (b"URQ ta 1", "seq"),
-        (b"URQ x t\x7F y", "seq"),
-        (b"URQ", "missing"),
-        (b"URQ 1", "missing"),
-        (b"URQ 1 t\x7F", "name"),
-        (b"URQ 1 t\x7F y", "name"),
-        (b"URQ 1 ta x", "extra"),
-        (b"URQ 1 ta ta", "extra"),
-        (b"ARQ 0 ta 1 9 0", "seq"),
-        (b"ARQ 65536 ta 1 9 0", "seq"),
-        (b"ARQ", "missing"),
-        (b"ARQ 5 ta 1001 9123", "missing"),
-        (b"ARQ 5 ta 1001 9123 640 x", "extra"),
-        (b"ARQ 5 ta 0 9123 640", "number"),
-        (b"ARQ 5 ta 1 9123 4294967296", "number"),
-        (b"ARQ 5 t\x7F 1 9123 640", "name"),
-        (b"ARQ 5 ta 1 9,1 0", "digits"),
-        (b"ARQ 5 ta 1 900000000000000000000000000000000 0", "digits"),
-        (b"brq 5 ta 1001 640", "word"),
-        (b"BRQ", "missing"),
-        (b"BRQ 5", "missing"),
-        (b"BRQ 5 ta", "missing"),
-        (b"BRQ 5 ta 1001", "missing"),
-        (b"BRQ 0 ta 1001 640", "seq"),
-        (b"BRQ 5 t\x7F 1001 640", "name"),
-        (b"BRQ 5 ta 0 640", "number"),
-        (b"BRQ 5 ta 1001 4294967296", "number"),
-        (b"BRQ 5 ta 1001 640 x", "extra"),
-        (b"drq 5 ta 1001", "word"),
-        (b"DRQ", "missing"),
-        (b"DRQ 5", "missing"),
-        (b"DRQ 5 ta", "missing"),
-        (b"DRQ 65536 ta 1001", "seq"),
-        (b"DRQ 5 t\x7F 1001", "name"),
-        (b"DRQ 5 ta 4294967296", "number"),
-        (b"DRQ 5 ta 1001 640", "extra"),
-        (b"cfg 5 1", "word"),
-        (b"CFG", "missing"),
-        (b"CFG 5", "missing"),
-        (b"CFG 0 1", "seq"),
-        (b"CFG 65536 1", "seq"),
-        (b"CFG 5 20001", "number"),
-        (b"CFG 5 01", "number"),
-        (b"CFG 5 -1", "number"),
-        (b"CFG 5 1 x", "extra"),
-        (b"RRQ 5 PBX tb gk-a 10.0.0.3", "option"),
-        (b"RRQ 5 TERM tb gk-a 10.0.0.300", "address"),
-        (b"RRQ 5 TERM tb gk-a 10.0.0.3:0", "address"),
-        (b"RRQ 1 GW a - 1.1.1.1 tech=", "digits"),
-        (b"RRQ 1 GW a - 1.1.1.1 tech=1*2", "digits"),
-        (b"RRQ 1 GW a - 1.1.1.1 tech=12345678901#", "digits"),
-        (b"RRQ 1 GW a - 1.1.1.1 tech=1 TECH=2", "option"),
-        (b"RRQ 1 TERM a - 1.1.1.1 e164=", "digits"),
-        (b"RRQ 1 TERM a - 1.1.1.1 E164=7", "option"),
-        (b"RRQ 1 TERM a - 1.1.1.1 e164=1 e164=x", "digits"),
-        (b"RRQ 1 TERM a - 1.1.1.1 e164=1 e165=2", "option"),
-    ] {
-        assert_eq!(rt; fault_word(rt.alloc(), line), Some(word), "{line:?}");
-    }
-    for last in [" e164=8", " e164=x"] {
-        let line = registration(rt.alloc(), " e164=7", 16, last)?;
-        assert_eq!(rt; fault_word(rt.alloc(), line.as_bytes()), Some("option"));
-    }
-    for last in [" tech=2", " tech=x"] {
-        let line = registration(rt.alloc(), " tech=1#", 8, last)?;
-        assert_eq!(rt; fault_word(rt.alloc(), line.as_bytes()), Some("option"));
-    }
-    Ok(())
 }
 
 #[test]

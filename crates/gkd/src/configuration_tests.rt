@@ -55,25 +55,8 @@ fn refuses_a_faulty_configuration(rt: HostRuntime) {
 }
 
 #[test]
-fn lines_without_effect_change_no_reply(rt: HostRuntime) -> Result<(), Fail> {
-    let mut input = Vec::from_slice(
-        rt.alloc(),
-        b"gatekeeper\n \
-        zone local gk-a example.com\n \
-        zone remote gk-x example.com 10.9.0.1 1719 cost 7 priority 3\n \
-        zone prefix gk-a 408* gw-priority 0 ta\n \
-        zone prefix gk-x 9* seq\n \
-        gw-type-prefix 1#* hopoff gk-x\n \
-        bandwidth total zone gk-x 1\n \
-        bandwidth session zone gk-a 1\n \
-        bandwidth session zone gk-a 64\n \
-        bandwidth remote 1\n \
-        bandwidth remote 64\n \
-        no shutdown\n\
-        end\n",
-    )?;
-    input.extend_from_slice(REQUESTS.as_bytes())?;
-    assert_run(&rt, rt.alloc(), STATED_LIMITS, &input, REPLIES.as_bytes());
+fn the_stored_run(rt: HostRuntime) -> Result<(), Fail> {
+    assert_replies(&rt, rt.alloc(), REQUESTS.as_bytes(), REPLIES)?;
     Ok(())
 }
 

@@ -168,3 +168,39 @@ fn a_registered_endpoint_registers_again_in_a_full_table(rt: HostRuntime) -> Res
     )?;
     Ok(())
 }
+
+#[test]
+fn keeps_to_its_limits_through_a_reload(rt: HostRuntime) -> Result<(), Fail> {
+    let limits = Limits {
+        endpoints: 1,
+        calls: 1,
+        records: 4,
+        reloads: 1,
+    };
+    assert_replies_within(
+        &rt,
+        rt.alloc(),
+        limits,
+        b"RRQ 1 TERM ta gk-a 10.0.1.1\n\
+        RRQ 2 TERM tb gk-a 10.0.1.2\n\
+        ARQ 3 ta 1001 9123 640\n\
+        ARQ 4 ta 1002 9123 640\n\
+        CFG 5 1\nzone local gk-a a\n\
+        CFG 6 1\nzone local gk-a a\n\
+        CFG 7 1\nzone local gk-a\n\
+        ARQ 8 nobody 1003 9123 0\n\
+        DRQ 9 ta 1001\n\
+        URQ 10 ta\n",
+        "RCF 1 ta gk-a\n\
+        RRJ 2 tb undefinedReason endpoints-full\n\
+        ACF 3 1001 ZONE gk-x 10.9.0.1:1719 640\n\
+        ARJ 4 1002 resourceUnavailable calls-full\n\
+        CCF 5 2\n\
+        CRJ 6 0 reloads-spent\n\
+        CRJ 7 1 Missing\n\
+        ARJ 8 1003 resourceUnavailable record-full\n\
+        DCF 9 1001\n\
+        URJ 10 ta undefinedReason record-full\n",
+    )?;
+    Ok(())
+}

@@ -3,8 +3,6 @@
 //! configuration from a file, and `gkd check FILE` says whether one is accepted.
 #![tactic(auto)]
 
-#[cfg(test)]
-mod bulk_tests;
 mod command_line;
 #[cfg(test)]
 mod command_line_tests;
@@ -12,22 +10,10 @@ mod command_line_tests;
 mod configuration_tests;
 #[cfg(test)]
 mod count_tests;
-#[cfg(test)]
-mod dial_plan_tests;
 pub mod laws;
-#[cfg(test)]
-mod limit_tests;
-#[cfg(test)]
-mod registration_tests;
-#[cfg(test)]
-mod reload_tests;
 pub mod run;
 #[cfg(test)]
-mod run_tests;
-#[cfg(test)]
 mod stream_tests;
-#[cfg(test)]
-mod test_dial_plans;
 #[cfg(test)]
 mod test_runs;
 

@@ -26,12 +26,9 @@ pub const REPLIES: &str = "RCF 1 ta gk-a\n\
     ACF 3 1002 ZONE gk-x 10.9.0.1:1719 640\n\
     ARJ 4 1003 calledPartyNotRegistered no-default\n";
 
-/// How many bytes a call of the reader and a call of the writer move at most: all that they are
-/// asked for.
-pub const WHOLE: (usize, usize) = (10_000, 10_000);
-
-/// The same, and as many as cut an input and its replies anywhere.
-const PIECES: [(usize, usize); 5] = [(1, 1), (2, 1), (3, 1), (7, 1), WHOLE];
+/// How many bytes a call of the reader and a call of the writer move at most: as many as cut an
+/// input and its replies anywhere, and all that they are asked for.
+const PIECES: [(usize, usize); 5] = [(1, 1), (2, 1), (3, 1), (7, 1), (10_000, 10_000)];
 
 /// How many lines the text has.
 pub fn lines_in(text: &[u8]) -> u64 {
@@ -47,7 +44,7 @@ pub fn assert_run(rt: &impl Abort, alloc: Global, limits: Limits, input: &[u8], 
 
 /// Asserts that this input is answered with this text if it comes, and goes, in pieces of at most
 /// so many bytes.
-pub fn assert_run_in_pieces(
+fn assert_run_in_pieces(
     rt: &impl Abort,
     alloc: Global,
     limits: Limits,
