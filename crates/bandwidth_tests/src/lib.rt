@@ -6,5 +6,3 @@ mod calls_tests;
 #[cfg(test)]
 mod fits_tests;
 pub mod laws;
-#[cfg(test)]
-mod random_tests;

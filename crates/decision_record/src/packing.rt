@@ -18,7 +18,8 @@ use rulings::{ChangeRefusal, DestinationKind, Event, LentRuling};
 use short_texts::{PackedDigits, ShortName};
 
 impl Slot {
-    /// What was ruled on the event, in few bytes if it can be.
+    /// What was ruled on the event, in few bytes; nothing of a registration, of a reload, or if a
+    /// name is too long for it.
     #[inline(never)]
     pub fn of(event: &Event, ruling: &LentRuling<'_>) -> Option<Slot>
         ensures { IfSome result (λ slot. Spec.entry_meant [] [] [] slot

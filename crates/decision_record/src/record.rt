@@ -77,8 +77,8 @@ impl Record {
     }
 
     /// The bytes of the record that the entry of a granted admission takes, if no name in it has
-    /// more than 19 characters. No other entry in few bytes takes more, but that of a refusal that
-    /// names the zone of the limit.
+    /// more than 19 characters. An entry takes more if it is a refusal that may name the zone of a
+    /// limit, a registration, whose endpoint it holds, or one that stands whole.
     pub fn slot_bytes() -> usize {
         SlotList::routed_bytes()
     }

@@ -24,8 +24,9 @@ use std::mem::size_of;
 /// is that of an admission that leads to a destination, and the place tells the verdict; in
 /// `refused` if the admission leads to none; in `brief` if it is that of a granted change, release
 /// or unregistration, of a change that is refused for its call, or of a refused registration; and
-/// in `wide` if it has the name of the zone of a limit. Each of the five lists has room for `room`
-/// further items, since it is not known of which kind the next slots are.
+/// in `wide` if it is that of a change over a limit, or of an admission over the limit of a zone
+/// that is not the caller's. Each of the five lists has room for `room` further items, since it is
+/// not known of which kind the next slots are.
 #[derive(Drop)]
 pub struct SlotList {
     places: Pieces<SlotPlace>,
@@ -95,8 +96,8 @@ impl SlotList {
         )
     }
 
-    /// Makes room for this many further slots, of whatever kinds. If memory runs out, nothing
-    /// changes.
+    /// Makes room for this many further slots, of whatever kinds. If memory runs out, the slots stay
+    /// as they are.
     pub fn reserve(&mut self, places: usize) -> Result<(), AllocError>
         requires near { places ≤ self.old.room + PIECE_ITEMS }
         ensures slots { IsRoomier self.old self.new }

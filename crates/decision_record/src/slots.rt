@@ -28,7 +28,8 @@ pub struct RefusedAdmission {
     pub cause: Unrouted,
 }
 
-/// An entry that is no admission, in at most 32 bytes.
+/// An entry of a change, a release, an unregistration or a refused registration, in at most 32
+/// bytes.
 #[derive(Clone, Copy)]
 pub enum BriefSlot {
     /// A granted bandwidth change.
@@ -61,7 +62,7 @@ pub enum BriefSlot {
     },
 }
 
-/// An entry that has the name of the zone of a limit.
+/// A refusal for a limit that takes more bytes, since the limit may have to be named with its zone.
 #[derive(Clone, Copy)]
 pub enum WideSlot {
     /// An admission that was refused for a limit of a zone that is not the caller's.
@@ -78,8 +79,8 @@ pub enum WideSlot {
     },
 }
 
-/// An entry in few bytes: of most admissions whose names are short, of a granted change, release or
-/// unregistration whose ID is, and of a refused change; or the place of a registration's endpoint
+/// An entry in few bytes, if the names in it are short: of an admission, of a change, of a granted
+/// release or unregistration; or the place of a registration's endpoint
 /// in the list of registrations, that of a reload among the reloads, or that of any other entry in
 /// the list of whole entries.
 #[derive(Clone, Copy)]
@@ -96,7 +97,7 @@ pub enum Slot {
     Refused(RefusedAdmission),
     /// A change, a release, an unregistration, or a refused registration.
     Brief(BriefSlot),
-    /// A refusal for the limit of a zone that has to be named.
+    /// A refusal for a limit, of an admission or a change, that takes more bytes.
     Wide(WideSlot),
     /// A granted registration, whose endpoint stands at this place, from 0, in the list of
     /// registrations.

@@ -24,7 +24,7 @@ pub struct Told {
 }
 
 impl Told {
-    /// How the entry of the event on which this was ruled is recorded.
+    /// What the record is told of the event on which this was ruled.
     #[inline(never)]
     pub fn of(event: &Event, ruling: &LentRuling<'_>) -> Told
         ensures { told_meant result (plain event.now) (ruling_meant ruling.now).verdict

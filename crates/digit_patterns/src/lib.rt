@@ -4,8 +4,6 @@
 pub mod laws;
 pub mod patterns;
 pub mod tables;
-#[cfg(test)]
-mod tests;
 
 pub use patterns::{BadPattern, Pattern};
 pub use tables::{Hit, PlainTable, PrefixTable, TableFault};

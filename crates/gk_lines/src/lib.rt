@@ -5,10 +5,6 @@
 pub mod fakes;
 pub mod line_buffer;
 pub mod line_reader;
-#[cfg(test)]
-mod line_tests;
-#[cfg(test)]
-mod stream_tests;
 pub mod streams;
 pub mod writing;
 

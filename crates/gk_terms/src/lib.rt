@@ -24,6 +24,3 @@ pub use numbers::read_number;
 pub use quantities::{Kbps, Units, Version};
 pub use reasons::Reason;
 pub use technology::TechPrefix;
-
-#[cfg(test)]
-mod tests;

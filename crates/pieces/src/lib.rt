@@ -3,7 +3,5 @@
 #![tactic(auto)]
 
 pub mod list;
-#[cfg(test)]
-mod tests;
 
 pub use list::{PIECE_ITEMS, Pieces};

@@ -5,7 +5,7 @@ ghost use Rattle.std.specs.Prelude.{◌≡◌, ◌+◌, ◌<◌, ◌≤◌, leng
 use command_reader::read;
 use compiler::{Plan, Tables, ZoneNo};
 use gk_terms::{Dialled, Version};
-use publisher::{Blank, Imprint, Lost, NewFault, Publisher, ReadFault, Reader, ReaderFault};
+use publisher::{Blank, Imprint, Lost, Publisher, ReadFault, Reader};
 use std::alloc::Global;
 use std::marker::Brand;
 use std::process::Abort;
@@ -40,68 +40,6 @@ pub(crate) fn both(
     alloc: Global,
 ) -> Result<(Arc<Tables, Global>, Arc<Tables, Global>), Fail> {
     Ok((tables_of(rt, alloc, TO_ONE)?, tables_of(rt, alloc, TO_TWO)?))
-}
-
-#[test]
-fn places_are_1_to_32(rt: HostRuntime) -> Result<(), Fail> {
-    for places in [0, 33] {
-        let tables = tables_of(&rt, rt.alloc(), TO_ONE)?;
-        refused::<Brand, _>(&rt, rt.alloc(), Blank::new(), tables, places);
-    }
-    Ok(())
-}
-
-/// A publisher with so many places isn't made.
-fn refused<J: Imprint, R: Wait + Abort>(
-    rt: &R,
-    alloc: Global,
-    blank: Blank,
-    tables: Arc<Tables, Global>,
-    places: u32,
-)
-    requires { blank ≡ J.book }
-{
-    match Publisher::<J>::new(alloc, blank, tables, places) {
-        Ok(publisher) => {
-            publisher.close(rt);
-            panic!(rt; "it was made");
-        }
-        Err(fault) => assert_eq!(rt; fault, NewFault::BadPlaces),
-    }
-}
-
-#[test]
-fn two_places_are_two_readers(rt: HostRuntime) -> Result<(), Fail> {
-    let tables = tables_of(&rt, rt.alloc(), TO_ONE)?;
-    two_readers::<Brand, _>(&rt, rt.alloc(), Blank::new(), tables);
-    Ok(())
-}
-
-fn two_readers<J: Imprint, R: Wait + Abort>(
-    rt: &R,
-    alloc: Global,
-    blank: Blank,
-    tables: Arc<Tables, Global>,
-)
-    requires { blank ≡ J.book }
-{
-    let Ok(mut publisher) = Publisher::<J>::new(alloc, blank, tables, 2) else {
-        panic!(rt; "refused");
-    };
-    let first = publisher.reader();
-    let second = publisher.reader();
-    let third = publisher.reader();
-    let faults = (fault_of(&first), fault_of(&second), fault_of(&third));
-    publisher.close(rt);
-    assert_eq!(rt; faults, (None, None, Some(ReaderFault::NoPlace)));
-}
-
-/// Why no reader was made.
-fn fault_of<J: Imprint>(reader: &Result<Reader<J>, ReaderFault>) -> Option<ReaderFault> {
-    match reader {
-        Ok(_) => None,
-        Err(fault) => Some(*fault),
-    }
 }
 
 #[test]
@@ -206,45 +144,6 @@ fn begins_at_1<J: Imprint, R: Wait + Abort>(
     assert_eq!(rt; version.ok(), Some(Version::new(1)));
     assert_eq!(rt; zone, Some((1, 1)));
     assert_eq!(rt; read, Some((Version::new(1), to(1))));
-}
-
-#[test]
-fn old_tables_stay(rt: HostRuntime) -> Result<(), Fail> {
-    let tables = both(&rt, rt.alloc())?;
-    let first = Arc::try_clone(&tables.0)?;
-    held_tables_stay::<Brand, _>(&rt, rt.alloc(), Blank::new(), first, tables);
-    Ok(())
-}
-
-/// The tables of version 1 are held while two more are published and the publisher is closed.
-fn held_tables_stay<J: Imprint, R: Wait + Abort>(
-    rt: &R,
-    alloc: Global,
-    blank: Blank,
-    first: Arc<Tables, Global>,
-    later: (Arc<Tables, Global>, Arc<Tables, Global>),
-)
-    requires { blank ≡ J.book }
-{
-    let Ok(mut publisher) = Publisher::<J>::new(alloc, blank, first, 1) else {
-        panic!(rt; "refused");
-    };
-    let reader = publisher.reader();
-    let Ok(mut reader) = reader else {
-        publisher.close(rt);
-        panic!(rt; "no reader");
-    };
-    let Ok((_, held)) = reader.read() else {
-        publisher.close(rt);
-        panic!(rt; "not read");
-    };
-    let (second, third) = later;
-    let second = publisher.publish(rt, second).is_ok();
-    let third = publisher.publish(rt, third).is_ok();
-    publisher.close(rt);
-    let plan = plan_of(rt, &held);
-    drop(held);
-    assert_eq!(rt; (second, third, plan), (true, true, to(1)));
 }
 
 /// The version in force, and the plan of 12 by its tables.

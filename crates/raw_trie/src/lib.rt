@@ -6,8 +6,6 @@ mod block;
 mod draft;
 mod meaning;
 mod memory;
-#[cfg(test)]
-mod tests;
 pub mod trie;
 mod walk;
 

@@ -1,4 +1,4 @@
--- A registration in a zone that was looked up is that under the commands.
+-- What is known of an endpoint that may register, and of a registry after it did or has left.
 use Rattle.std.proofs.Common.{◌≡◌, ℕ, suc, ◌+◌, ◌≤◌, Bool, true, false, not, cond, ◌||◌, ◌&&◌, nat_le, List, [], ◌∷◌, length, refl, sym, ap, ◌∙◌, arith}
 use Rattle.std.specs.Prelude.{Option, Some, None, Result, Ok, Err, if◌then◌else◌}
 use Rattle.std.specs.List.{position_or_len}
@@ -11,47 +11,56 @@ use Rattle.registry.specs.declared.faults.Duplicate.TheVariants.{Id, E164}
 use Rattle.registry.specs.declared.faults.RegistryFault.{RegistryFault}
 use Rattle.registry.specs.declared.faults.RegistryFault.TheVariants.{UnknownZone, DuplicateAlias, NotRegistered}
 use Rattle.registry.specs.Endpoint.{EndpointParts}
-use Rattle.registry.specs.Registration.{RegistryParts, placement_of, registered_in, id_is_taken, alias_is_taken, without_endpoint, has_id, registered_unless, endpoint_of, unregistered_in, is_full_for, is_registered, with_endpoint}
-use Rattle.registry.specs.Registering.{placement_among, registered_among, placed_in}
+use Rattle.registry.specs.Registration.{RegistryParts, placement_of, zone_unless, id_is_taken, alias_is_taken, without_endpoint, has_id, endpoint_of, unregistered_in, is_full_for, is_registered, with_endpoint}
+use Rattle.registry.specs.Registering.{placement_among}
 use Rattle.registry.proofs.FindLemmas.{found-some, found-none}
 use Rattle.registry.proofs.IndexChanges.{put_at, put_later}
+
+-- the three tests, as they came out
+abbrev fault_by : Bool → Bool → Bool → Option RegistryFault
+fault_by local id alias =
+    if local
+    then (if id then Some (DuplicateAlias Id)
+    else (if alias then Some (DuplicateAlias E164) else None))
+    else Some UnknownZone
 
 pub placement_of_local : (commands : List Command) (endpoints : List EndpointParts)
     (e : EndpointParts)
     → placement_among endpoints e (local_zone commands e.zone)
     ≡ placement_of commands endpoints e
-placement_of_local commands endpoints e = by (is_local commands (zone_meant commands e.zone))
+placement_of_local commands endpoints e =
+    by (is_local commands (zone_meant commands e.zone)) (id_is_taken endpoints e)
+    (alias_is_taken endpoints e)
   where
-    by : (b : Bool)
-        → placement_among endpoints e (if b then Some (zone_meant commands e.zone) else None)
-        ≡ (if b then placement_among endpoints e (Some (zone_meant commands e.zone))
-        else placement_among endpoints e None)
-    by true = refl
-    by false = refl
+    found : Bool → Bool → Option (List ℕ) → Result (List ℕ) RegistryFault
+    found id alias None = Err UnknownZone
+    found id alias (Some zone) =
+        if id then Err (DuplicateAlias Id)
+        else (if alias then Err (DuplicateAlias E164) else Ok zone)
 
--- the same with the two tests as they came out
-abbrev result_by : RegistryParts → EndpointParts → Bool → Bool → Option (List ℕ)
-    → Result RegistryParts RegistryFault
-result_by r e id alias None = Err UnknownZone
-result_by r e id alias (Some zone) =
-    if id then Err (DuplicateAlias Id)
-    else (if alias then Err (DuplicateAlias E164) else placed_in r e zone)
-
-pub registered_of_local : (commands : List Command) (r : RegistryParts) (e : EndpointParts)
-    → registered_among r e (local_zone commands e.zone) ≡ registered_in commands r e
-registered_of_local commands r e =
-    by (is_local commands (zone_meant commands e.zone)) (id_is_taken r.endpoints e)
-    (alias_is_taken r.endpoints e)
-  where
-    by : (b id alias : Bool)
-        → result_by r e id alias (if b then Some (zone_meant commands e.zone) else None)
-        ≡ registered_unless commands r e
-        (if b then (if id then Some (DuplicateAlias Id)
-        else (if alias then Some (DuplicateAlias E164) else None)) else Some UnknownZone)
+    by : (local id alias : Bool)
+        → found id alias (if local then Some (zone_meant commands e.zone) else None)
+        ≡ zone_unless (zone_meant commands e.zone) (fault_by local id alias)
     by false id alias = refl
     by true true alias = refl
     by true false true = refl
     by true false false = refl
+
+-- no alias of an endpoint that may register is another's
+pub free_if_placed : (commands : List Command) (endpoints : List EndpointParts)
+    (e : EndpointParts) (zone : List ℕ) → placement_of commands endpoints e ≡ Ok zone
+    → alias_is_taken endpoints e ≡ false
+free_if_placed commands endpoints e zone placed =
+    by (is_local commands (zone_meant commands e.zone)) (id_is_taken endpoints e)
+    (alias_is_taken endpoints e) placed
+  where
+    by : (local id alias : Bool)
+        → zone_unless (zone_meant commands e.zone) (fault_by local id alias) ≡ Ok zone
+        → alias ≡ false
+    by false id alias h = let impossible : ⊥ = cc in absurd impossible
+    by true true alias h = let impossible : ⊥ = cc in absurd impossible
+    by true false true h = let impossible : ⊥ = cc in absurd impossible
+    by true false false h = refl
 
 -- taking some out makes a list no longer
 pub fewer : (id : List ℕ) (endpoints : List EndpointParts)

@@ -55,15 +55,16 @@ abbrev pub registration_fault : List Command → List EndpointParts → Endpoint
 registration_fault commands endpoints e =
     registration_refusal UnknownZone DuplicateAlias commands endpoints e
 
+-- the zone, unless there is a fault
+abbrev pub zone_unless : List ℕ → Option RegistryFault → Result (List ℕ) RegistryFault
+zone_unless zone (Some fault) = Err fault
+zone_unless zone None = Ok zone
+
 -- the local zone in which an endpoint may register, room aside, or the fault
 abbrev pub placement_of : List Command → List EndpointParts → EndpointParts
     → Result (List ℕ) RegistryFault
 placement_of commands endpoints e =
-    if is_local commands (zone_meant commands e.zone)
-    then (if id_is_taken endpoints e then Err (DuplicateAlias Id)
-    else (if alias_is_taken endpoints e then Err (DuplicateAlias E164)
-    else Ok (zone_meant commands e.zone)))
-    else Err UnknownZone
+    zone_unless (zone_meant commands e.zone) (registration_fault commands endpoints e)
 
 -- ---- what changes
 -- the endpoint in the place of the one with its ID, or else at the end
@@ -80,10 +81,6 @@ without_endpoint endpoints id = filter (λ e. not (has_id id e)) endpoints
 abbrev pub kept_zones : List Command → List EndpointParts → List EndpointParts
 kept_zones commands endpoints = filter (λ e. is_local commands e.zone) endpoints
 
--- the endpoint in the zone that it means
-abbrev pub in_zone_meant : List Command → EndpointParts → EndpointParts
-in_zone_meant commands e = record e { zone = zone_meant commands e.zone }
-
 -- ---- a registry
 -- the endpoints in order of registration, and how many there may be
 pub record RegistryParts : Type 0 where
@@ -94,19 +91,18 @@ pub record RegistryParts : Type 0 where
 abbrev pub is_full_for : RegistryParts → EndpointParts → Bool
 is_full_for r e = not (is_registered r.endpoints e.id) && nat_le r.most (length r.endpoints)
 
--- the registry after a registration that no refusal meets
-abbrev pub registered_unless : List Command → RegistryParts → EndpointParts
-    → Option RegistryFault → Result RegistryParts RegistryFault
-registered_unless commands r e (Some fault) = Err fault
-registered_unless commands r e None =
+-- the registry with the endpoint in this zone, if there is room, or the fault that was found before
+abbrev pub registered_at : RegistryParts → EndpointParts → Result (List ℕ) RegistryFault
+    → Result RegistryParts RegistryFault
+registered_at r e (Err fault) = Err fault
+registered_at r e (Ok zone) =
     if is_full_for r e then Err TooMany
-    else Ok (record r { endpoints = with_endpoint r.endpoints (in_zone_meant commands e) })
+    else Ok (record r { endpoints = with_endpoint r.endpoints (record e { zone = zone }) })
 
 -- the registry after a registration: one of the three refusals, then room
 abbrev pub registered_in : List Command → RegistryParts → EndpointParts
     → Result RegistryParts RegistryFault
-registered_in commands r e =
-    registered_unless commands r e (registration_fault commands r.endpoints e)
+registered_in commands r e = registered_at r e (placement_of commands r.endpoints e)
 
 -- the registry after an unregistration
 abbrev pub unregistered_in : RegistryParts → List ℕ → Result RegistryParts RegistryFault

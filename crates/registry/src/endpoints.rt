@@ -112,8 +112,12 @@ impl Endpoint {
         if self.aliases.len() >= MOST_ALIASES {
             return Err(RegistryFault::TooMany);
         }
-        match self.aliases.push(alias) {
-            Ok(()) => Ok(()),
+        // No more room than it needs: an endpoint stays, and few have more than one.
+        match self.aliases.reserve_exact(1) {
+            Ok(()) => {
+                self.aliases.push_reserved(alias);
+                Ok(())
+            }
             Err(_) => Err(RegistryFault::NoMemory),
         }
     }
@@ -132,8 +136,11 @@ impl Endpoint {
         if self.technologies.len() >= MOST_TECHNOLOGIES {
             return Err(RegistryFault::TooMany);
         }
-        match self.technologies.push(prefix) {
-            Ok(()) => Ok(()),
+        match self.technologies.reserve_exact(1) {
+            Ok(()) => {
+                self.technologies.push_reserved(prefix);
+                Ok(())
+            }
             Err(_) => Err(RegistryFault::NoMemory),
         }
     }

@@ -7,7 +7,7 @@ ghost use Rattle.registry.specs.declared.faults.RegistryFault.TheVariants.{NoMem
 ghost use Rattle.registry.specs.Registration.{IsRegistry, endpoint_of, is_registered, by_alias, is_full_for, alias_is_taken, placement_of, with_endpoint, registered_in, unregistered_in, with_kept_zones};
 ghost use Rattle.compiler.specs.Plan.{row_meant};
 ghost use Rattle.registry.specs.Gateway.{gateway_of};
-ghost use Rattle.registry.specs.Registering.{placement_among, placed_in, registered_among};
+ghost use Rattle.registry.specs.Registering.{placement_among};
 
 use crate::endpoints::Endpoint;
 use crate::faults::{Duplicate, RegistryFault};
@@ -124,6 +124,7 @@ impl Registry {
         self.placement_in(endpoint, tables.local_zone(endpoint.zone()))
     }
 
+    #[tactic(auto, using(crate::proofs::RegisteringLemmas::free_if_placed))]
     /// Registers the endpoint in the zone that it means: in the place of the one with its ID, or
     /// else after the others. It is refused as `placement` says, and then as `TooMany`, if it is a
     /// new one and there are as many as there may be. If memory runs out it is `NoMemory`; so it is
@@ -132,14 +133,20 @@ impl Registry {
         ensures { ChangesUnlessMemory NoMemory self.old self.new
             (registered_in tables.now.commands self.old endpoint) result }
     {
-        let zone = tables.local_zone(endpoint.zone());
-        self.register_in(endpoint, zone)
+        let zone = self.placement(&endpoint, tables)?;
+        if self.is_full_for(&endpoint) {
+            return Err(RegistryFault::TooMany);
+        }
+        match self.put(endpoint, zone) {
+            Ok(()) => Ok(()),
+            Err(_) => Err(RegistryFault::NoMemory),
+        }
     }
 
-    /// Puts an endpoint that may register into this zone: in the place of the one with its ID, or
-    /// else after the others. For a caller that has asked for its `placement` and knows that there
-    /// is room, so that neither is looked up again. If memory runs out, or each of the
-    /// 4,294,967,295 numbers is in use, nothing has changed.
+    /// Puts an endpoint into this zone: in the place of the one with its ID, or else after the
+    /// others. No alias of it may be another's, and there has to be room for it; a caller that has
+    /// asked for its `placement` knows the one, so that it is not looked up again. If memory runs
+    /// out, or each of the 4,294,967,295 numbers is in use, nothing has changed.
     pub fn put(&mut self, endpoint: Endpoint, zone: Name) -> Result<(), AllocError>
         requires free { alias_is_taken self.old.endpoints endpoint ≡ false }
         requires room { is_full_for self.old endpoint ≡ false }
@@ -208,37 +215,5 @@ impl Registry {
         ensures { result ≡ is_full_for self.now endpoint.now }
     {
         !self.shelf.is_registered(endpoint.id()) && self.most as usize <= self.shelf.len()
-    }
-
-    /// Registers the endpoint in the local zone that was looked up for it, if there is one.
-    fn register_in(&mut self, endpoint: Endpoint, zone: Option<Name>) -> Result<(), RegistryFault>
-        ensures { ChangesUnlessMemory NoMemory self.old self.new
-            (registered_among self.old endpoint zone) result }
-    {
-        let Some(zone) = zone else {
-            return Err(RegistryFault::UnknownZone);
-        };
-        if self.shelf.id_is_taken(&endpoint) {
-            return Err(RegistryFault::DuplicateAlias(Duplicate::Id));
-        }
-        if self.shelf.alias_is_taken(&endpoint) {
-            return Err(RegistryFault::DuplicateAlias(Duplicate::E164));
-        }
-        self.place(endpoint, zone)
-    }
-
-    /// Puts an endpoint that may register into the zone, if there is room.
-    fn place(&mut self, endpoint: Endpoint, zone: Name) -> Result<(), RegistryFault>
-        requires free { alias_is_taken self.old.endpoints endpoint ≡ false }
-        ensures { ChangesUnlessMemory NoMemory self.old self.new
-            (placed_in self.old endpoint zone) result }
-    {
-        if self.is_full_for(&endpoint) {
-            return Err(RegistryFault::TooMany);
-        }
-        match self.put(endpoint, zone) {
-            Ok(()) => Ok(()),
-            Err(_) => Err(RegistryFault::NoMemory),
-        }
     }
 }

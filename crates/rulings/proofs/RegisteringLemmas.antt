@@ -1,8 +1,8 @@
 -- A registration that is carried out.
 use Rattle.std.proofs.Common.{◌≡◌, Bool, true, false, cond, List, None, refl, sym, ap, subst}
-use Rattle.std.specs.Prelude.{ℕ, Result, Ok, Err, Some, IsSome, if◌then◌else◌}
+use Rattle.std.specs.Prelude.{ℕ, Option, Ok, Err, Some, IsSome, if◌then◌else◌}
 use Rattle.registry.specs.Endpoint.{EndpointParts}
-use Rattle.registry.specs.Registration.{RegistryParts, placement_of, is_registered, id_is_taken, alias_is_taken, without_endpoint, unregistered_in}
+use Rattle.registry.specs.Registration.{RegistryParts, placement_of, zone_unless, is_registered, id_is_taken, alias_is_taken, without_endpoint, unregistered_in}
 use Rattle.registry.specs.declared.faults.RegistryFault.{RegistryFault}
 use Rattle.registry.specs.declared.faults.RegistryFault.TheVariants.{NotRegistered}
 use Rattle.registry.specs.declared.faults.RegistryFault.TheVariants as faults
@@ -12,6 +12,7 @@ use Rattle.compiler.specs.Zones.{zone_meant}
 use Rattle.rulings.specs.State.{State}
 use Rattle.rulings.specs.Ruling.{register_refusal}
 use Rattle.rulings.specs.Refusals.{refusal_of}
+use Rattle.rulings.specs.declared.replies.RegisterRefusal.{RegisterRefusal}
 use Rattle.rulings.specs.declared.replies.RegisterRefusal.TheVariants as register
 
 pub unregisters : (r : RegistryParts) (id : List ℕ) → is_registered r.endpoints id ≡ true
@@ -22,6 +23,21 @@ unregisters r id h =
 
 -- ---- what a registry says of a registration, in the words of a reply
 module _ (s : State) (e : EndpointParts) where
+  -- the three tests as they came out, in the words of a registry and in those of a reply
+  abbrev fault_by : Bool → Bool → Bool → Option RegistryFault
+  fault_by local same taken =
+      if local then
+      (if same then Some (faults.DuplicateAlias Id) else
+      (if taken then Some (faults.DuplicateAlias E164) else None))
+      else Some faults.UnknownZone
+
+  abbrev refusal_by : Bool → Bool → Bool → Option RegisterRefusal
+  refusal_by local same taken =
+      if local then
+      (if same then Some (register.DuplicateAlias Id) else
+      (if taken then Some (register.DuplicateAlias E164) else None))
+      else Some register.UnknownZone
+
   -- it may be registered in the zone that it means, and nothing refuses it
   pub placed : (zone : List ℕ) → placement_of s.commands s.endpoints e ≡ Ok zone
       → (register_refusal s e ≡ None) × (zone ≡ zone_meant s.commands e.zone)
@@ -30,17 +46,8 @@ module _ (s : State) (e : EndpointParts) where
       (alias_is_taken s.endpoints e) h
     where
       by : (local same taken : Bool)
-          → (if local then
-          (if same then Err (faults.DuplicateAlias Id) else
-          (if taken then Err (faults.DuplicateAlias E164) else Ok (zone_meant s.commands e.zone)))
-          else Err faults.UnknownZone)
-          ≡ Ok zone
-          → ((if local then
-          (if same then Some (register.DuplicateAlias Id) else
-          (if taken then Some (register.DuplicateAlias E164) else None))
-          else Some register.UnknownZone)
-          ≡ None)
-          × (zone ≡ zone_meant s.commands e.zone)
+          → zone_unless (zone_meant s.commands e.zone) (fault_by local same taken) ≡ Ok zone
+          → (refusal_by local same taken ≡ None) × (zone ≡ zone_meant s.commands e.zone)
       by false same taken h = let impossible : ⊥ = cc in absurd impossible
       by true true taken h = let impossible : ⊥ = cc in absurd impossible
       by true false true h = let impossible : ⊥ = cc in absurd impossible
@@ -48,54 +55,25 @@ module _ (s : State) (e : EndpointParts) where
 
   -- it has a fault, which is a refusal
   pub refused_as : (fault : RegistryFault) → placement_of s.commands s.endpoints e ≡ Err fault
-      → refusal_of fault ≡ register_refusal s e
+      → (refusal_of fault ≡ register_refusal s e) × IsSome (refusal_of fault)
   refused_as fault h =
       by (is_local s.commands (zone_meant s.commands e.zone)) (id_is_taken s.endpoints e)
       (alias_is_taken s.endpoints e) h
     where
-      same_fault : (known : RegistryFault)
-          → (placed : Result (List ℕ) RegistryFault) → placed ≡ Err known → placed ≡ Err fault
-          → refusal_of fault ≡ refusal_of known
-      same_fault known placed is h = let same : known ≡ fault = cc in sym (ap refusal_of same)
+      known : (found : RegistryFault) → IsSome (refusal_of found)
+          → zone_unless (zone_meant s.commands e.zone) (Some found) ≡ Err fault
+          → (refusal_of fault ≡ refusal_of found) × IsSome (refusal_of fault)
+      known found refuses is =
+          let same : found ≡ fault = cc in
+          (sym (ap refusal_of same), subst (λ f. IsSome (refusal_of f)) same refuses)
 
       by : (local same taken : Bool)
-          → (if local then
-          (if same then Err (faults.DuplicateAlias Id) else
-          (if taken then Err (faults.DuplicateAlias E164) else Ok (zone_meant s.commands e.zone)))
-          else Err faults.UnknownZone)
-          ≡ Err fault
-          → refusal_of fault
-          ≡ (if local then
-          (if same then Some (register.DuplicateAlias Id) else
-          (if taken then Some (register.DuplicateAlias E164) else None))
-          else Some register.UnknownZone)
-      by false same taken h = same_fault faults.UnknownZone _ refl h
-      by true true taken h = same_fault (faults.DuplicateAlias Id) _ refl h
-      by true false true h = same_fault (faults.DuplicateAlias E164) _ refl h
+          → zone_unless (zone_meant s.commands e.zone) (fault_by local same taken) ≡ Err fault
+          → (refusal_of fault ≡ refusal_by local same taken) × IsSome (refusal_of fault)
+      by false same taken h = known faults.UnknownZone refl h
+      by true true taken h = known (faults.DuplicateAlias Id) refl h
+      by true false true h = known (faults.DuplicateAlias E164) refl h
       by true false false h = let impossible : ⊥ = cc in absurd impossible
-
-  pub not_placed : (fault : RegistryFault) → placement_of s.commands s.endpoints e ≡ Err fault
-      → IsSome (refusal_of fault)
-  not_placed fault h =
-      by (is_local s.commands (zone_meant s.commands e.zone)) (id_is_taken s.endpoints e)
-      (alias_is_taken s.endpoints e) h (refused_as fault h)
-    where
-      by : (local same taken : Bool)
-          → (if local then
-          (if same then Err (faults.DuplicateAlias Id) else
-          (if taken then Err (faults.DuplicateAlias E164) else Ok (zone_meant s.commands e.zone)))
-          else Err faults.UnknownZone)
-          ≡ Err fault
-          → refusal_of fault
-          ≡ (if local then
-          (if same then Some (register.DuplicateAlias Id) else
-          (if taken then Some (register.DuplicateAlias E164) else None))
-          else Some register.UnknownZone)
-          → IsSome (refusal_of fault)
-      by false same taken h is = subst IsSome (sym is) refl
-      by true true taken h is = subst IsSome (sym is) refl
-      by true false true h is = subst IsSome (sym is) refl
-      by true false false h is = let impossible : ⊥ = cc in absurd impossible
 
   -- no alias is another endpoint's, if nothing refuses it
   pub not_taken : register_refusal s e ≡ None → alias_is_taken s.endpoints e ≡ false
@@ -103,13 +81,7 @@ module _ (s : State) (e : EndpointParts) where
       by (is_local s.commands (zone_meant s.commands e.zone)) (id_is_taken s.endpoints e)
       (alias_is_taken s.endpoints e) h
     where
-      by : (local same taken : Bool)
-          → (if local then
-          (if same then Some (register.DuplicateAlias Id) else
-          (if taken then Some (register.DuplicateAlias E164) else None))
-          else Some register.UnknownZone)
-          ≡ None
-          → taken ≡ false
+      by : (local same taken : Bool) → refusal_by local same taken ≡ None → taken ≡ false
       by false same taken h = let impossible : ⊥ = cc in absurd impossible
       by true true taken h = let impossible : ⊥ = cc in absurd impossible
       by true false true h = let impossible : ⊥ = cc in absurd impossible

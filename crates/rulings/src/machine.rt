@@ -1,6 +1,6 @@
 //! The machine: the state of a running core, except for the tables in force.
 
-ghost use Rattle.std.specs.Prelude.{◌≡◌, ◌≤◌, ◌+◌, nat_le, None, false, true, length, OnOk, OnErr};
+ghost use Rattle.std.specs.Prelude.{◌≡◌, ◌≤◌, ◌+◌, nat_le, false, true, length, OnOk, OnErr};
 ghost use Rattle.registry.specs.Registration.{alias_is_taken, is_registered, with_endpoint, without_endpoint, kept_zones};
 ghost use Rattle.bandwidth.specs.Calls.{call_of, is_open, with_call, with_changed, without_call};
 ghost use Rattle.rulings.specs.State.{bare, idle, under};
@@ -241,7 +241,7 @@ impl Machine {
         self.registry.keep_zones(tables);
     }
 
-    /// Registers an endpoint in this zone that no refusal meets and for which there is room.
+    /// Registers an endpoint in this zone; no alias of it is another's, and there is room for it.
     fn register(&mut self, endpoint: Endpoint, zone: Name) -> Result<(), AllocError>
         requires free { alias_is_taken self.old.endpoints endpoint ≡ false }
         requires room { is_full_of_endpoints (bare self.old) endpoint ≡ false }

@@ -98,7 +98,7 @@ impl Machine {
         }
     }
 
-    #[tactic(auto, using(crate::proofs::RegisteringLemmas::placed, crate::proofs::RegisteringLemmas::not_placed, crate::proofs::RegisteringLemmas::refused_as))]
+    #[tactic(auto, using(crate::proofs::RegisteringLemmas::placed, crate::proofs::RegisteringLemmas::refused_as))]
     /// The local zone in which the endpoint may register, or the first refusal.
     fn placement(&self, tables: &Tables, endpoint: &Endpoint) -> Result<Name, RegisterRefusal>
         ensures { MatchResult result

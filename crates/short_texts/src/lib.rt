@@ -3,8 +3,6 @@
 
 pub mod packed_digits;
 pub mod short_names;
-#[cfg(test)]
-mod tests;
 
 pub use packed_digits::PackedDigits;
 pub use short_names::{SHORT_NAME, ShortName};

@@ -1,7 +1,7 @@
 //! Short names, and digits that are packed and read back.
 
-use crate::{PackedDigits, ShortName};
 use gk_terms::{Dialled, Name};
+use short_texts::{PackedDigits, ShortName};
 use std::test::Fail;
 
 /// Whether the name is short, reads back, and differs from the other one.

@@ -1,8 +1,7 @@
 //! What readers and writers note of their calls, and what is written whole.
 
-use crate::fakes::Piecewise;
-use crate::streams::{Noted, Sink, Source, StreamFailed};
-use crate::writing::{WriteFault, write_whole};
+use gk_lines::fakes::Piecewise;
+use gk_lines::{Noted, Sink, Source, StreamFailed, WriteFault, write_whole};
 use std::process::Abort;
 use std::test::Fail;
 

@@ -1,6 +1,6 @@
 //! Patterns and tables on given texts.
 
-use crate::{Pattern, PlainTable, PrefixTable, TableFault};
+use digit_patterns::{Pattern, PlainTable, PrefixTable, TableFault};
 use gk_terms::Dialled;
 use std::alloc::Global;
 use std::process::Abort;

@@ -2,10 +2,8 @@
 
 ghost use Rattle.gk_lines.specs.LineReader.{AtEndIfEnded};
 
-use crate::fakes::Piecewise;
-use crate::line_buffer::LineBuffer;
-use crate::line_reader::{LineReader, ReadFault};
-use crate::streams::{Noted, Source};
+use gk_lines::fakes::Piecewise;
+use gk_lines::{LineBuffer, LineReader, Noted, ReadFault, Source};
 use gk_terms::{Address, Name};
 use std::process::Abort;
 use std::test::Fail;

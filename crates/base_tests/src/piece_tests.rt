@@ -1,6 +1,6 @@
 //! Lists of numbers, and of what owns memory.
 
-use crate::Pieces;
+use pieces::Pieces;
 use std::alloc::{AllocError, Global};
 use std::test::Fail;
 

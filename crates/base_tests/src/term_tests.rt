@@ -1,8 +1,8 @@
 //! What each reader accepts and refuses, by examples from outside, and what is printed.
 
-use crate::text_lines::{RawLines, content};
-use crate::words::Words;
-use crate::{
+use gk_terms::text_lines::{RawLines, content};
+use gk_terms::words::Words;
+use gk_terms::{
     Address, Dialled, Kbps, Name, Reason, TechPrefix, TermFault, Units, Version, addresses,
     read_number,
 };
