@@ -36,7 +36,7 @@ pub fn session<R: Source, W: Sink, A: Answerer>(
     turns: u32,
 ) -> Result<u64, SessionFault>
     // What was written, by how the session ended, however the reader cut the bytes into pieces.
-    // What was read ahead of the lines that were taken came in one call.
+    // What was read ahead of the lines that were taken is no more than one call of the reader gives.
     ensures written { KnownStep (R.remaining reader.old) (R.remaining reader.new) (λ bytes rest.
         (ahead : List ℕ) × (text : List ℕ) × IsReadAhead ahead
         × Ends A.may_answer bytes ahead rest answerer.old answerer.new text result
@@ -111,7 +111,8 @@ pub fn session_from<R: Source, W: Sink, A: Answerer>(
     Ok(replies)
 }
 
-/// Lets a reader of lines go. What it had read and not yet taken came in one call of its reader.
+/// Lets a reader of lines go. What it had read and not yet taken is no more than one call of its
+/// reader gives.
 pub fn let_go(lines: LineReader)
     ensures { IsReadAhead lines.pending }
 {}

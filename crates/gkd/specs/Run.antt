@@ -34,8 +34,8 @@ module _ {S : Type 0} (MayAnswer : S → Request → Answer → S → Type 0)
     (Opens : Configuration → S → Type 0) where
   -- the configuration at the front of these bytes was accepted, and the bytes after it were served
   -- as a session: it began in a state that the configuration opens, wrote this text, and ended with
-  -- this result. `ahead` are the bytes that were read and belong to no line that was taken, which
-  -- came in one call of the reader
+  -- this result. `ahead` are the bytes that were read and belong to no line that was taken, no more
+  -- than one call of the reader gives
   pub record Serves (bytes rest : List ℕ) (text : List ℕ)
       (result : Result ℕ SessionFault) : Type 0 where
     pub configuration : Configuration
