@@ -13,9 +13,6 @@ const LIMITS: &str = "zone local a d\nzone local b d\nzone local c d\n\
     bandwidth interzone zone b 10000000\nbandwidth interzone zone x 9\n\
     bandwidth session zone b 5000\nbandwidth remote 3\nbandwidth remote 64\n";
 
-/// A zone with no limits.
-const UNLIMITED: &str = "zone local a d\n";
-
 /// The zone of this name has these limits, together and each alone.
 fn assert_limits(
     rt: &impl Abort,
@@ -59,11 +56,4 @@ fn limits_zones(rt: HostRuntime) -> Result<(), Fail> {
     let tables = tables_of(&rt, rt.alloc(), LIMITS)?;
     assert_eq!(rt; tables.remote_limit(), Some(640));
     assert_each_zone(&rt, &tables)
-}
-
-#[test]
-fn limits_nothing(rt: HostRuntime) -> Result<(), Fail> {
-    let tables = tables_of(&rt, rt.alloc(), UNLIMITED)?;
-    assert_eq!(rt; tables.remote_limit(), None);
-    assert_limits(&rt, &tables, "a", total_alone(None))
 }

@@ -115,26 +115,6 @@ fn assert_technologies(rt: &impl Abort, tables: &Tables) -> Result<(), Fail> {
     assert_caller(rt, tables, "125", Some("12"))
 }
 
-/// The tables of the lines, with one more.
-fn rejecting(rt: &impl Abort, alloc: Global) -> Result<Tables, Fail> {
-    let configuration = format!(in alloc; "{LINES}arq reject-unknown-prefix\n")?;
-    tables_of(rt, alloc, configuration.as_str())
-}
-
-/// The plans of the lines, if unknown prefixes are rejected.
-fn assert_rejects(rt: &impl Abort, tables: &Tables) -> Result<(), Fail> {
-    assert_plan(rt, tables, "5551000", Plan::UnknownPrefix)?;
-    assert_plan(rt, tables, "1#", Plan::UnknownPrefix)?;
-    assert_local(rt, tables, "408", 0, None, Some(0))?;
-    assert_remote(rt, tables, "2#5551000", 3)
-}
-
-#[test]
-fn rejects_unknown_prefixes(rt: HostRuntime) -> Result<(), Fail> {
-    let tables = rejecting(&rt, rt.alloc())?;
-    assert_rejects(&rt, &tables)
-}
-
 /// This gateway has this priority for this row.
 fn assert_priority(
     rt: &impl Abort,
