@@ -8,8 +8,6 @@ mod laws_tests;
 #[cfg(test)]
 mod reading_back_tests;
 #[cfg(test)]
-mod record_tests;
-#[cfg(test)]
 mod reload_tests;
 #[cfg(test)]
 mod test_cores;

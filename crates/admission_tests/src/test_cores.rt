@@ -1,6 +1,6 @@
 //! What the tests over a core share.
 
-use admission::{Core, Destination, Entry, Event, Limits, Receipt, Record};
+use admission::{Core, Destination, Entry, Event, Limits, Record};
 use command_reader::read;
 use compiler::Tables;
 use gk_terms::{Address, Dialled, Name, Units};
@@ -69,30 +69,6 @@ pub(crate) fn admission(id: &[u8], call: u32, digits: &[u8]) -> Result<Event, Fa
         digits: Dialled::read(digits)?,
         units: Units::new(640),
     })
-}
-
-/// The receipt of an event that is recorded.
-pub(crate) fn receipt_of(core: &mut Core, event: Event) -> Result<Receipt, Fail> {
-    let (reply, receipt) = core.answer(event)?;
-    if reply != receipt.reply {
-        return Err(Fail::new("the receipt has another reply"));
-    }
-    Ok(receipt)
-}
-
-/// A registration, an admission, the same admission again, and an unregistration of each of two
-/// IDs.
-pub(crate) fn five_events(alloc: Global, core: &mut Core) -> Result<[Receipt; 5], Fail> {
-    let ta = Name::read(b"ta")?;
-    let tb = Name::read(b"tb")?;
-    let endpoint = terminal(alloc, b"ta", 1, &[b"4085551000"])?;
-    Ok([
-        receipt_of(core, Event::Register(endpoint))?,
-        receipt_of(core, admission(b"ta", 1001, b"9123")?)?,
-        receipt_of(core, admission(b"ta", 1001, b"9123")?)?,
-        receipt_of(core, Event::Unregister { id: ta })?,
-        receipt_of(core, Event::Unregister { id: tb })?,
-    ])
 }
 
 /// The remote zone as a destination.
