@@ -1,7 +1,7 @@
 //! Reloads: what stays, what goes, and what a reservation keeps.
 
 use crate::test_cores::{admission, core_within, entry, other_tables, tables, terminal};
-use admission::{Core, EntryEvent, Record, ReloadedCommands, Reply, STATED_LIMITS};
+use admission::{Core, EntryEvent, Receipt, Record, ReloadedCommands, Reply, STATED_LIMITS};
 use compiler::Tables;
 use gk_terms::{Name, Version};
 use std::alloc::Global;
@@ -10,8 +10,8 @@ use std::sync::Arc;
 use std::test::Fail;
 
 /// Puts the other zones in force.
-fn reload(core: &mut Core, alloc: Global) -> Result<Reply, Fail> {
-    Ok(core.reload(other_tables(alloc)?)?.0)
+fn reloaded(core: &mut Core, alloc: Global) -> Result<(Reply, Receipt), Fail> {
+    Ok(core.reload(other_tables(alloc)?)?)
 }
 
 #[test]
@@ -29,7 +29,8 @@ fn assert_reload(rt: &impl Abort, alloc: Global, core: &mut Core) -> Result<(), 
     core.reserve_reload(&other_tables(alloc)?)?;
     assert_eq!(rt; core.version(), Version::new(1));
     let version = Version::new(2);
-    assert_eq!(rt; reload(core, alloc)?, Reply::Reloaded { version });
+    let (reply, _) = reloaded(core, alloc)?;
+    assert_eq!(rt; reply, Reply::Reloaded { version });
     assert_eq!(rt; core.version(), version);
     // The registration went with its zone, and the call stays.
     assert_eq!(rt; core.registry().len(), 0);
@@ -58,9 +59,9 @@ fn assert_held_reload(
     core: &mut Core,
     held: &Arc<Tables>,
 ) -> Result<(), Fail> {
-    reload(core, alloc)?;
+    reloaded(core, alloc)?;
     core.reload(Arc::try_clone(held)?)?;
-    reload(core, alloc)?;
+    reloaded(core, alloc)?;
     for (number, as_lines, commands) in [(1, true, 3), (2, false, 4), (3, false, 3)] {
         assert_eq!(rt;
             commands_reloaded(core.record(), alloc, number)?,
