@@ -85,19 +85,3 @@ fn makes_words(rt: HostRuntime) -> Result<(), Fail> {
     assert_eq!(rt; line.as_bytes(), b"".as_slice());
     Ok(())
 }
-
-#[test]
-fn leaves_out_what_has_no_room(rt: HostRuntime) {
-    let mut line = LineBuffer::new();
-    line.push(&[b'x'; 600]);
-    assert_eq!(rt; line.as_bytes(), [b'x'; 514].as_slice());
-    line.word(b"y");
-    assert_eq!(rt; line.as_bytes(), [b'x'; 514].as_slice());
-    line.begin(&[b'x'; 510]);
-    line.number(1_234);
-    assert_eq!(rt; line.as_bytes().len(), 514);
-    assert!(rt; line.as_bytes().ends_with(b"x 123"));
-    line.begin(&[b'x'; 514]);
-    line.begin(b"y");
-    assert_eq!(rt; line.as_bytes(), b"y".as_slice());
-}

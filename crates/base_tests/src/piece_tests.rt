@@ -39,13 +39,6 @@ fn finds_each_item_at_its_place(rt: HostRuntime) -> Result<(), Fail> {
 }
 
 #[test]
-fn has_nothing_at_first(rt: HostRuntime) {
-    let numbers: Pieces<u32> = Pieces::new(rt.alloc());
-    assert_eq!(rt; numbers.len(), 0);
-    assert_eq!(rt; numbers.get(0).copied(), None);
-}
-
-#[test]
 fn holds_what_owns_memory(rt: HostRuntime) -> Result<(), Fail> {
     let mut lines = Pieces::new(rt.alloc());
     for text in [b"first".as_slice(), b"second"] {

@@ -1,59 +1,7 @@
-//! What a command declares and names, a draft line by line, and printed faults.
+//! A draft line by line, and printed faults.
 
-use crate::test_texts::{gateways, local, prefix, remote, technology};
-use command_reader::{Command, Draft, FaultKind, LimitKind, LineFault, ZoneKind};
-use gk_terms::{Address, Kbps, Name};
-use std::process::Abort;
+use command_reader::{Draft, FaultKind, LineFault};
 use std::test::Fail;
-
-/// The command declares this zone and names these.
-fn assert_zones(
-    rt: &impl Abort,
-    command: &Command,
-    declared: Option<(Name, ZoneKind)>,
-    names: &[Name],
-) {
-    assert_eq!(rt; command.zone(), declared);
-    assert_eq!(rt; command.names(), names);
-    let is_local = matches!(&declared, Some((_, ZoneKind::Local)));
-    assert_eq!(rt; command.is_local_zone(), is_local);
-}
-
-#[test]
-fn says_what_a_zone_line_declares(rt: HostRuntime) -> Result<(), Fail> {
-    let a = Name::read(b"a".as_slice())?;
-    let distant = ZoneKind::Remote {
-        address: Address::new([10, 9, 0, 1], 1720),
-        cost: 20,
-        priority: 30,
-    };
-    assert_zones(&rt, &local("a", None)?, Some((a, ZoneKind::Local)), &[]);
-    assert_zones(&rt, &remote("a", 1720, 20, 30)?, Some((a, distant)), &[]);
-    assert_zones(&rt, &prefix("a", "9")?, None, &[a]);
-    assert_zones(&rt, &gateways(rt.alloc(), 5, "g h")?, None, &[a]);
-    Ok(())
-}
-
-#[test]
-fn says_what_other_lines_name(rt: HostRuntime) -> Result<(), Fail> {
-    let a = Name::read(b"a".as_slice())?;
-    let b = Name::read(b"b".as_slice())?;
-    let size = Kbps::new(5);
-    let kind = LimitKind::Total;
-    let command = technology(rt.alloc(), "1#", "b a b", true)?;
-    assert_zones(&rt, &command, None, &[b, a, b]);
-    let zone = Command::BandwidthZone {
-        kind,
-        zone: a,
-        size,
-    };
-    assert_zones(&rt, &zone, None, &[a]);
-    let default = Command::BandwidthDefault { kind, size };
-    assert_zones(&rt, &default, None, &[]);
-    assert_zones(&rt, &Command::BandwidthRemote { size }, None, &[]);
-    assert_zones(&rt, &Command::RejectUnknownPrefix, None, &[]);
-    Ok(())
-}
 
 #[test]
 fn takes_lines_one_by_one(rt: HostRuntime) -> Result<(), Fail> {

@@ -1,36 +1,27 @@
-//! Plans, gateways and zones of given configurations, by hand calculation.
+//! The tables of a configuration, by hand calculation.
 
 use command_reader::read;
-use compiler::{Plan, RowNo, Tables, ZoneNo, ZoneView};
+use compiler::{LimitKind, Plan, RowNo, Tables, ZoneLimits, ZoneNo, ZoneView};
 use gk_terms::{Address, Dialled, Name, TechPrefix};
 use std::alloc::Global;
 use std::process::Abort;
 use std::test::Fail;
 
-/// Zones 0 to 5, rows 0 to 4, and technology prefixes.
+/// Zones 0 to 5, rows 0 to 4, technology prefixes, and limits.
 const LINES: &str = "zone local a d\nzone remote x d 10.9.0.1 cost 60\n\
     zone remote y d 10.9.0.2 cost 40 priority 20\nzone remote z d 10.9.0.3 cost 40 priority 30\n\
     zone local b d\nzone remote w d 10.9.0.4 cost 40 priority 30\n\
     zone prefix a 408*\nzone prefix b 4085......\n\
     zone prefix x 9*\nzone prefix y 9*\nzone prefix z 9*\nzone prefix w 9*\n\
-    zone prefix x 7*\nzone prefix b 7*\nzone prefix y 6*\nzone prefix x 6*\n\
+    zone prefix x 7*\nzone prefix b 7* gw-priority 10 g1 g2\nzone prefix b 7* gw-priority 0 g1\nzone prefix y 6*\nzone prefix x 6*\n\
     gw-type-prefix 1#\ngw-type-prefix 1#2 hopoff x\ngw-type-prefix 1#2 hopoff b a\n\
     gw-type-prefix 2# hopoff x y z w\ngw-type-prefix 12 default-technology\n\
-    gw-type-prefix 3* default-technology\n";
+    gw-type-prefix 3* default-technology\nbandwidth total zone a 1\n\
+    bandwidth interzone default 20\nbandwidth remote 64\n";
 
-/// Two zones with one pattern, and gateways with priorities.
-const GATEWAYS: &str = "zone local a d\nzone local b d\n\
-    zone prefix a 408* gw-priority 10 g1 g2\nzone prefix a 408* gw-priority 0 g1\n\
-    zone prefix b 408* gw-priority 7 g3\nzone prefix a 9* gw-priority 3 g1\n\
-    zone prefix b 7*\n";
-
-/// The tables of a configuration.
-pub(crate) fn tables_of(
-    rt: &impl Abort,
-    alloc: Global,
-    configuration: &str,
-) -> Result<Tables, Fail> {
-    let Ok(commands) = read(alloc, configuration.as_bytes()) else {
+/// The tables of the lines.
+fn tables_of(rt: &impl Abort, alloc: Global) -> Result<Tables, Fail> {
+    let Ok(commands) = read(alloc, LINES.as_bytes()) else {
         panic!(rt; "refused");
     };
     Ok(Tables::compile(alloc, commands)?)
@@ -115,54 +106,28 @@ fn assert_technologies(rt: &impl Abort, tables: &Tables) -> Result<(), Fail> {
     assert_caller(rt, tables, "125", Some("12"))
 }
 
-/// This gateway has this priority for this row.
-fn assert_priority(
-    rt: &impl Abort,
-    tables: &Tables,
-    row: Option<u32>,
-    gateway: &str,
-    want: u8,
-) -> Result<(), Fail> {
-    let name = Name::read(gateway.as_bytes())?;
-    let row = row.map(|row| RowNo::new(row));
-    assert_eq!(rt; tables.priority(row, &name), want, "{gateway}");
+/// The gateways of the fourth row, and their priorities.
+fn assert_gateways(rt: &impl Abort, tables: &Tables) -> Result<(), Fail> {
+    let row = Some(RowNo::new(3));
+    assert_eq!(rt; tables.gateways(row).map(|named| named.len()), Some(2));
+    assert_eq!(rt; tables.priority(row, &Name::read(b"g1".as_slice())?), 0);
+    assert_eq!(rt; tables.priority(row, &Name::read(b"g2".as_slice())?), 10);
+    assert_eq!(rt; tables.priority(row, &Name::read(b"g3".as_slice())?), 5);
     Ok(())
 }
 
-/// The priorities of gateways, of the second configuration.
-fn assert_priorities(rt: &impl Abort, tables: &Tables) -> Result<(), Fail> {
-    for (row, gateway, want) in [
-        (Some(0), "g1", 0),
-        (Some(0), "g2", 10),
-        (Some(0), "g3", 5),
-        (Some(1), "g1", 3),
-        (Some(1), "g2", 5),
-        (Some(2), "g1", 5),
-        (None, "g1", 5),
-    ] {
-        assert_priority(rt, tables, row, gateway, want)?;
-    }
+/// The limits of the first zone, and that of calls to remote zones.
+fn assert_limits(rt: &impl Abort, tables: &Tables) -> Result<(), Fail> {
+    let name = Name::read(b"a".as_slice())?;
+    let want = ZoneLimits {
+        session: None,
+        total: Some(10),
+        interzone: Some(200),
+    };
+    assert_eq!(rt; tables.limits(&name), want);
+    assert_eq!(rt; tables.limit(LimitKind::Total, &name), want.total);
+    assert_eq!(rt; tables.remote_limit(), Some(640));
     Ok(())
-}
-
-/// How many gateways are named for this row; nothing if none is.
-fn gateway_count(tables: &Tables, row: Option<u32>) -> Option<usize> {
-    Some(tables.gateways(row.map(|row| RowNo::new(row)))?.len())
-}
-
-/// The counts of gateways, of the second configuration.
-fn assert_gateways(rt: &impl Abort, tables: &Tables) {
-    assert_eq!(rt; gateway_count(tables, Some(0)), Some(2));
-    assert_eq!(rt; gateway_count(tables, Some(1)), Some(1));
-    assert_eq!(rt; gateway_count(tables, Some(2)), None);
-    assert_eq!(rt; gateway_count(tables, None), None);
-}
-
-#[test]
-fn finds_gateways_and_their_priorities(rt: HostRuntime) -> Result<(), Fail> {
-    let tables = tables_of(&rt, rt.alloc(), GATEWAYS)?;
-    assert_gateways(&rt, &tables);
-    assert_priorities(&rt, &tables)
 }
 
 /// The zone of this name has this number, and this address if it is a remote one.
@@ -197,19 +162,21 @@ fn assert_zones(rt: &impl Abort, tables: &Tables) -> Result<(), Fail> {
     );
     assert_eq!(rt; tables.local_zone(&Name::read(b"x".as_slice())?), None);
     assert_eq!(rt; tables.default_technology(), prefix_of(Some("3"))?);
-    assert_eq!(rt; tables.commands().len(), 22);
+    assert_eq!(rt; tables.commands().len(), 26);
     Ok(())
 }
 
 #[test]
 fn plans_and_tells_zones(rt: HostRuntime) -> Result<(), Fail> {
-    let tables = tables_of(&rt, rt.alloc(), LINES)?;
+    let tables = tables_of(&rt, rt.alloc())?;
     assert_plans(&rt, &tables)
 }
 
-/// The plans and the zones of the lines.
+/// The plans, gateways, limits and zones of the lines.
 fn assert_plans(rt: &impl Abort, tables: &Tables) -> Result<(), Fail> {
     assert_rows(rt, tables)?;
     assert_technologies(rt, tables)?;
+    assert_gateways(rt, tables)?;
+    assert_limits(rt, tables)?;
     assert_zones(rt, tables)
 }

@@ -32,33 +32,6 @@ fn found<T: PrefixTable>(
 }
 
 #[test]
-fn reads_patterns(rt: HostRuntime) {
-    for (text, want) in [
-        ("408*", Some((3, 0, 0))),
-        ("4085......", Some((4, 6, 1))),
-        ("408.*", Some((3, 1, 0))),
-        (".", Some((0, 1, 1))),
-        ("*", Some((0, 0, 0))),
-        ("12345678901234567890123456789012", Some((32, 0, 1))),
-        ("1234567890123456789012345678901*", Some((31, 0, 0))),
-        ("................................", Some((0, 32, 1))),
-        ("123456789012345678901234567890123", None),
-        ("12345678901234567890123456789012*", None),
-        (".................................", None),
-        ("", None),
-        ("40.8", None),
-        ("*4", None),
-        ("4**", None),
-        ("4*.", None),
-        ("4#", None),
-        ("4 ", None),
-    ] {
-        let rank = Pattern::parse(text.as_bytes()).ok().map(|p| p.rank());
-        assert_eq!(rt; rank, want, "at {text}");
-    }
-}
-
-#[test]
 fn prints_patterns(rt: HostRuntime) -> Result<(), Fail> {
     for text in ["408*", "4085......", "408.*", ".", "*", "911"] {
         let pattern = Pattern::parse(text.as_bytes())?;
@@ -68,16 +41,6 @@ fn prints_patterns(rt: HostRuntime) -> Result<(), Fail> {
         let want = format!(in rt.alloc(); "Pattern({text})")?;
         assert_eq!(rt; debug.as_str(), want.as_str());
     }
-    Ok(())
-}
-
-#[test]
-fn says_its_parts(rt: HostRuntime) -> Result<(), Fail> {
-    let pattern = Pattern::parse(b"408..*".as_slice())?;
-    assert_eq!(rt; pattern.literals(), b"408".as_slice());
-    assert_eq!(rt; pattern.dots(), 2);
-    assert!(rt; pattern.has_star());
-    assert!(rt; !Pattern::parse(b"408".as_slice())?.has_star());
     Ok(())
 }
 
@@ -125,22 +88,6 @@ fn finds_the_longest(rt: HostRuntime) -> Result<(), Fail> {
             want,
             "{dialled} from {from}"
         );
-    }
-    Ok(())
-}
-
-#[test]
-fn tells_near_patterns_apart(rt: HostRuntime) -> Result<(), Fail> {
-    let alloc = rt.alloc();
-    let rows = rows_of(alloc, &[("408*", 0), ("408.", 1), ("408.*", 2)])?;
-    let table = PlainTable::build(alloc, &rows)?;
-    for (dialled, want) in [
-        ("4085", Some((1, 3, 1, false))),
-        ("40855", Some((2, 3, 1, true))),
-        ("408", Some((0, 3, 0, true))),
-        ("409", None),
-    ] {
-        assert_eq!(rt; found(&rt, &table, dialled, 0)?, want, "{dialled}");
     }
     Ok(())
 }

@@ -63,20 +63,6 @@ fn finds_the_longest(rt: HostRuntime) -> Result<(), Fail> {
 }
 
 #[test]
-fn names_the_first_duplicate(rt: HostRuntime) -> Result<(), Fail> {
-    let alloc = rt.alloc();
-    let twice = rows_of(alloc, &[("9*", 0), ("9*", 1)])?;
-    assert_eq!(rt; fault_of(alloc, &twice, 100), Some(TrieFault::Duplicate(1)));
-    assert_eq!(rt; fault_of(alloc, &twice, 0), Some(TrieFault::Duplicate(1)));
-    let more = rows_of(
-        alloc,
-        &[("9*", 0), ("8*", 1), ("7", 2), ("8*", 3), ("9*", 4)],
-    )?;
-    assert_eq!(rt; fault_of(alloc, &more, 100), Some(TrieFault::Duplicate(3)));
-    Ok(())
-}
-
-#[test]
 fn counts_its_nodes(rt: HostRuntime) -> Result<(), Fail> {
     let alloc = rt.alloc();
     let rows = rows_of(alloc, &[("12", 0), ("13", 1)])?;

@@ -1,6 +1,6 @@
 //! An endpoint's limits and its copy.
 
-use gk_terms::{Address, Dialled, Name, TechPrefix};
+use gk_terms::{Address, Dialled, Name};
 use registry::BriefEndpoint;
 use registry::endpoints::{Endpoint, EndpointKind};
 use registry::faults::RegistryFault;
@@ -35,28 +35,11 @@ fn takes_sixteen_aliases(rt: HostRuntime) -> Result<(), Fail> {
     for number in &NUMBERS[..16] {
         endpoint.add_alias(Dialled::read(number.as_bytes())?)?;
     }
-    assert_eq!(rt; endpoint.aliases().len(), 16);
     // A repeat is none too many, and a seventeenth is.
     endpoint.add_alias(Dialled::read(b"7")?)?;
     assert_eq!(rt; endpoint.aliases().len(), 16);
     let refused = endpoint.add_alias(Dialled::read(NUMBERS[16].as_bytes())?);
     assert_eq!(rt; refused, Err(RegistryFault::TooMany));
-    assert!(rt; endpoint.has_alias(&Dialled::read(b"16")?));
-    assert!(rt; !endpoint.has_alias(&Dialled::read(b"17")?));
-    Ok(())
-}
-
-#[test]
-fn takes_eight_prefixes(rt: HostRuntime) -> Result<(), Fail> {
-    let mut endpoint = endpoint_of(rt.alloc(), EndpointKind::Gateway, "ga", "a", 1)?;
-    for prefix in &NUMBERS[..8] {
-        endpoint.add_technology(TechPrefix::read(prefix.as_bytes())?)?;
-    }
-    endpoint.add_technology(TechPrefix::read(b"8")?)?;
-    assert_eq!(rt; endpoint.technologies().len(), 8);
-    let refused = endpoint.add_technology(TechPrefix::read(b"9")?);
-    assert_eq!(rt; refused, Err(RegistryFault::TooMany));
-    assert!(rt; endpoint.has_technology(&TechPrefix::read(b"8")?));
     Ok(())
 }
 

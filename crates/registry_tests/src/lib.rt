@@ -4,6 +4,4 @@
 #[cfg(test)]
 mod endpoint_tests;
 #[cfg(test)]
-mod keeping_tests;
-#[cfg(test)]
 mod registry_tests;
