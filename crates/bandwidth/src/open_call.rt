@@ -6,22 +6,23 @@ ghost use Rattle.bandwidth.specs.Sums.{zones_in};
 
 use gk_terms::{Name, Units};
 
-/// A call that was admitted and not yet released.
+/// A call that was admitted and not yet released. The numbers stand before the names, so that a
+/// request that changes or closes a call finds them in the first cache line, with the owner.
 #[derive(Clone, Copy, Debug, PartialEq, Eq)]
 pub struct OpenCall {
     /// The number by which the call's requests name it, 1 to 4294967295. No two open calls share
     /// it.
     pub number: u32,
+    /// The bandwidth of the call, in units of 100 bit/s, 0 to 4294967295.
+    pub units: Units,
+    /// Whether the target zone was another gatekeeper's when the call was admitted.
+    pub remote: bool,
     /// The ID of the endpoint that was admitted.
     pub owner: Name,
     /// The zone of that endpoint, the caller's.
     pub source: Name,
     /// The zone to which the call was routed.
     pub target: Name,
-    /// Whether the target zone was another gatekeeper's when the call was admitted.
-    pub remote: bool,
-    /// The bandwidth of the call, in units of 100 bit/s, 0 to 4294967295.
-    pub units: Units,
 }
 
 /// The zones that a call touches, the source first, each once.

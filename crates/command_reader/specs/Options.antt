@@ -1,13 +1,54 @@
--- The options of a `gw-type-prefix` line as they are held while the line is read.
-use Rattle.std.specs.Prelude.{◌≡◌, ◌||◌, ℕ, Bool, true, false, List, [], ◌∷◌, ◌++◌, Result, Ok, IsErr, MatchResult}
+-- How the options of a `gw-type-prefix` line are read word by word. What they mean is in
+-- specs/TechnologyLine; these are the contracts of the private functions that read them.
+use Rattle.std.specs.Prelude.{◌≡◌, ◌||◌, ℕ, Bool, true, false, List, [], ◌∷◌, ◌++◌, Option, Some, None, Result, Ok, Err, IsErr, MatchResult, codes, bytes_eq, if◌then◌else◌}
+use Rattle.std.specs.Option.{ok_or}
+use Rattle.gk_terms.specs.Name.{name_of}
 use Rattle.gk_terms.specs.Fields.{◌>>=◌}
 use Rattle.command_reader.specs.declared.faults.FaultKind.{FaultKind}
+use Rattle.command_reader.specs.declared.faults.FaultKind.TheVariants.{Unsupported, Extra, BadName}
 use Rattle.command_reader.specs.declared.technology_lines.TechnologyOption.{TechnologyOption}
 use Rattle.command_reader.specs.declared.technology_lines.TechnologyOption.TheVariants.{Hopoff, HopoffName, Hunt, DefaultTechnology}
+use Rattle.command_reader.specs.declared.technology_lines.Expected.{Expected}
+use Rattle.command_reader.specs.declared.technology_lines.Expected.TheVariants.{AnOption, AName, OptionOrName}
 use Rattle.command_reader.specs.declared.technology_lines.OpenOptions.{OpenOptions}
-use Rattle.command_reader.specs.TechnologyLine.{TechnologyOptions, expected_after}
+use Rattle.command_reader.specs.Fields.{is_one_of}
+use Rattle.command_reader.specs.ZoneLine.{hunt_words}
+use Rattle.command_reader.specs.TechnologyLine.{TechnologyOptions}
 use Rattle.command_reader.specs.Memory.{HoldsNames}
 
+-- ---- one word
+-- the word as the name of a hopoff
+abbrev pub hopoff_name_of : List ℕ → Result TechnologyOption FaultKind
+hopoff_name_of word = ok_or (name_of word) BadName >>= λ name. Ok (HopoffName name)
+
+-- the option that a word is, if it is one
+abbrev pub option_of : List ℕ → Result (Option TechnologyOption) FaultKind
+option_of word =
+    if bytes_eq word (codes "hopoff") then Ok (Some Hopoff)
+    else (if is_one_of hunt_words word then Ok (Some Hunt)
+    else (if bytes_eq word (codes "default-technology") then Ok (Some DefaultTechnology)
+    else (if bytes_eq word (codes "gw") then Err Unsupported else Ok None)))
+
+-- an option, or what the word is if it is not one
+abbrev pub option_or : Result TechnologyOption FaultKind → Option TechnologyOption
+    → Result TechnologyOption FaultKind
+option_or other (Some option) = Ok option
+option_or other None = other
+
+-- a word, by what may come next: right after `hopoff` it is a name, whatever it is
+abbrev pub option_at : Expected → List ℕ → Result TechnologyOption FaultKind
+option_at AName word = hopoff_name_of word
+option_at AnOption word = option_of word >>= option_or (Err Extra)
+option_at OptionOrName word = option_of word >>= option_or (hopoff_name_of word)
+
+-- what may come after it
+abbrev pub expected_after : TechnologyOption → Expected
+expected_after Hopoff = AName
+expected_after (HopoffName name) = OptionOrName
+expected_after Hunt = AnOption
+expected_after DefaultTechnology = AnOption
+
+-- ---- the options so far
 -- the names that an option adds
 abbrev pub names_of : TechnologyOption → List (List ℕ)
 names_of Hopoff = []

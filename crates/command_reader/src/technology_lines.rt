@@ -1,9 +1,9 @@
 //! What a line that begins with `gw-type-prefix` says.
 
-ghost use Rattle.std.specs.Prelude.{◌≡◌};
+ghost use Rattle.std.specs.Prelude.{◌≡◌, false};
 ghost use Rattle.gk_terms.specs.Text.{words_of};
-ghost use Rattle.command_reader.specs.TechnologyLine.{hopoff_name_of, option_of, option_at, options_at, gw_type_prefix_at};
-ghost use Rattle.command_reader.specs.Options.{AddsOption, hopoffs_and_default};
+ghost use Rattle.command_reader.specs.TechnologyLine.{options_at, gw_type_prefix_at};
+ghost use Rattle.command_reader.specs.Options.{hopoff_name_of, option_of, option_at, AddsOption, hopoffs_and_default};
 ghost use Rattle.command_reader.specs.Memory.{UnlessMemory, Any, DeclaresNone};
 
 use crate::commands::Command;
@@ -69,7 +69,7 @@ pub fn gw_type_prefix(alloc: Global, words: &mut Words<'_>) -> Result<Command, F
 /// name, the words are still read to their end, since a fault of theirs comes first.
 fn options(alloc: Global, words: &mut Words<'_>) -> Result<(Names, bool), FaultKind>
     ensures { UnlessMemory Any
-        (hopoffs_and_default (options_at Expected.AnOption (words_of words.old))) result }
+        (hopoffs_and_default (options_at false (words_of words.old))) result }
 {
     let mut options = OpenOptions {
         expected: Expected::AnOption,

@@ -45,6 +45,17 @@ impl Name {
         }
     }
 
+    /// The same name, of which no more is read than its characters. A copy of a `Name` reads all of
+    /// the 129 bytes in which it is held, and they lie in three cache lines: this is for a name that
+    /// is in no near cache.
+    pub fn copied(&self) -> Name
+        ensures { result ≡ self.now }
+    {
+        Name {
+            spelling: Spelling::new(self.as_bytes()),
+        }
+    }
+
     /// The bytes of the name.
     pub fn as_bytes(&self) -> &[u8]
         ensures spells { result.now ≡ self.now }

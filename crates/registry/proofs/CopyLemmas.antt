@@ -1,6 +1,6 @@
 -- Endpoints that are put one after another into an empty list.
 use Rattle.std.proofs.Common.{◌≡◌, ℕ, zero, suc, ◌+◌, ◌<◌, ◌≤◌, Bool, true, false, not, cond, ◌&&◌, ◌||◌, List, [], ◌∷◌, ◌++◌, length, length-append, ◌^◌, slice_get, find, refl, sym, ap, subst, ◌∙◌, arith}
-use Rattle.std.specs.Prelude.{Option, Some, None, is_some, bytes_eq}
+use Rattle.std.specs.Prelude.{Option, Some, None, bytes_eq}
 use denote.Ref.{Bor}
 use Rattle.std.specs.Option.{option_copied, option_map}
 use Rattle.std.specs.List.{list_any, position_or_len}
@@ -136,10 +136,6 @@ module _ (all copied left rest : List EndpointParts) (e : EndpointParts) (next :
       omega (arith, few, low, long, more, fits)
 
 -- ---- options of references
-pub copied_is_some : {X : Type 0} (o : Option (Bor X)) → is_some o ≡ is_some (option_copied o)
-copied_is_some None = refl
-copied_is_some (Some x) = refl
-
 pub copied_map : {X : Type 0} (o : Option (Bor X)) → option_copied o ≡ option_map (λ x. x.now) o
 copied_map None = refl
 copied_map (Some x) = refl

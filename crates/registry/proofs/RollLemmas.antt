@@ -195,15 +195,6 @@ module _ (entries : Numbered) (numbers : Numbers) (next : ℕ)
         ∙ sym (unsigned_tied number number) ∙ number_itself number);
   }
 
-  pub next_number : (id : List ℕ) → number_of numbers id ≡ None
-      → IsNumberFor (record { entries = entries; next = next }) id next
-  next_number id unknown = record {
-    only = λ other own.
-        absurd (both_ways false refl
-        (ap (is_number other) (sym unknown) ∙ roll.numbered id other ∙ own));
-    which = inr refl;
-  }
-
   -- a number is never greater than the next one
   pub number_within : (id : List ℕ) (number : ℕ) → number_of numbers id ≡ Some number
       → number < next

@@ -1,22 +1,20 @@
 -- The places that gateways serve, and what changes place by place.
-use Rattle.std.proofs.Common.{◌≡◌, inl, inr, ℕ, ◌+◌, ◌<◌, ◌≤◌, ◌==◌, Bool, true, false, not, cond, ◌&&◌, ◌||◌, List, [], ◌∷◌, length, take, drop, get_or, slice_get, refl, sym, ap, subst, ◌∙◌, arith}
-use Rattle.std.specs.Prelude.{Option, Some, None, Result, Ok, Err, OnOk, OnErr, IfSome, ⊤, ◌⊎◌, bytes_eq, if◌then◌else◌}
+use Rattle.std.proofs.Common.{◌≡◌, inl, inr, ℕ, ◌+◌, ◌<◌, ◌≤◌, ◌==◌, Bool, true, false, not, cond, ◌&&◌, ◌||◌, List, [], ◌∷◌, length, take, drop, get_or, refl, sym, ap, ◌∙◌, arith}
+use Rattle.std.specs.Prelude.{Option, Some, None, Result, Ok, Err, OnOk, OnErr, ◌⊎◌, bytes_eq, if◌then◌else◌}
 use Rattle.std.specs.declared.cmp.Ordering.{Ordering}
 use Rattle.std.specs.declared.cmp.Ordering.TheVariants.{Less, Equal, Greater}
-use Rattle.std.specs.BTreeMap.{is_at}
 use Rattle.std.specs.Ordering.{is_eq, is_gt, nat_cmp, MatchOrdering}
 use Rattle.std.specs.Cmp.{nat_cmp_total, unsigned_tied}
 use Rattle.std.specs.Cmp.Lexicographic.{same_text}
 use Rattle.std.specs.List.{list_any}
-use Rattle.std.proofs.lemmas.Bool.{both_ways, false_from_ne_true, and_parts}
+use Rattle.std.proofs.lemmas.Bool.{both_ways, and_parts}
 use Rattle.std.proofs.lemmas.Cmp.{nat_list_eq_equiv, ranked, tied_itself}
-use Rattle.std.proofs.lemmas.Map.Keys.{le_from_not_gt}
 use Rattle.std.proofs.lemmas.List.Folds.{list_any_more, list_any-append}
 use Rattle.std.proofs.lemmas.List.{take-append-drop}
 use Rattle.registry.specs.Endpoint.{EndpointParts, has_technology}
 use Rattle.registry.specs.declared.endpoints.EndpointKind.TheVariants.{Gateway, Terminal}
 use Rattle.registry.specs.Gateway.{is_gateway}
-use Rattle.registry.specs.Served.{HasNoEmpty, HasNoneFrom, IsLeastFrom, KeepsOthers, Place, Places, PutsNumber, Service, found_empty, found_number, has_number, is_empty, numbers_at, same_place, same_service, is_among, Puts, found_serving, is_of, is_partly_of, Adds, MayAdd, TakesOut, Enters, MayEnter, Leaves}
+use Rattle.registry.specs.Served.{HasNoEmpty, KeepsOthers, Place, Places, PutsNumber, Service, found_empty, found_number, has_number, is_empty, numbers_at, same_place, same_service, is_among, Puts, found_serving, is_of, is_partly_of, Adds, MayAdd, Enters, MayEnter}
 
 -- ---- the numbers of gateways
 pub not_above : (a b : ℕ) → a ≤ b → is_gt (nat_cmp a b) ≡ false
@@ -26,42 +24,6 @@ not_above a b h = by (nat_cmp a b) (ranked a b (nat_cmp a b) refl)
     by Less m = refl
     by Equal m = refl
     by Greater m = let never : ⊥ = omega (arith, m, h) in absurd never
-
--- a change by the order of numbers is one by their equality
-pub puts_number : (old new : List ℕ) (number : ℕ) (there : Bool)
-    → ((other : ℕ) → has_number new other
-    ≡ cond (is_at (nat_cmp number) other) there (has_number old other))
-    → PutsNumber old new number there
-puts_number old new number there updates other =
-    updates other ∙ ap (λ b. cond b there (has_number old other)) (unsigned_tied number other)
-
--- the first of what lies from a number on is the least
-pub first_number : (numbers r : List ℕ) (from k : ℕ) → slice_get r 0 ≡ Some k
-    → IfSome (slice_get r 0)
-    (λ q. ((is_gt (nat_cmp from q) ≡ false) × ⊤) × (has_number numbers q ≡ true))
-    → ((q : ℕ) → ((is_gt (nat_cmp from q) ≡ false) × ⊤) → has_number numbers q ≡ true
-    → IfSome (slice_get r 0) (λ f. is_gt (nat_cmp f q) ≡ false))
-    → IsLeastFrom (has_number numbers) from k
-first_number numbers r from k at there least =
-    let first = subst (λ o. IfSome o
-    (λ q. ((is_gt (nat_cmp from q) ≡ false) × ⊤) × (has_number numbers q ≡ true))) at there in
-    record {
-      there = first.1;
-      from_here = le_from_not_gt from k first.0.0;
-      least = λ other low less.
-          false_from_ne_true (has_number numbers other)
-          (λ has.
-          let up = le_from_not_gt k other
-          (subst (λ o. IfSome o (λ f. is_gt (nat_cmp f other) ≡ false)) at
-          (least other (not_above from other low, tt) has)) in
-          let never : ⊥ = omega (arith, up, less) in never);
-    }
-
--- nothing lies from a number on
-pub no_number : (numbers : List ℕ) (from : ℕ)
-    → ((q : ℕ) → ((is_gt (nat_cmp from q) ≡ false) × ⊤) → has_number numbers q ≡ false)
-    → HasNoneFrom (has_number numbers) from
-no_number numbers from empty number low = empty number (not_above from number low, tt)
 
 -- ---- the numbers at a zone and a prefix
 pub same_numbers : (places : Places) (x y : Service) → same_service x y ≡ true
@@ -102,10 +64,6 @@ module _ (old new : Places) (service : Service) (after : Option (List ℕ))
       by : (b : Bool) → found_empty (cond b after (numbers_at old other)) ≡ false
       by true = some
       by false = whole other
-
-  pub others_at : KeepsOthers old new service
-  others_at other apart =
-      changes other ∙ ap (λ b. cond b after (numbers_at old other)) apart
 
 -- what a number was added to is not empty
 pub added_some : (old new : List ℕ) (number : ℕ) → PutsNumber old new number true
@@ -319,30 +277,6 @@ pub terminal_enters : (e : EndpointParts) (number : ℕ) (old : Places) → e.ki
     → Enters old old number e
 terminal_enters e number old kind place =
     ap (λ b. if b then true else is_among old place) (sym (terminal_places e number kind place))
-
-pub gateway_leaves : (e : EndpointParts) (number : ℕ) (old new : Places)
-    (kept : Option EndpointParts) → e.kind ≡ Gateway
-    → TakesOut old new number e.zone e.technologies kept → Leaves old new number (Some e) kept
-gateway_leaves e number old new kept kind takes place =
-    takes place
-    ∙ ap (λ b. if b && not (is_of number kept place) then false else is_among old place)
-    (gateway_places e number kind place)
-
-pub terminal_leaves : (e : EndpointParts) (number : ℕ) (old : Places)
-    (kept : Option EndpointParts) → e.kind ≡ Terminal → Leaves old old number (Some e) kept
-terminal_leaves e number old kept kind place =
-    ap (λ b. if b && not (is_of number kept place) then false else is_among old place)
-    (sym (terminal_places e number kind place))
-
--- without an endpoint nothing is left
-pub none_leaves : (number : ℕ) (old : Places) (kept : Option EndpointParts)
-    → Leaves old old number None kept
-none_leaves number old kept place = by (number == place.2)
-  where
-    by : (b : Bool) → is_among old place
-        ≡ (if (b && false) && not (is_of number kept place) then false else is_among old place)
-    by true = refl
-    by false = refl
 
 -- some prefixes of a list
 pub part_added : (old new : Places) (number : ℕ) (zone : List ℕ) (prefixes : List (List ℕ))

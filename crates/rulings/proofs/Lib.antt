@@ -1,3 +1,4 @@
+pub mod AdmittingLemmas
 pub mod CallingLemmas
 pub mod CarryingLemmas
 pub mod LimitLemmas

@@ -25,10 +25,16 @@ impl DestinationKind {
         ensures { result ≡ Spec.destination_meant self name.now address }
     {
         match self {
-            DestinationKind::Gateway => Destination::Gateway { id: *name, address },
-            DestinationKind::Terminal => Destination::Terminal { id: *name, address },
+            DestinationKind::Gateway => Destination::Gateway {
+                id: name.copied(),
+                address,
+            },
+            DestinationKind::Terminal => Destination::Terminal {
+                id: name.copied(),
+                address,
+            },
             DestinationKind::Zone => Destination::Zone {
-                name: *name,
+                name: name.copied(),
                 address,
             },
         }

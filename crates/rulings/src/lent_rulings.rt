@@ -259,11 +259,11 @@ impl LentRuling<'_> {
                 ..
             } => Effect::Open(OpenCall {
                 number: *call,
-                owner: **owner,
-                source: **source,
-                target: **target,
-                remote: *remote,
                 units: *units,
+                remote: *remote,
+                owner: **owner,
+                source: source.copied(),
+                target: target.copied(),
             }),
             LentRuling::Changed { call, id, units } => Effect::Resize {
                 call: *call,

@@ -134,7 +134,7 @@ impl Machine {
 
     // ---- admissions
 
-    #[tactic(auto, unfolding(crate::specs::Ruling::ruling_of))]
+    #[tactic(auto, using(crate::proofs::AdmittingLemmas::caller_has_id), unfolding(crate::specs::Ruling::ruling_of))]
     /// The ruling on an admission; the plan is what the commands in force say of the digits. The
     /// refusals are tried in this order: the caller is not registered; a call of the number is
     /// open; the digits lead nowhere; a sum of the call would be above its limit.
@@ -142,7 +142,7 @@ impl Machine {
         &'a self,
         tables: &'a Tables,
         plan: &Plan,
-        id: &Name,
+        id: &'a Name,
         call: u32,
         digits: &Dialled,
         units: Units,
@@ -170,16 +170,17 @@ impl Machine {
                 name,
                 address,
             } => {
-                let owner = caller.id();
+                // The caller's ID is the one that asks, which was just read.
+                let owner = id;
                 let target = target_zone(tables, plan, source);
                 let remote = is_remote(plan);
                 let admitted = &OpenCall {
                     number: call,
-                    owner: *owner,
-                    source: *source,
-                    target: *target,
-                    remote,
                     units,
+                    remote,
+                    owner: *owner,
+                    source: source.copied(),
+                    target: target.copied(),
                 };
                 match &self.calls().fits_new(tables, admitted) {
                     Err(over) => LentRuling::OverLimit {

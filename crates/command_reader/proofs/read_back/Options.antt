@@ -1,99 +1,90 @@
 -- The canonical options of a `gw-type-prefix` line are read as the same options.
-use Rattle.std.proofs.Common.{◌≡◌, ℕ, Bool, true, false, cond, List, [], ◌∷◌, ◌++◌, Ok, Err, refl, ap, ◌∙◌, append_assoc}
-use Rattle.std.specs.Prelude.{Option, Some, None, Result, codes, bytes_eq, flat_map}
+use Rattle.std.proofs.Common.{◌≡◌, ℕ, Bool, true, false, cond, List, [], ◌∷◌, ◌++◌, Ok, refl, ap, ◌∙◌, append_assoc}
+use Rattle.std.specs.Prelude.{Option, Result, codes, bytes_eq, flat_map}
 use Rattle.std.specs.Option.{ok_or}
 use Rattle.std.proofs.lemmas.Bool.{and_from, or_parts, or_from}
 use Rattle.std.proofs.lemmas.List.Folds.{list_all-append}
 use Rattle.gk_terms.specs.Fields.{◌>>=◌}
 use Rattle.command_reader.specs.declared.faults.FaultKind.{FaultKind}
-use Rattle.command_reader.specs.declared.faults.FaultKind.TheVariants.{BadName, Unsupported}
-use Rattle.command_reader.specs.declared.technology_lines.TechnologyOption.{TechnologyOption}
-use Rattle.command_reader.specs.declared.technology_lines.TechnologyOption.TheVariants.{Hopoff, HopoffName, Hunt, DefaultTechnology}
-use Rattle.command_reader.specs.declared.technology_lines.Expected.TheVariants.{AnOption, AName, OptionOrName}
+use Rattle.command_reader.specs.declared.faults.FaultKind.TheVariants.{BadName}
 use Rattle.command_reader.specs.Fields.{is_one_of}
 use Rattle.command_reader.specs.ZoneLine.{hunt_words}
-use Rattle.command_reader.specs.TechnologyLine.{TechnologyOptions, hopoff_name_of, option_of, option_or, expected_after, with_option, options_at}
+use Rattle.command_reader.specs.TechnologyLine.{TechnologyOptions, with_hopoff, options_at}
 use Rattle.command_reader.specs.Printing.{option_words, further_words, hopoff_words, default_words}
 use Rattle.command_reader.specs.Accepted.{is_word}
 use Rattle.command_reader.proofs.read_back.Words.{AreWords}
 use Rattle.command_reader.proofs.read_back.Fields.{IsNamed}
 use Rattle.command_reader.proofs.read_back.Hopoffs.{AreNamed}
 
--- a word that is not an option word
-other_from : (word : List ℕ) → is_one_of option_words word ≡ false → option_of word ≡ Ok None
-other_from word h =
+-- the last of five, if none of the tests before it holds
+last_of : {X : Type 0} (a b c d : Bool) (p q r s t : X) → a ≡ false → b ≡ false → c ≡ false
+    → d ≡ false → cond a p (cond b q (cond c r (cond d s t))) ≡ t
+last_of a b c d p q r s t e f g h =
+    ap (λ x. cond x p (cond b q (cond c r (cond d s t)))) e
+    ∙ ap (λ x. cond x q (cond c r (cond d s t))) f
+    ∙ ap (λ x. cond x r (cond d s t)) g
+    ∙ ap (λ x. cond x s t) h
+
+-- a word that is not an option word is one more name
+plain_name : (word : List ℕ) (words : List (List ℕ)) → is_one_of option_words word ≡ false
+    → options_at true (word ∷ words) ≡ with_hopoff word (options_at true words)
+plain_name word words h =
     let hopoff = or_parts (bytes_eq word (codes "hopoff")) _ h in
     let seq = or_parts (bytes_eq word (codes "seq")) _ hopoff.1 in
     let blast = or_parts (bytes_eq word (codes "blast")) _ seq.1 in
     let technology = or_parts (bytes_eq word (codes "default-technology")) _ blast.1 in
     let gw = or_parts (bytes_eq word (codes "gw")) false technology.1 in
     let hunt : is_one_of hunt_words word ≡ false = or_from _ _ seq.0 (or_from _ _ blast.0 refl) in
-    let last : Result (Option TechnologyOption) FaultKind = cond (bytes_eq word (codes "gw"))
-    (Err Unsupported) (Ok None) in
-    let third : Result (Option TechnologyOption) FaultKind = cond
-    (bytes_eq word (codes "default-technology")) (Ok (Some DefaultTechnology)) last in
-    ap (λ b. cond b (Ok (Some Hopoff)) (cond (is_one_of hunt_words word) (Ok (Some Hunt)) third))
-    hopoff.0
-    ∙ ap (λ b. cond b (Ok (Some Hunt)) third) hunt
-    ∙ ap (λ b. cond b (Ok (Some DefaultTechnology)) last) technology.0
-    ∙ ap (λ b. cond b (Err Unsupported) (Ok None)) gw.0
+    last_of _ _ _ _ _ _ _ _ _ hopoff.0 hunt technology.0 gw.0
 
--- what an option and the words after it say
-abbrev step : List (List ℕ) → Result TechnologyOption FaultKind → Result TechnologyOptions FaultKind
-step rest option = option >>= λ (o : TechnologyOption). options_at (expected_after o) rest >>=
-    with_option o
+-- ---- the options, read again
+abbrev options_of : List (List ℕ) → Bool → Result TechnologyOptions FaultKind
+options_of names is_default = Ok (record { hopoffs = names; is_default = is_default })
 
--- a name that is read
-named : (name : List ℕ) → IsNamed name → hopoff_name_of name ≡ Ok (HopoffName name)
-named name is = ap (λ o. ok_or o BadName >>= λ n. Ok (HopoffName n)) is.spelled
-
-name_owed : (name : List ℕ) (rest : List (List ℕ)) → IsNamed name → options_at AName (name ∷ rest) ≡
-    (options_at OptionOrName rest >>= with_option (HopoffName name))
-name_owed name rest is = ap (step rest) (named name is)
-
-after_hopoff : (right : Result TechnologyOptions FaultKind) → (right >>= with_option Hopoff) ≡ right
-after_hopoff (Ok options) = refl
-after_hopoff (Err kind) = refl
+-- a name that is read, in front of others
+name_again : (name : List ℕ) (names : List (List ℕ)) (is_default : Bool)
+    (rest : Result TechnologyOptions FaultKind) → IsNamed name → rest ≡ options_of names is_default
+    → with_hopoff name rest ≡ options_of (name ∷ names) is_default
+name_again name names is_default rest is h =
+    ap (λ (r : Result TechnologyOptions FaultKind). with_hopoff name r) h
+    ∙ ap (λ (o : Option (List ℕ)). ok_or o BadName >>= λ n. options_of (n ∷ names) is_default)
+    is.spelled
 
 -- one further name
-further_name : (name : List ℕ) (rest : List (List ℕ)) → IsNamed name
-    → options_at OptionOrName (further_words name ++ rest) ≡
-    (options_at OptionOrName rest >>= with_option (HopoffName name))
-further_name name rest is = by (is_one_of option_words name) refl
+further_name : (name : List ℕ) (names rest : List (List ℕ)) (is_default : Bool) → IsNamed name
+    → options_at true rest ≡ options_of names is_default
+    → options_at true (further_words name ++ rest) ≡ options_of (name ∷ names) is_default
+further_name name names rest is_default is h = by (is_one_of option_words name) refl
   where
     by : (b : Bool) → is_one_of option_words name ≡ b
-        → options_at OptionOrName (cond b (codes "hopoff" ∷ name ∷ []) (name ∷ []) ++ rest) ≡
-        (options_at OptionOrName rest >>= with_option (HopoffName name))
-    by true e = after_hopoff (options_at AName (name ∷ rest)) ∙ name_owed name rest is
+        → options_at true (cond b (codes "hopoff" ∷ name ∷ []) (name ∷ []) ++ rest)
+        ≡ options_of (name ∷ names) is_default
+    by true e = name_again name names is_default (options_at true rest) is h
     by false e =
-        ap (λ (o : Result (Option TechnologyOption) FaultKind). step rest
-        (o >>= option_or (hopoff_name_of name))) (other_from name e)
-        ∙ ap (step rest) (named name is)
+        plain_name name rest e
+        ∙ name_again name names is_default (options_at true rest) is h
 
 -- all of them
 further_names : (names : List (List ℕ)) (is_default : Bool) → AreNamed names
-    → options_at OptionOrName (flat_map further_words names ++ default_words is_default) ≡ Ok
-    (record { hopoffs = names; is_default = is_default })
+    → options_at true (flat_map further_words names ++ default_words is_default)
+    ≡ options_of names is_default
 further_names [] true are = refl
 further_names [] false are = refl
 further_names (name ∷ names) is_default are =
     let tail : List (List ℕ) = flat_map further_words names in
-    ap (options_at OptionOrName) (append_assoc (further_words name) tail (default_words is_default))
-    ∙ further_name name (tail ++ default_words is_default) are.0
-    ∙ ap (λ (r : Result TechnologyOptions FaultKind). r >>= with_option (HopoffName name))
+    ap (options_at true) (append_assoc (further_words name) tail (default_words is_default))
+    ∙ further_name name names (tail ++ default_words is_default) is_default are.0
     (further_names names is_default are.1)
 
 -- the canonical options are read again
 pub options_again : (names : List (List ℕ)) (is_default : Bool) → AreNamed names
-    → options_at AnOption (hopoff_words names ++ default_words is_default) ≡ Ok
-    (record { hopoffs = names; is_default = is_default })
+    → options_at false (hopoff_words names ++ default_words is_default)
+    ≡ Ok (record { hopoffs = names; is_default = is_default })
 options_again [] true are = refl
 options_again [] false are = refl
 options_again (name ∷ names) is_default are =
-    let rest : List (List ℕ) = flat_map further_words names ++ default_words is_default in
-    after_hopoff (options_at AName (name ∷ rest))
-    ∙ name_owed name rest are.0
-    ∙ ap (λ (r : Result TechnologyOptions FaultKind). r >>= with_option (HopoffName name))
+    name_again name names is_default
+    (options_at true (flat_map further_words names ++ default_words is_default)) are.0
     (further_names names is_default are.1)
 
 -- ---- words

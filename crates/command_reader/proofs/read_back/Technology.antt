@@ -1,5 +1,5 @@
 -- The canonical line of a `gw-type-prefix` line that was read says the same command.
-use Rattle.std.proofs.Common.{◌≡◌, ℕ, ◌≤◌, true, List, [], ◌∷◌, ◌++◌, Some, Result, Ok, refl, sym, ap, subst, ◌∙◌, arith}
+use Rattle.std.proofs.Common.{◌≡◌, ℕ, ◌≤◌, true, false, List, [], ◌∷◌, ◌++◌, Some, Result, Ok, refl, sym, ap, subst, ◌∙◌, arith}
 use Rattle.std.specs.Prelude.{codes}
 use Rattle.std.proofs.lemmas.Bool.{and_from}
 use Rattle.gk_terms.specs.TechPrefix.{tech_prefix_of}
@@ -7,7 +7,6 @@ use Rattle.command_reader.specs.declared.faults.FaultKind.{FaultKind}
 use Rattle.command_reader.specs.declared.faults.FaultKind.TheVariants.{BadPattern, Missing}
 use Rattle.command_reader.specs.declared.commands.Command.{Command}
 use Rattle.command_reader.specs.declared.commands.Command.TheVariants.{GwTypePrefix}
-use Rattle.command_reader.specs.declared.technology_lines.Expected.TheVariants.{AnOption}
 use Rattle.gk_terms.specs.Fields.{◌>>=◌, field}
 use Rattle.command_reader.specs.TechnologyLine.{TechnologyOptions, options_at, gw_type_prefix_at}
 use Rattle.command_reader.specs.Line.{kept_command_of, command_at}
@@ -25,7 +24,7 @@ abbrev after_options : List ℕ → TechnologyOptions → Result Command FaultKi
 after_options prefix options = Ok (GwTypePrefix prefix options.hopoffs options.is_default)
 
 abbrev after_prefix : List ℕ × List (List ℕ) → Result Command FaultKind
-after_prefix prefix = options_at AnOption prefix.1 >>= after_options prefix.0
+after_prefix prefix = options_at false prefix.1 >>= after_options prefix.0
 
 -- the canonical words after `gw-type-prefix`
 abbrev tail_of : List ℕ → TechnologyOptions → List (List ℕ)
@@ -47,7 +46,7 @@ technology_read words command h =
     let p = bound (field Missing tech_prefix_of BadPattern words) after_prefix command h in
     let f = field_read [] tech_prefix_of BadPattern words p.value p.read in
     let prefix = tech_prefix_read f.word p.value.0 f.taken.spelled in
-    let o = bound (options_at AnOption p.value.1) (after_options p.value.0) command p.next in
+    let o = bound (options_at false p.value.1) (after_options p.value.0) command p.next in
     let options = options_read p.value.1 o.value o.read in
     record {
       prefix = p.value.0;
@@ -68,7 +67,7 @@ tail_again words command r =
     (r.prefix, rest)
     (field_again [] tech_prefix_of BadPattern r.prefix rest r.prefix
     (record { kept = refl; spelled = r.prefix_spelled }))
-    ∙ bind_at (options_at AnOption rest) (after_options r.prefix) r.options
+    ∙ bind_at (options_at false rest) (after_options r.prefix) r.options
     (options_again r.options.hopoffs r.options.is_default r.names)
     ∙ ap (λ c. Ok c) r.is
 

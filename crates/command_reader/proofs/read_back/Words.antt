@@ -1,7 +1,7 @@
 -- Words with a space between each two read back as those words, and lines of them as those lines.
-use Rattle.std.proofs.Common.{◌≡◌, ℕ, ◌<◌, Bool, true, false, cond, zero, suc, List, [], ◌∷◌, ◌++◌, length, length-append, take, get_or, refl, ap, ◌∙◌, arith, append_assoc}
+use Rattle.std.proofs.Common.{◌≡◌, ℕ, ◌<◌, Bool, true, false, cond, zero, suc, List, [], ◌∷◌, ◌++◌, length, length-append, take, get_or, refl, ap, ◌∙◌, arith}
 use Rattle.std.specs.Prelude.{◌-◌, not, ◌||◌, ◌==◌, filter, map, flat_map, slice_index}
-use Rattle.std.specs.List.{list_all, slice_split, onto_first, AllByRecursion}
+use Rattle.std.specs.List.{list_all, slice_split, AllByRecursion}
 use Rattle.std.proofs.lemmas.Bool.{and_parts, and_from}
 use Rattle.std.proofs.lemmas.Bool.Decides.{nat_tests}
 use Rattle.std.proofs.lemmas.List.{append-nil}
@@ -12,7 +12,7 @@ use Rattle.gk_lines.specs.LineReader.{HasNoFeed}
 use Rattle.gk_lines.proofs.LinesRead.{whole_line_first}
 use Rattle.gk_terms.specs.Spelling.{is_visible}
 use Rattle.command_reader.specs.Accepted.{is_word}
-use Rattle.gk_terms.specs.Text.{is_blank, is_empty, words_of, raw_lines_of, strip_carriage_return, content_of, lines_of, spaced, line_text}
+use Rattle.gk_terms.specs.Text.{is_blank, is_empty, words_of, strip_carriage_return, content_of, lines_of, spaced, line_text}
 
 pub word_from : (text : List ℕ) → 0 < length text → list_all is_visible text ≡ true → is_word text ≡
     true

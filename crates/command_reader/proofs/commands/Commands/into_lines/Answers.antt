@@ -1,7 +1,7 @@
 use Rattle.std.proofs.Common.{subst}
 use Rattle.std.specs.Prelude.{IfSome}
 use Rattle.command_reader.specs.Accepted.{LinesSay}
-use Rattle.command_reader.proofs.WholeLinesLemmas.{says_them, says_just_them}
+use Rattle.command_reader.proofs.WholeLinesLemmas.{says_just_them}
 use Rattle.command_reader.proofs.commands.Commands.into_lines.Goals as goal
 
 pub new-requires : goal.new-requires
