@@ -1,4 +1,4 @@
--- The caller of an admission has the ID that asks.
+-- The endpoint that is found by an ID has that ID.
 use Rattle.std.proofs.Common.{◌≡◌, ℕ, List}
 use Rattle.std.specs.Prelude.{Some}
 use Rattle.std.proofs.lemmas.Slice.Eq.{bytes_eq-Decides}

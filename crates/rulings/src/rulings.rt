@@ -170,7 +170,7 @@ impl Machine {
                 name,
                 address,
             } => {
-                // The caller's ID is the one that asks, which was just read.
+                // The ID in the request is the caller's, and has just been read.
                 let owner = id;
                 let target = target_zone(tables, plan, source);
                 let remote = is_remote(plan);
