@@ -49,7 +49,7 @@ impl Served {
             → is_among self.now (zone.now, prefix.now, number) ≡ false)
             (IsNext self.now zone.now prefix.now from) }
     {
-        match self.numbers.get(&(zone.copied(), *prefix)) {
+        match self.numbers.get(&(*zone, *prefix)) {
             Some(numbers) => numbers.next_from(from),
             None => None,
         }

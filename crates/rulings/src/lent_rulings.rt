@@ -262,8 +262,8 @@ impl LentRuling<'_> {
                 units: *units,
                 remote: *remote,
                 owner: **owner,
-                source: source.copied(),
-                target: target.copied(),
+                source: **source,
+                target: **target,
             }),
             LentRuling::Changed { call, id, units } => Effect::Resize {
                 call: *call,

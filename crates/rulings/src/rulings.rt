@@ -179,8 +179,8 @@ impl Machine {
                     units,
                     remote,
                     owner: *owner,
-                    source: source.copied(),
-                    target: target.copied(),
+                    source: *source,
+                    target: *target,
                 };
                 match &self.calls().fits_new(tables, admitted) {
                     Err(over) => LentRuling::OverLimit {
