@@ -4,7 +4,7 @@ use Rattle.std.proofs.lemmas.List.{length-map}
 use Rattle.std.specs.Prelude.{ℕ, nat_lt}
 use Rattle.std.proofs.lemmas.List.Sums.{length-filter, count_by-le-length}
 use Rattle.bandwidth.specs.declared.open_call.OpenCall.{OpenCall}
-use Rattle.bandwidth.specs.Calls.{has_number, call_of, with_units, with_call, without_call, with_changed}
+use Rattle.bandwidth.specs.Calls.{has_call_number, call_of, with_units, with_call, without_call, with_changed}
 use Rattle.rulings.specs.Founded.{is_owned}
 
 -- no call has both a smaller and a greater number
@@ -50,14 +50,14 @@ pub length-without_call : (calls : List OpenCall) (number : ℕ) (id : List ℕ)
     → length (without_call calls number) + 1 ≤ length calls
 length-without_call [] number id h = absurd (true≢false (sym h))
 length-without_call (call ∷ calls) number id h =
-    by (has_number number call) (length-without_call calls number id) h
+    by (has_call_number number call) (length-without_call calls number id) h
   where
-    shorter : length (filter (λ c. not (has_number number c)) calls) ≤ length calls
+    shorter : length (filter (λ c. not (has_call_number number c)) calls) ≤ length calls
     shorter =
         omega (
           arith,
-          length-filter (λ c. not (has_number number c)) calls,
-          count_by-le-length (λ c. not (has_number number c)) calls,
+          length-filter (λ c. not (has_call_number number c)) calls,
+          count_by-le-length (λ c. not (has_call_number number c)) calls,
         )
 
     by : (same : Bool)

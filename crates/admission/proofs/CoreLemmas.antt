@@ -10,7 +10,7 @@ use Rattle.rulings.specs.Events.{PlainEvent, Registering, Unregistering, Admitti
 use Rattle.rulings.specs.Ruling.{ruling_of, verdict_of}
 use Rattle.rulings.specs.Step.{places_needed, count_refusal, step, no_memory_reply_of}
 use Rattle.decision_record.specs.History.{PlainEntry, entry_of, IsLegal, replay, CoreParts, RecordParts, in_force, generations_of, generations, state_of, with_entry, receipt_of, MayReply, core_after}
-use Rattle.admission.specs.CoreInvariant.{IsKept}
+use Rattle.admission.specs.CoreInvariant.{IsOrderKept}
 use Rattle.rulings.specs.Ruling.{Ruling}
 use Rattle.rulings.specs.declared.replies.Reply.{Reply}
 use Rattle.admission.specs.HistoryLaws.{AreAccepted, IsWithinLimits, IsSound}
@@ -66,7 +66,7 @@ state_for machine history = under (in_force history) machine
 
 abbrev pub IsCore : MachineParts → RecordParts → Bool → Type 0
 IsCore machine history reserved =
-    IsKept (opening_for machine.limits history) history (state_for machine history) reserved
+    IsOrderKept (opening_for machine.limits history) history (state_for machine history) reserved
 
 module _ (machine : MachineParts) (history : RecordParts) (reserved : Bool)
     (kept : IsCore machine history reserved) where

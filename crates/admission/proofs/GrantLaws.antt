@@ -5,7 +5,7 @@ use Rattle.std.proofs.lemmas.Bool.{ltb-true, ne_eqb, eq-eqb}
 use Rattle.std.proofs.lemmas.Option.{none-some, same_Some}
 use Rattle.command_reader.specs.declared.commands.Command.{Command}
 use Rattle.bandwidth.specs.declared.open_call.OpenCall.{OpenCall}
-use Rattle.bandwidth.specs.Calls.{AreInOrder, has_number, call_of, is_open, with_call, with_changed}
+use Rattle.bandwidth.specs.Calls.{AreInOrder, has_call_number, call_of, is_open, with_call, with_changed}
 use Rattle.bandwidth.specs.Fits.{over_of}
 use Rattle.bandwidth.specs.declared.over.Over.{Over}
 use Rattle.bandwidth.proofs.RefusalLaws.{refusal_names_a_sum}
@@ -20,7 +20,7 @@ use Rattle.rulings.specs.Events.{PlainEvent}
 use Rattle.rulings.specs.Ruling.{ruling_of, verdict_of}
 use Rattle.rulings.specs.Step.{with_effect, with_count, state_after, step}
 use Rattle.decision_record.specs.History.{PlainEntry, IsLegal, replay}
-use Rattle.admission.specs.HistoryLaws.{StandsAfter, IsGrant, ToOpen, ToRaise, IsWithin, sum_named, IsRefusedRightly, RecordedGrantsAreWithin, RecordedRaisesWereWithin, RecordedLimitsAreAbove}
+use Rattle.admission.specs.HistoryLaws.{StandsAfter, IsGrant, ToOpen, ToRaise, IsCallWithin, sum_named, IsRefusedRightly, RecordedGrantsAreWithin, RecordedRaisesWereWithin, RecordedLimitsAreAbove}
 use Rattle.admission.proofs.StepLemmas.{step_state}
 use Rattle.admission.proofs.HistoryLaws.{verdict_there}
 use Rattle.admission.proofs.OrderLemmas.{calls_in_order}
@@ -29,10 +29,10 @@ use Rattle.admission.proofs.GrantLemmas.{gives_bandwidth, IsBehind, Other, Refus
 -- ---- who is found after a change
 -- none of a number that is less
 none_less : (calls : List OpenCall) (call : OpenCall) (after : List OpenCall)
-    → find (has_number call.number)
+    → find (has_call_number call.number)
     (filter (λ c. nat_lt c.number call.number) calls ++ call ∷ after) ≡ Some call
 none_less [] call after =
-    ap (λ t. cond t (Some call) (find (has_number call.number) after))
+    ap (λ t. cond t (Some call) (find (has_call_number call.number) after))
     (eq-eqb call.number call.number refl)
 none_less (c ∷ calls) call after =
     by (nat_lt c.number call.number) refl (none_less calls call after)
@@ -41,11 +41,11 @@ none_less (c ∷ calls) call after =
     less = filter (λ d. nat_lt d.number call.number) calls
 
     by : (t : Bool) → nat_lt c.number call.number ≡ t
-        → find (has_number call.number) (less ++ call ∷ after) ≡ Some call
-        → find (has_number call.number) (cond t (c ∷ less) less ++ call ∷ after) ≡ Some call
+        → find (has_call_number call.number) (less ++ call ∷ after) ≡ Some call
+        → find (has_call_number call.number) (cond t (c ∷ less) less ++ call ∷ after) ≡ Some call
     by true e rest =
         let under = ltb-true c.number call.number e in
-        ap (λ t. cond t (Some c) (find (has_number call.number) (less ++ call ∷ after)))
+        ap (λ t. cond t (Some c) (find (has_call_number call.number) (less ++ call ∷ after)))
         (ne_eqb c.number call.number (λ same. let never : ⊥ = omega (arith, under, same) in never))
         ∙ rest
     by false e rest = rest
@@ -60,9 +60,9 @@ found_changed : (calls : List OpenCall) (number units : ℕ) (held : OpenCall)
     → call_of (with_changed calls number units) number ≡ Some (record held { units = units })
 found_changed [] number units held found = absurd (none-some held found)
 found_changed (call ∷ calls) number units held found =
-    by (has_number number call) refl found (found_changed calls number units held)
+    by (has_call_number number call) refl found (found_changed calls number units held)
   where
-    by : (t : Bool) → has_number number call ≡ t
+    by : (t : Bool) → has_call_number number call ≡ t
         → cond t (Some call) (call_of calls number) ≡ Some held
         → (call_of calls number ≡ Some held
         → call_of (with_changed calls number units) number ≡ Some (record held { units = units }))
@@ -88,9 +88,10 @@ module _ (s : State) (event : PlainEvent) (number units : ℕ) where
   opened_within : (call : OpenCall) → (ruling_of s event).effect ≡ Open call
       → call.number ≡ number → call.units ≡ units → is_open s.calls call.number ≡ false
       → over_of s.commands s.calls call ≡ None
-      → IsWithin (state_after s event (ruling_of s event)) number units
+      → IsCallWithin (state_after s event (ruling_of s event)) number units
   opened_within call effect its granted closed fits =
-      subst (λ (t : State). IsWithin t number units) (sym (after_effect s event (Open call) effect))
+      subst (λ (t : State). IsCallWithin t number units) (sym (after_effect s event (Open call)
+      effect))
       (record {
         call = call;
         is_open = ap (call_of (with_call s.calls call)) (sym its) ∙ found_opened s.calls call;
@@ -103,9 +104,9 @@ module _ (s : State) (event : PlainEvent) (number units : ℕ) where
       → call_of s.calls number ≡ Some held → held.units < units
       → over_of s.commands s.calls (record held { units = units }) ≡ None
       → AreInOrder s.calls
-      → IsWithin (state_after s event (ruling_of s event)) number units
+      → IsCallWithin (state_after s event (ruling_of s event)) number units
   raised_within id held effect found more fits order =
-      subst (λ (t : State). IsWithin t number units)
+      subst (λ (t : State). IsCallWithin t number units)
       (sym (after_effect s event (Resize number id units) effect))
       (record {
         call = record held { units = units };
@@ -117,7 +118,7 @@ module _ (s : State) (event : PlainEvent) (number units : ℕ) where
   -- by what stands behind the ruling
   granted_within : AreInOrder s.calls → IsBehind s event (ruling_of s event)
       → IsGrant s number units (verdict_of s event)
-      → IsWithin (state_after s event (ruling_of s event)) number units
+      → IsCallWithin (state_after s event (ruling_of s event)) number units
   granted_within order (Other gives none) grant = absurd (true≢false (sym (given grant) ∙ gives))
     where
       given : {reply : Reply} → IsGrant s number units reply → gives_bandwidth reply ≡ true
@@ -142,7 +143,7 @@ module _ (s : State) (event : PlainEvent) (number units : ℕ) where
       raised_as grant verdict
     where
       raised_as : {reply : Reply} → IsGrant s number units reply → reply ≡ Changed call asked
-          → IsWithin (state_after s event (ruling_of s event)) number units
+          → IsCallWithin (state_after s event (ruling_of s event)) number units
       raised_as (ToOpen reached) same = let impossible : ⊥ = cc in absurd impossible
       raised_as (ToRaise was there more) same =
           let number_is : call ≡ number = cc in
@@ -203,7 +204,7 @@ module _ (commands : List Command) (limits : Limits) (entries before : List Plai
 pub recorded_grants_are_within : RecordedGrantsAreWithin
 recorded_grants_are_within commands limits entries before e number units legal stands grant =
     let s = replay (opening_of commands limits) before in
-    subst (λ (t : State). IsWithin t number units)
+    subst (λ (t : State). IsCallWithin t number units)
     (sym (state_is commands limits entries before e legal stands))
     (granted_within s e.event number units
     (order_there commands limits entries before e legal stands) (behind s e.event)
@@ -214,7 +215,7 @@ recorded_grants_are_within commands limits entries before e number units legal s
 raise_was_within : (s : State) (event : PlainEvent) (number units : ℕ) (held : OpenCall)
     → AreInOrder s.calls → IsBehind s event (ruling_of s event)
     → verdict_of s event ≡ Changed number units → call_of s.calls number ≡ Some held
-    → held.units < units → IsWithin s number held.units
+    → held.units < units → IsCallWithin s number held.units
 raise_was_within s event number units held order (Other gives none) verdict found more =
     absurd (true≢false (sym (ap gives_bandwidth verdict) ∙ gives))
 raise_was_within s event number units held order (Refusing gives over call names asks fits) verdict

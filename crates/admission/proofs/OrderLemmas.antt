@@ -5,7 +5,7 @@ use Rattle.std.specs.List.{AllByRecursion}
 use Rattle.std.proofs.lemmas.Bool.{ltb-true}
 use Rattle.registry.specs.Endpoint.{EndpointParts}
 use Rattle.bandwidth.specs.declared.open_call.OpenCall.{OpenCall}
-use Rattle.bandwidth.specs.Calls.{AreInOrder, has_number, with_units, with_call, with_changed}
+use Rattle.bandwidth.specs.Calls.{AreInOrder, has_call_number, with_units, with_call, with_changed}
 use Rattle.bandwidth.proofs.CallLemmas.{Ascend, in_order}
 use Rattle.rulings.specs.declared.rulings.Effect.{Effect}
 use Rattle.rulings.specs.declared.rulings.Effect.TheVariants.{Nothing, Put, Remove, Open, Resize, Close, PutInForce}
@@ -88,7 +88,7 @@ with_call_ascends calls call order =
 
 module _ (number units : ℕ) where
   keeps_number : (call : OpenCall) → (with_units number units call).number ≡ call.number
-  keeps_number call = by (has_number number call)
+  keeps_number call = by (has_call_number number call)
     where
       by : (t : Bool) → (cond t (record call { units = units }) call).number ≡ call.number
       by true = refl
@@ -123,7 +123,7 @@ effect_ascends s event (Open call) order = with_call_ascends s.calls call order
 effect_ascends s event (Resize call id units) order =
     with_changed_ascends call units s.calls order
 effect_ascends s event (Close call id) order =
-    filter_ascends (λ c. not (has_number call c)) s.calls order
+    filter_ascends (λ c. not (has_call_number call c)) s.calls order
 effect_ascends s event PutInForce order = by (put_in_force event)
   where
     by : (asked : Option (List Command)) → Ascend (with_commands s asked).calls

@@ -8,7 +8,7 @@ use Rattle.command_reader.specs.declared.commands.Command.{Command}
 use Rattle.command_reader.specs.Zones.{is_declared, named_by, first_local_of}
 use Rattle.command_reader.specs.Configuration.{Configuration}
 use Rattle.command_reader.specs.Progress.{NumberedCommand, Progress, commands_in, line_count}
-use Rattle.command_reader.specs.Reading.{names_unknown, unknown_zone, zones_checked, finished, whole_of, fault_at, lines_after, nothing_read, reading_in}
+use Rattle.command_reader.specs.Reading.{names_unknown, unknown_zone, zones_checked, finished, finished_of, fault_at, lines_after, nothing_read, reading_in}
 use Rattle.command_reader.specs.declared.faults.FaultKind.TheVariants.{NoLocalZone}
 use Rattle.compiler.specs.Plan.{plan_of}
 use Rattle.registry.specs.Endpoint.{EndpointParts}
@@ -102,7 +102,7 @@ accepted_declares : (lines : List (List ℕ)) (configuration : Configuration)
     → NamesDeclared configuration.commands configuration.commands
 accepted_declares lines configuration h = by (lines_after nothing_read lines) h
   where
-    by : (r : Result Progress LineFault) → whole_of r ≡ Ok configuration
+    by : (r : Result Progress LineFault) → finished_of r ≡ Ok configuration
         → NamesDeclared configuration.commands configuration.commands
     by (Err fault) h = let impossible : ⊥ = cc in absurd impossible
     by (Ok read) h = finished_declares read configuration h

@@ -6,7 +6,7 @@ use Rattle.std.proofs.lemmas.Bool.{and_parts, and_from}
 use Rattle.std.proofs.lemmas.Map.Views.{Contains-from_any, list_any-from_Contains}
 use Rattle.command_reader.specs.declared.commands.Command.{Command}
 use Rattle.compiler.specs.Technology.{default_technology_of}
-use Rattle.compiler.specs.Rows.{Row}
+use Rattle.compiler.specs.Rows.{ZoneRow}
 use Rattle.compiler.specs.Plan.{Target, RemoteZone, LocalZone, CallersZone, UnknownPrefix}
 use Rattle.compiler.specs.Priority.{priority_of}
 use Rattle.registry.specs.declared.endpoints.EndpointKind.{EndpointKind}
@@ -55,7 +55,7 @@ module _ (zone digits : List ℕ) where
 
 -- ---- gateways
 module _ (commands : List Command) (endpoints : List EndpointParts) (zone prefix : List ℕ)
-    (row : Option Row) where
+    (row : Option ZoneRow) where
   -- what is chosen is a gateway, so it is a destination as one
   as_gateway : (e : EndpointParts) → IsChosen commands endpoints zone prefix row e
       → destination_of e.kind e ≡ destinations.Gateway e.id e.address
@@ -78,7 +78,7 @@ module _ (commands : List Command) (endpoints : List EndpointParts) (zone prefix
 -- ---- routes
 module _ (s : State) (caller digits : List ℕ) where
   -- a gateway of the zone, by the way that the prefix came about
-  by_gateway : (zone prefix : List ℕ) (row : Option Row) (destination : Destination)
+  by_gateway : (zone prefix : List ℕ) (row : Option ZoneRow) (destination : Destination)
       → ((e : EndpointParts) → IsChosen s.commands s.endpoints zone prefix row e
       → IsLedTo s caller digits (destinations.Gateway e.id e.address))
       → (found : Option EndpointParts)
@@ -93,7 +93,7 @@ module _ (s : State) (caller digits : List ℕ) where
       let same = sym (as_gateway s.commands s.endpoints zone prefix row found chosen) ∙ is in
       subst (IsLedTo s caller digits) same (way found chosen)
 
-  by_alias_led : (zone : List ℕ) (row : Option Row) (destination : Destination)
+  by_alias_led : (zone : List ℕ) (row : Option ZoneRow) (destination : Destination)
       → IsToReach s.commands caller digits zone None row → (found : Option EndpointParts)
       → by_alias s.endpoints zone digits ≡ found
       → by_alias_or_default s.commands s.endpoints zone row found ≡ To destination
@@ -117,7 +117,7 @@ module _ (s : State) (caller digits : List ℕ) where
           (reaches_none zone digits s.endpoints e) f chosen)
           (gateway_of s.commands s.endpoints zone prefix row) refl h
 
-  in_zone_led : (zone : List ℕ) (row : Option Row) (destination : Destination)
+  in_zone_led : (zone : List ℕ) (row : Option ZoneRow) (destination : Destination)
       → (technology : Option (List ℕ)) → IsToReach s.commands caller digits zone technology row
       → in_local_zone s.commands s.endpoints zone row digits technology ≡ To destination
       → IsLedTo s caller digits destination
@@ -142,7 +142,7 @@ module _ (s : State) (caller digits : List ℕ) where
   led destination UnknownPrefix means h = let impossible : ⊥ = cc in absurd impossible
 
   -- ---- refusals
-  without_gateway : (zone prefix : List ℕ) (row : Option Row) (refusal : RouteRefusal)
+  without_gateway : (zone prefix : List ℕ) (row : Option ZoneRow) (refusal : RouteRefusal)
       → (HasNoCandidate s.commands s.endpoints zone prefix row
       → IsLost s caller digits refusals.NoGateway)
       → (found : Option EndpointParts)
@@ -155,7 +155,7 @@ module _ (s : State) (caller digits : List ℕ) where
       subst (IsLost s caller digits) is
       (way (none_computed (priority_of s.commands row) s.endpoints zone prefix e))
 
-  by_alias_lost : (zone : List ℕ) (row : Option Row) (refusal : RouteRefusal)
+  by_alias_lost : (zone : List ℕ) (row : Option ZoneRow) (refusal : RouteRefusal)
       → IsToReach s.commands caller digits zone None row → (found : Option EndpointParts)
       → by_alias s.endpoints zone digits ≡ found
       → by_alias_or_default s.commands s.endpoints zone row found ≡ Refused refusal
@@ -177,7 +177,7 @@ module _ (s : State) (caller digits : List ℕ) where
           (λ none. WithoutDefault zone prefix row reach (reaches_none zone digits s.endpoints e) f
           none) (gateway_of s.commands s.endpoints zone prefix row) refl h
 
-  in_zone_lost : (zone : List ℕ) (row : Option Row) (refusal : RouteRefusal)
+  in_zone_lost : (zone : List ℕ) (row : Option ZoneRow) (refusal : RouteRefusal)
       → (technology : Option (List ℕ)) → IsToReach s.commands caller digits zone technology row
       → in_local_zone s.commands s.endpoints zone row digits technology ≡ Refused refusal
       → IsLost s caller digits refusal

@@ -20,7 +20,7 @@ use Rattle.command_reader.specs.declared.zones.ZoneKind.TheVariants as kinds
 use Rattle.command_reader.specs.Zones.{zone_of, zones_of, is_declared, named_by}
 use Rattle.compiler.specs.Pick.{picked, is_picked_before, IsPicked}
 use Rattle.compiler.specs.Technology.{prefixes_of, begins_with, is_longer, technology_of, hopoffs_in, hopoffs_of}
-use Rattle.compiler.specs.Rows.{Row, row_of, rows_of, zone_for, zones_for, row_of_pattern, row_for}
+use Rattle.compiler.specs.Rows.{ZoneRow, row_of, rows_of, zone_for, zones_for, row_of_pattern, row_for}
 use Rattle.compiler.specs.Plan.{Target, RemoteZone, LocalZone, CallersZone, UnknownPrefix, target_in, rejects_unknown, by_row, by_hopoff, by_technology, plan_of}
 use Rattle.admission.specs.RouteLaws.{IsTechnology, NoTechnology, IsLookedFor, All_of_them, After_prefix, IsLongestRow, NoneMatches, IsSentTo, ByHopoff, ByPattern}
 use Rattle.admission.proofs.FirstLaws.{untrue, find_some}
@@ -117,13 +117,13 @@ same p =
     by false = refl
 
 -- a pattern that a row has is declared for some zone
-some_zone : (rows : List Row) (row : Row) → Contains rows row
+some_zone : (rows : List ZoneRow) (row : ZoneRow) → Contains rows row
     → filter_map (zone_for row.0) rows ≡ [] → ⊥
 some_zone [] row (k, within, there) h = absurd (omega (arith, within))
 some_zone (other ∷ rows) row (zero, within, there) h = by (same_pattern other.0 row.0) passed h
   where
     passed : same_pattern other.0 row.0 ≡ true
-    passed = subst (λ (r : Row). same_pattern other.0 r.0 ≡ true) there (same other.0)
+    passed = subst (λ (r : ZoneRow). same_pattern other.0 r.0 ≡ true) there (same other.0)
 
     by : (t : Bool) → t ≡ true
         → cons_option (cond t (Some other.1) None) (filter_map (zone_for row.0) rows) ≡ [] → ⊥
@@ -140,14 +140,15 @@ some_zone (other ∷ rows) row (suc k, within, there) h =
 
 module _ (commands : List Command) (order : IsRankOrder (is_picked_before commands))
     (digits : List ℕ) where
-  by_best : (row : Row) (best : Option Row) → best_of (rows_of commands) digits ≡ best
+  by_best : (row : ZoneRow) (best : Option ZoneRow) → best_of (rows_of commands) digits ≡ best
       → option_and_then (λ best. row_of_pattern commands best.0) best ≡ Some row
       → IsLongestRow commands digits row
   by_best row None e h = absurd (none-some row h)
   by_best row (Some best) e h = by (picked commands (zones_for commands best.0)) refl h
     where
       by : (zone : Option (List ℕ)) → picked commands (zones_for commands best.0) ≡ zone
-          → option_map {U = Row} (λ zone. (best.0, zone)) zone ≡ Some row → IsLongestRow commands
+          → option_map {U = ZoneRow} (λ zone. (best.0, zone)) zone ≡ Some row → IsLongestRow
+          commands
           digits row
       by None f h = absurd (none-some row h)
       by (Some zone) f h =
@@ -158,18 +159,19 @@ module _ (commands : List Command) (order : IsRankOrder (is_picked_before comman
             picked = pick_is commands order (zones_for commands best.0) zone f;
           })
 
-  longest_row : (row : Row) → row_for commands digits ≡ Some row → IsLongestRow commands digits row
+  longest_row : (row : ZoneRow) → row_for commands digits ≡ Some row → IsLongestRow commands
+      digits row
   longest_row row h = by_best row (best_of (rows_of commands) digits) refl h
 
   none_matches : row_for commands digits ≡ None → NoneMatches commands digits
   none_matches h = by (best_of (rows_of commands) digits) refl h
     where
-      by : (best : Option Row) → best_of (rows_of commands) digits ≡ best
+      by : (best : Option ZoneRow) → best_of (rows_of commands) digits ≡ best
           → option_and_then (λ best. row_of_pattern commands best.0) best ≡ None
           → NoneMatches commands digits
       by None e h =
-          All-weaker (λ (row : Row). matches row.0 digits ≡ false)
-          (λ (row : Row). ¬ Matches row.0 digits)
+          All-weaker (λ (row : ZoneRow). matches row.0 digits ≡ false)
+          (λ (row : ZoneRow). ¬ Matches row.0 digits)
           (λ row f. untrue (matches row.0 digits) f) (rows_of commands)
           (best_of-none (rows_of commands) digits e)
       by (Some best) e h =
@@ -179,7 +181,7 @@ module _ (commands : List Command) (order : IsRankOrder (is_picked_before comman
           (unmapped (picked commands (zones_for commands best.0)) h)))
         where
           unmapped : (zone : Option (List ℕ))
-              → option_map {U = Row} (λ zone. (best.0, zone)) zone ≡ None
+              → option_map {U = ZoneRow} (λ zone. (best.0, zone)) zone ≡ None
               → zone ≡ None
           unmapped None h = refl
           unmapped (Some zone) h = let impossible : ⊥ = cc in absurd impossible
@@ -227,20 +229,21 @@ module _ (all : List Command) where
       by (BandwidthRemote size) h = nothing
 
   rows_declared : (commands : List Command) → NamesDeclared all commands
-      → All (λ (row : Row). is_declared all row.1 ≡ true) (rows_of commands)
-  rows_declared [] declared = All-nil (λ (row : Row). is_declared all row.1 ≡ true)
+      → All (λ (row : ZoneRow). is_declared all row.1 ≡ true) (rows_of commands)
+  rows_declared [] declared = All-nil (λ (row : ZoneRow). is_declared all row.1 ≡ true)
   rows_declared (command ∷ commands) declared =
       by command (first_declared command commands declared)
       (rows_declared commands (rest_declared command commands declared))
     where
       by : (command : Command) → All (λ name. is_declared all name ≡ true) (named_by command)
-          → All (λ (row : Row). is_declared all row.1 ≡ true) (rows_of commands)
-          → All (λ (row : Row). is_declared all row.1 ≡ true)
+          → All (λ (row : ZoneRow). is_declared all row.1 ≡ true) (rows_of commands)
+          → All (λ (row : ZoneRow). is_declared all row.1 ≡ true)
           (cons_option (row_of command) (rows_of commands))
       by (ZoneLocal name domain address) h rest = rest
       by (ZoneRemote name domain address cost priority) h rest = rest
       by (ZonePrefix zone pattern gateways) h rest =
-          All-cons (λ (row : Row). is_declared all row.1 ≡ true) (pattern, zone) (rows_of commands)
+          All-cons (λ (row : ZoneRow). is_declared all row.1 ≡ true) (pattern, zone) (rows_of
+          commands)
           (h 0 zone (omega arith)) rest
       by (GwTypePrefix prefix hopoffs is_default) h rest = rest
       by RejectUnknownPrefix h rest = rest
@@ -248,8 +251,8 @@ module _ (all : List Command) where
       by (BandwidthZone kind zone size) h rest = rest
       by (BandwidthRemote size) h rest = rest
 
-  zones_declared : (pattern : PatternParts) (rows : List Row)
-      → All (λ (row : Row). is_declared all row.1 ≡ true) rows
+  zones_declared : (pattern : PatternParts) (rows : List ZoneRow)
+      → All (λ (row : ZoneRow). is_declared all row.1 ≡ true) rows
       → All (λ name. is_declared all name ≡ true) (filter_map (zone_for pattern) rows)
   zones_declared pattern [] h = All-nil (λ name. is_declared all name ≡ true)
   zones_declared pattern (row ∷ rows) h =
@@ -288,7 +291,7 @@ module _ (all : List Command) where
 -- what a target says of the digits
 abbrev pub Means : List Command → List ℕ → Target → Type 0
 Means commands digits (RemoteZone zone address) =
-    (technology : Option (List ℕ)) × (row : Option Row) × (cost : ℕ) × (priority : ℕ)
+    (technology : Option (List ℕ)) × (row : Option ZoneRow) × (cost : ℕ) × (priority : ℕ)
     × IsSentTo commands digits zone technology row
     × (zone_of commands zone ≡ Some (kinds.Remote address cost priority))
 Means commands digits (LocalZone zone technology row) =
@@ -303,7 +306,7 @@ Means commands digits UnknownPrefix =
 
 module _ (commands : List Command) (order : IsRankOrder (is_picked_before commands))
     (declared : NamesDeclared commands commands) (digits : List ℕ) where
-  sent : (zone : List ℕ) (technology : Option (List ℕ)) (row : Option Row)
+  sent : (zone : List ℕ) (technology : Option (List ℕ)) (row : Option ZoneRow)
       → IsSentTo commands digits zone technology row → is_declared commands zone ≡ true
       → (kind : Option ZoneKind) → zone_of commands zone ≡ kind
       → Means commands digits (target_in zone technology row kind)
@@ -313,7 +316,7 @@ module _ (commands : List Command) (order : IsRankOrder (is_picked_before comman
       (technology, row, cost, priority, to, e)
 
   looked_for : (technology : Option (List ℕ)) (rest : List ℕ)
-      → IsLookedFor commands digits technology rest → (row : Option Row)
+      → IsLookedFor commands digits technology rest → (row : Option ZoneRow)
       → row_for commands rest ≡ row → Means commands digits (by_row commands technology row)
   looked_for technology rest looked (Some row) e =
       let longest = longest_row commands order rest row e in

@@ -12,7 +12,7 @@ places_reserved reserved = if reserved then 1 else 0
 -- the machine is in the state that a legal history leaves, each configuration that was put in force
 -- was accepted, and each open call has a kept place for the entry of its release, and a reserved
 -- reload one for its own
-pub record IsKept (opening : State) (history : RecordParts) (machine : State) (reserved : Bool)
+pub record IsOrderKept (opening : State) (history : RecordParts) (machine : State) (reserved : Bool)
     : Type 0 where
   pub legal : IsLegal opening history.entries
   pub replayed : machine ≡ replay opening history.entries

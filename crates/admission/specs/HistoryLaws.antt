@@ -77,7 +77,7 @@ pub data IsGrant (s : State) (number units : ℕ) : Reply → Type 0 where
       → IsGrant s number units (Changed number units)
 
 -- the call of this number is open with this bandwidth, and no sum of it is above its limit
-pub record IsWithin (s : State) (number units : ℕ) : Type 0 where
+pub record IsCallWithin (s : State) (number units : ℕ) : Type 0 where
   pub call : OpenCall
   pub is_open : call_of s.calls number ≡ Some call
   pub granted : call.units ≡ units
@@ -91,7 +91,7 @@ RecordedGrantsAreWithin =
     → IsLegal (opening_of commands limits) entries
     → StandsAfter entries before e
     → IsGrant (replay (opening_of commands limits) before) number units e.reply
-    → IsWithin (replay (opening_of commands limits) (before ++ e ∷ [])) number units
+    → IsCallWithin (replay (opening_of commands limits) (before ++ e ∷ [])) number units
 
 -- and no call was given more while a sum of it stood above its limit already
 abbrev pub RecordedRaisesWereWithin : Type 0
@@ -103,7 +103,7 @@ RecordedRaisesWereWithin =
     → e.reply ≡ Changed number units
     → call_of (replay (opening_of commands limits) before).calls number ≡ Some held
     → held.units < units
-    → IsWithin (replay (opening_of commands limits) before) number held.units
+    → IsCallWithin (replay (opening_of commands limits) before) number held.units
 
 -- the call for which an event asks bandwidth, as it would be: that of a registered caller, or an
 -- open one

@@ -12,7 +12,7 @@ use Rattle.command_reader.specs.Zones.{zone_of}
 use Rattle.command_reader.specs.Reading.{reading_in}
 use Rattle.compiler.specs.Pick.{IsPicked}
 use Rattle.compiler.specs.Technology.{prefixes_of, begins_with, hopoffs_of, default_technology_of}
-use Rattle.compiler.specs.Rows.{Row, rows_of, zones_for}
+use Rattle.compiler.specs.Rows.{ZoneRow, rows_of, zones_for}
 use Rattle.compiler.specs.Plan.{rejects_unknown}
 use Rattle.registry.specs.Endpoint.{EndpointParts}
 use Rattle.registry.specs.Registration.{endpoint_of, is_registered}
@@ -62,34 +62,34 @@ pub data IsLookedFor (commands : List Command) (digits : List ℕ)
 
 -- ---- patterns
 -- the longest pattern that matches the digits, with the zone picked from those it is declared for
-pub record IsLongestRow (commands : List Command) (digits : List ℕ) (row : Row) : Type 0 where
+pub record IsLongestRow (commands : List Command) (digits : List ℕ) (row : ZoneRow) : Type 0 where
   pub zone : List ℕ
   pub longest : IsBest (rows_of commands) digits (row.0, zone)
   pub picked : IsPicked commands (zones_for commands row.0) row.1
 
 -- no pattern matches the digits
 abbrev pub NoneMatches : List Command → List ℕ → Type 0
-NoneMatches commands digits = All (λ (row : Row). ¬ Matches row.0 digits) (rows_of commands)
+NoneMatches commands digits = All (λ (row : ZoneRow). ¬ Matches row.0 digits) (rows_of commands)
 
 -- ---- the target zone
 -- the commands send the digits to this zone, with the technology prefix that was found and the row
 -- that was used
 pub data IsSentTo (commands : List Command) (digits : List ℕ)
-    : List ℕ → Option (List ℕ) → Option Row → Type 0 where
+    : List ℕ → Option (List ℕ) → Option ZoneRow → Type 0 where
   -- the zone picked from the hop-off zones of the technology prefix
   ByHopoff : (prefix zone : List ℕ) → IsTechnology commands digits prefix
       → IsPicked commands (hopoffs_of commands prefix) zone
       → IsSentTo commands digits zone (Some prefix) None
   -- the zone of the longest matching pattern
-  ByPattern : (technology : Option (List ℕ)) (rest : List ℕ) (row : Row)
+  ByPattern : (technology : Option (List ℕ)) (rest : List ℕ) (row : ZoneRow)
       → IsLookedFor commands digits technology rest → IsLongestRow commands rest row
       → IsSentTo commands digits row.1 technology (Some row)
 
 -- the call of a caller of this zone is to reach an endpoint of a zone: the local zone to which the
 -- commands send its digits; or the caller's own, since no pattern matches
 pub data IsToReach (commands : List Command) (caller digits : List ℕ)
-    : List ℕ → Option (List ℕ) → Option Row → Type 0 where
-  Sent : (zone : List ℕ) (technology : Option (List ℕ)) (row : Option Row)
+    : List ℕ → Option (List ℕ) → Option ZoneRow → Type 0 where
+  Sent : (zone : List ℕ) (technology : Option (List ℕ)) (row : Option ZoneRow)
       → IsSentTo commands digits zone technology row → zone_of commands zone ≡ Some Local
       → IsToReach commands caller digits zone technology row
   Kept : (technology : Option (List ℕ)) (rest : List ℕ)
@@ -109,23 +109,23 @@ ReachesNone endpoints zone digits = All (λ e. ¬ HasDigits zone digits e) endpo
 -- the ways in which the digits of a caller of this zone lead to a destination
 pub data IsLedTo (s : State) (caller digits : List ℕ) : Destination → Type 0 where
   -- to the remote zone to which the commands send them
-  Away : (zone : List ℕ) (technology : Option (List ℕ)) (row : Option Row)
+  Away : (zone : List ℕ) (technology : Option (List ℕ)) (row : Option ZoneRow)
       (address : AddressParts) (cost priority : ℕ)
       → IsSentTo s.commands digits zone technology row
       → zone_of s.commands zone ≡ Some (Remote address cost priority)
       → IsLedTo s caller digits (destinations.Zone zone address)
   -- to the chosen gateway for the technology prefix of the digits
-  ByTechnology : (zone prefix : List ℕ) (row : Option Row) (e : EndpointParts)
+  ByTechnology : (zone prefix : List ℕ) (row : Option ZoneRow) (e : EndpointParts)
       → IsToReach s.commands caller digits zone (Some prefix) row
       → IsChosen s.commands s.endpoints zone prefix row e
       → IsLedTo s caller digits (destinations.Gateway e.id e.address)
   -- to the first endpoint of the zone that has the digits as an alias, as what it registered
-  ByAlias : (zone : List ℕ) (row : Option Row) (e : EndpointParts)
+  ByAlias : (zone : List ℕ) (row : Option ZoneRow) (e : EndpointParts)
       → IsToReach s.commands caller digits zone None row
       → IsFirst (HasDigits zone digits) s.endpoints e
       → IsLedTo s caller digits (destination_of e.kind e)
   -- to the chosen gateway for the default technology, since no endpoint of the zone has the digits
-  ByDefault : (zone prefix : List ℕ) (row : Option Row) (e : EndpointParts)
+  ByDefault : (zone prefix : List ℕ) (row : Option ZoneRow) (e : EndpointParts)
       → IsToReach s.commands caller digits zone None row
       → ReachesNone s.endpoints zone digits
       → default_technology_of s.commands ≡ Some prefix
@@ -146,19 +146,19 @@ pub data IsLost (s : State) (caller digits : List ℕ) : RouteRefusal → Type 0
       → IsLookedFor s.commands digits technology rest → NoneMatches s.commands rest
       → rejects_unknown s.commands ≡ true → IsLost s caller digits refusals.UnknownPrefix
   -- the zone has no gateway for the technology prefix of the digits
-  WithoutTechnology : (zone prefix : List ℕ) (row : Option Row)
+  WithoutTechnology : (zone prefix : List ℕ) (row : Option ZoneRow)
       → IsToReach s.commands caller digits zone (Some prefix) row
       → HasNoCandidate s.commands s.endpoints zone prefix row
       → IsLost s caller digits refusals.NoGateway
   -- no endpoint of the zone has the digits, and it has no gateway for the default technology
-  WithoutDefault : (zone prefix : List ℕ) (row : Option Row)
+  WithoutDefault : (zone prefix : List ℕ) (row : Option ZoneRow)
       → IsToReach s.commands caller digits zone None row
       → ReachesNone s.endpoints zone digits
       → default_technology_of s.commands ≡ Some prefix
       → HasNoCandidate s.commands s.endpoints zone prefix row
       → IsLost s caller digits refusals.NoGateway
   -- no endpoint of the zone has the digits, and no default technology is set
-  WithoutAlias : (zone : List ℕ) (row : Option Row)
+  WithoutAlias : (zone : List ℕ) (row : Option ZoneRow)
       → IsToReach s.commands caller digits zone None row
       → ReachesNone s.endpoints zone digits
       → default_technology_of s.commands ≡ None

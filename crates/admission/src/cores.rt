@@ -49,7 +49,7 @@ pub struct Core {
 
 impl Model for Core {
     ghost use Rattle.rulings.specs.State.{opening_of, under};
-    ghost use Rattle.admission.specs.CoreInvariant.{IsKept};
+    ghost use Rattle.admission.specs.CoreInvariant.{IsOrderKept};
     ghost use Rattle.decision_record.specs.History.{CoreParts, in_force};
 
     ghost Value = { CoreParts };
@@ -60,7 +60,7 @@ impl Model for Core {
       reserved = c.reserved;
     } };
 
-    ghost invariant = { λ c. IsKept (opening_of c.history.opening c.machine.limits) c.history
+    ghost invariant = { λ c. IsOrderKept (opening_of c.history.opening c.machine.limits) c.history
         (under (in_force c.history) c.machine) c.reserved };
 }
 

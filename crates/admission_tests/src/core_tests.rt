@@ -1,23 +1,22 @@
 //! The core: each of its calls once, with receipts that its record confirms.
 
-use crate::test_cores::{away, core_within, terminal};
-use admission::{Core, Receipt, Reply, Route, STATED_LIMITS, route};
-use compiler::{Plan, ZoneNo};
-use gk_terms::{Dialled, Name, Units};
+use crate::test_cores::{core_of, terminal_in};
+use admission::{Core, Destination, Receipt, Reply, Route, route};
+use gk_terms::{Address, Dialled, Name, Units};
 use std::alloc::Global;
 use std::process::Abort;
 use std::test::Fail;
 
 #[test]
 fn answers_each_call(rt: HostRuntime) -> Result<(), Fail> {
-    let mut core = core_within(rt.alloc(), STATED_LIMITS)?;
+    let mut core = core_of(rt.alloc())?;
     assert_answers(&rt, rt.alloc(), &mut core)
 }
 
-/// Asserts that `ta` registers, opens a call to the zone `gk-x`, changes it, releases it and leaves.
+/// Asserts that `ta` registers, opens a call, changes it, releases it and leaves, each recorded.
 fn assert_answers(rt: &impl Abort, alloc: Global, core: &mut Core) -> Result<(), Fail> {
-    let ta = Name::read(b"ta")?;
-    core.register(terminal(alloc, b"ta", 1, &[])?)?;
+    let (ta, zone) = (Name::read(b"ta")?, Name::read(b"gk-a")?);
+    core.register(terminal_in(alloc, ta, zone))?;
     let receipt = admitted(rt, core, &ta)?;
     core.change(&ta, 1001, Units::new(5))?;
     core.release(&ta, 1001)?;
@@ -35,24 +34,22 @@ fn assert_answers(rt: &impl Abort, alloc: Global, core: &mut Core) -> Result<(),
 
 /// Asserts that `ta` opens the call 1001 to the zone `gk-x`. The receipt.
 fn admitted(rt: &impl Abort, core: &mut Core, ta: &Name) -> Result<Receipt, Fail> {
-    let dialled = Dialled::read(b"9123")?;
-    let (call, destination, units) = (1001, away()?, Units::new(640));
+    let (call, units) = (1001, Units::new(640));
+    let (dialled, zone) = (Dialled::read(b"9123")?, Name::read(b"gk-a")?);
+    let destination = Destination::Zone {
+        name: Name::read(b"gk-x")?,
+        address: Address::new([10, 9, 0, 1], 1719),
+    };
+    let led = route(core.tables(), core.registry(), &zone, &dialled);
+    assert!(rt; led == Route::To(destination));
     let routed = core.route_here(&dialled);
-    assert_eq!(rt; routed.plan, Plan::Remote(ZoneNo::new(1)));
-    let led = route(
-        core.tables(),
-        core.registry(),
-        &Name::read(b"gk-a")?,
-        &dialled,
-    );
-    assert_eq!(rt; led, Route::To(destination));
     let (reply, receipt) = core.admit(&routed, ta, call, units)?;
-    let wanted = Reply::Admitted {
+    let want = Reply::Admitted {
         call,
         destination,
         units,
     };
-    assert_eq!(rt; reply, wanted);
-    assert_eq!(rt; (receipt.number, receipt.reply), (2, wanted));
+    assert_eq!(rt; reply, want);
+    assert_eq!(rt; (receipt.number, receipt.reply), (2, want));
     Ok(receipt)
 }

@@ -1,9 +1,8 @@
 //! What the record of a core keeps in few bytes.
 
-use crate::test_cores::{admission, core_within, entry, terminal};
-use admission::{Core, Entry, EntryEvent, Record, STATED_LIMITS};
-use gk_terms::Name;
-use registry::Endpoint;
+use crate::test_cores::{core_of, is_recorded, terminal_in};
+use admission::{Core, EntryEvent, Event, Record};
+use gk_terms::{Dialled, Name, Units};
 use std::alloc::Global;
 use std::borrow::Cow;
 use std::process::Abort;
@@ -11,70 +10,71 @@ use std::test::Fail;
 
 #[test]
 fn entries_with_short_names_are_kept_in_few_bytes(rt: HostRuntime) -> Result<(), Fail> {
-    assert_named(&rt, rt.alloc(), b"terminal-0123456789", true)?;
-    assert_named(&rt, rt.alloc(), b"terminal-0123456789a", false)
+    let mut core = core_of(rt.alloc())?;
+    assert_kept(&rt, rt.alloc(), &mut core)
 }
 
-/// Asserts how the entries of a terminal with this ID are kept, the first ones of a core.
-fn assert_named(
-    rt: &impl Abort,
-    alloc: Global,
-    id: &[u8],
-    is_kept_brief: bool,
-) -> Result<(), Fail> {
-    let mut core = core_within(alloc, STATED_LIMITS)?;
-    assert_kept(rt, alloc, &mut core, id, is_kept_brief)
-}
-
-/// Asserts that the entries of a registration, an admission, the same again, a release and an
-/// unregistration are kept in few bytes, or whole.
-fn assert_kept(
-    rt: &impl Abort,
-    alloc: Global,
-    core: &mut Core,
-    id: &[u8],
-    is_kept_brief: bool,
-) -> Result<(), Fail> {
-    let name = Name::read(id)?;
-    core.register(terminal_in(alloc, id, b"gk-a")?)?;
-    core.answer(admission(id, 1001, b"9123")?)?;
-    core.answer(admission(id, 1001, b"9123")?)?;
-    core.release(&name, 1001)?;
-    core.unregister(&name)?;
-    for number in 1..=5 {
-        let is_brief = is_brief(&entry(core.record(), number)?);
-        assert_eq!(rt; is_brief, is_kept_brief, "entry {number}");
+/// Asserts which of twelve entries are kept in few bytes.
+fn assert_kept(rt: &impl Abort, alloc: Global, core: &mut Core) -> Result<(), Fail> {
+    assert!(rt; are_twelve_recorded(core, alloc)?);
+    for number in 1..=12 {
+        let want = number <= 5 || number == 12;
+        let is_brief = is_brief(core.record(), number);
+        assert!(rt; is_brief == Some(want), "entry {number}");
     }
     Ok(())
 }
 
-#[test]
-fn a_registration_in_the_first_local_zone_is_kept_whole(rt: HostRuntime) -> Result<(), Fail> {
-    let mut core = core_within(rt.alloc(), STATED_LIMITS)?;
-    assert_registrations(&rt, rt.alloc(), &mut core)
+/// Whether these are recorded: five events of a terminal with a short name, five of one whose name
+/// is longer, a registration whose reply names another zone than it, and a refused one.
+fn are_twelve_recorded(core: &mut Core, alloc: Global) -> Result<bool, Fail> {
+    let (zone, digits) = (Name::read(b"gk-a")?, Dialled::read(b"9123")?);
+    let short = Name::read(b"terminal-0123456789")?;
+    let longer = Name::read(b"terminal-0123456789a")?;
+    let (ta, first_local) = (Name::read(b"ta")?, Name::read(b"-")?);
+    let (tb, remote) = (Name::read(b"tb")?, Name::read(b"gk-x")?);
+    Ok(
+        are_five_recorded(core, alloc, short, zone, digits)
+            && are_five_recorded(core, alloc, longer, zone, digits)
+            && is_recorded(core, Event::Register(terminal_in(alloc, ta, first_local)))
+            && is_recorded(core, Event::Register(terminal_in(alloc, tb, remote))),
+    )
 }
 
-/// Asserts how a registration is kept whose reply names another zone than it, and a refused one.
-fn assert_registrations(rt: &impl Abort, alloc: Global, core: &mut Core) -> Result<(), Fail> {
-    core.register(terminal_in(alloc, b"ta", b"-")?)?;
-    core.register(terminal_in(alloc, b"tb", b"gk-x")?)?;
-    assert!(rt; !is_brief(&entry(core.record(), 1)?));
-    assert!(rt; is_brief(&entry(core.record(), 2)?));
-    Ok(())
+/// Whether a registration, an admission, the same again, a release and an unregistration are.
+fn are_five_recorded(
+    core: &mut Core,
+    alloc: Global,
+    id: Name,
+    zone: Name,
+    digits: Dialled,
+) -> bool {
+    let call = 1001;
+    is_recorded(core, Event::Register(terminal_in(alloc, id, zone)))
+        && is_recorded(core, admission(id, call, digits))
+        && is_recorded(core, admission(id, call, digits))
+        && is_recorded(core, Event::Release { id, call })
+        && is_recorded(core, Event::Unregister { id })
 }
 
-/// A terminal of this zone.
-fn terminal_in(alloc: Global, id: &[u8], zone: &[u8]) -> Result<Endpoint, Fail> {
-    Ok(terminal(alloc, id, 1, &[])?.in_zone(Name::read(zone)?))
+/// The admission of a call of 640 units.
+fn admission(id: Name, call: u32, digits: Dialled) -> Event {
+    Event::Admit {
+        id,
+        call,
+        digits,
+        units: Units::new(640),
+    }
 }
 
-/// Whether the entry is kept in few bytes: it lends an endpoint in few bytes, or its event was made
-/// of them and is not lent.
-fn is_brief(entry: &Entry<'_>) -> bool {
-    matches!(
+/// Whether the entry of this number is kept in few bytes: it lends an endpoint in few bytes, or its
+/// event was made of them and is not lent.
+fn is_brief(record: &Record, number: u32) -> Option<bool> {
+    let entry = record.get(number)?;
+    Some(matches!(
         &entry.event,
         EntryEvent::Registration(_) | EntryEvent::Asked(Cow::Owned(_))
-    )
+    ))
 }
 
 #[test]

@@ -1,86 +1,65 @@
-//! Reloads: what stays, what goes, and what a reservation keeps.
+//! Reloads: what a reservation leaves, and what the entries of past ones show.
 
-use crate::test_cores::{admission, core_within, entry, other_tables, tables, terminal};
-use admission::{Core, EntryEvent, Receipt, Record, ReloadedCommands, Reply, STATED_LIMITS};
+use crate::test_cores::{ZONES, core_of, tables_of};
+use admission::{Core, EntryEvent, Receipt, Record, ReloadedCommands};
 use compiler::Tables;
-use gk_terms::{Name, Version};
+use gk_terms::Version;
 use std::alloc::Global;
 use std::process::Abort;
 use std::sync::Arc;
 use std::test::Fail;
 
-/// Puts the other zones in force.
-fn reloaded(core: &mut Core, alloc: Global) -> Result<(Reply, Receipt), Fail> {
-    Ok(core.reload(other_tables(alloc)?)?)
-}
-
-#[test]
-fn a_reload_makes_the_next_version(rt: HostRuntime) -> Result<(), Fail> {
-    let mut core = core_within(rt.alloc(), STATED_LIMITS)?;
-    assert_reload(&rt, rt.alloc(), &mut core)
-}
-
-/// Asserts what a reload, for which a place was reserved, to a configuration without the zone
-/// `gk-a` leaves.
-fn assert_reload(rt: &impl Abort, alloc: Global, core: &mut Core) -> Result<(), Fail> {
-    let ta = Name::read(b"ta")?;
-    core.register(terminal(alloc, b"ta", 1, &[])?)?;
-    core.answer(admission(b"ta", 1001, b"9123")?)?;
-    core.reserve_reload(&other_tables(alloc)?)?;
-    assert_eq!(rt; core.version(), Version::new(1));
-    let version = Version::new(2);
-    let (reply, _) = reloaded(core, alloc)?;
-    assert_eq!(rt; reply, Reply::Reloaded { version });
-    assert_eq!(rt; core.version(), version);
-    // The registration went with its zone, and the call stays.
-    assert_eq!(rt; core.registry().len(), 0);
-    assert_eq!(rt; core.calls().remote(), 640);
-    core.release(&ta, 1001)?;
-    assert_eq!(rt; core.record().len(), 4);
-    Ok(())
-}
+/// Other zones, in three commands: `gk-b` here, and `gk-x`, to which all numbers go.
+const OTHER_ZONES: &[u8] = b"zone local gk-b example.com\n\
+    zone remote gk-x example.com 10.9.0.1\n\
+    zone prefix gk-x *\n";
 
 #[test]
 fn past_reloads_show_their_commands(rt: HostRuntime) -> Result<(), Fail> {
-    let mut core = core_within(rt.alloc(), STATED_LIMITS)?;
-    assert_past_reloads(&rt, rt.alloc(), &mut core)
+    let held = tables_of(rt.alloc(), ZONES)?;
+    let mut core = core_of(rt.alloc())?;
+    assert_shown(&rt, rt.alloc(), &mut core, &held)
 }
 
-/// Asserts what the entries of three reloads show, of which the second one's tables are held here.
-fn assert_past_reloads(rt: &impl Abort, alloc: Global, core: &mut Core) -> Result<(), Fail> {
-    let held = tables(alloc)?;
-    assert_held_reload(rt, alloc, core, &held)
-}
-
-/// The same with these tables for the second one.
-fn assert_held_reload(
+/// Asserts what the entries of three reloads show, of which the second one's tables are held.
+fn assert_shown(
     rt: &impl Abort,
     alloc: Global,
     core: &mut Core,
     held: &Arc<Tables>,
 ) -> Result<(), Fail> {
-    reloaded(core, alloc)?;
-    core.reload(Arc::try_clone(held)?)?;
-    reloaded(core, alloc)?;
-    for (number, as_lines, commands) in [(1, true, 3), (2, false, 4), (3, false, 3)] {
-        assert_eq!(rt;
-            commands_reloaded(core.record(), alloc, number)?,
-            (as_lines, commands),
-            "entry {number}"
-        );
+    reload_other(core, alloc)?;
+    reload_held(core, held)?;
+    reload_other(core, alloc)?;
+    assert!(rt; core.version() == Version::new(4));
+    for (number, want) in [(1, (true, 3)), (2, (false, 4)), (3, (false, 3))] {
+        let shown = commands_reloaded(core.record(), alloc, number);
+        assert!(rt; shown == Some(want), "entry {number}");
     }
-    assert_eq!(rt; core.tables().commands().len(), 3);
     Ok(())
+}
+
+/// Puts the other zones in force.
+fn reload_other(core: &mut Core, alloc: Global) -> Result<Receipt, Fail> {
+    let (_, receipt) = core.reload(tables_of(alloc, OTHER_ZONES)?)?;
+    Ok(receipt)
+}
+
+/// Puts these tables in force, for which a place is reserved first.
+fn reload_held(core: &mut Core, held: &Arc<Tables>) -> Result<Receipt, Fail> {
+    core.reserve_reload(held)?;
+    let (_, receipt) = core.reload(Arc::try_clone(held)?)?;
+    Ok(receipt)
 }
 
 /// Whether the entry of this number has the lines of its commands alone, and how many commands it
 /// put in force.
-fn commands_reloaded(record: &Record, alloc: Global, number: u32) -> Result<(bool, usize), Fail> {
-    match &entry(record, number)?.event {
-        EntryEvent::Reload(reloaded) => {
-            let as_lines = matches!(reloaded, ReloadedCommands::Lines(_));
-            Ok((as_lines, reloaded.commands(alloc)?.len()))
-        }
-        EntryEvent::Asked(_) | EntryEvent::Registration(_) => Err(Fail::new("not a reload")),
-    }
+fn commands_reloaded(record: &Record, alloc: Global, number: u32) -> Option<(bool, usize)> {
+    let entry = record.get(number)?;
+    let EntryEvent::Reload(reloaded) = &entry.event else {
+        return None;
+    };
+    let as_lines = matches!(reloaded, ReloadedCommands::Lines(_));
+    let commands = reloaded.commands(alloc).ok()?;
+    Some((as_lines, commands.len()))
 }

@@ -6,7 +6,7 @@ use Rattle.std.proofs.lemmas.Bool.{both_ways, eqb-true, eq-eqb, ltb-true, ltb-fa
 use Rattle.std.proofs.lemmas.Option.{none-some, same_Some}
 use Rattle.std.proofs.lemmas.List.Sums.{sum_by-cons, sum_by-append}
 use Rattle.bandwidth.specs.declared.open_call.OpenCall.{OpenCall}
-use Rattle.bandwidth.specs.Calls.{AreInOrder, has_number, call_of, is_open, with_call, without_call, with_changed}
+use Rattle.bandwidth.specs.Calls.{AreInOrder, has_call_number, call_of, is_open, with_call, without_call, with_changed}
 
 -- ---- who is found
 -- a call is found exactly if one is open
@@ -22,7 +22,7 @@ is_some_found test (call ∷ calls) = by (test call) (is_some_found test calls)
 
 pub open_if_found : (calls : List OpenCall) (number : ℕ)
     → is_some (call_of calls number) ≡ is_open calls number
-open_if_found calls number = is_some_found (has_number number) calls
+open_if_found calls number = is_some_found (has_call_number number) calls
 
 pub none_if_closed : (calls : List OpenCall) (number : ℕ) → is_open calls number ≡ false
     → call_of calls number ≡ None
@@ -42,9 +42,9 @@ pub has_its_number : (calls : List OpenCall) (number : ℕ) (held : OpenCall)
     → call_of calls number ≡ Some held → held.number ≡ number
 has_its_number [] number held h = absurd (none-some held h)
 has_its_number (call ∷ calls) number held h =
-    by (has_number number call) refl h (has_its_number calls number held)
+    by (has_call_number number call) refl h (has_its_number calls number held)
   where
-    by : (t : Bool) → has_number number call ≡ t
+    by : (t : Bool) → has_call_number number call ≡ t
         → cond t (Some call) (call_of calls number) ≡ Some held
         → (call_of calls number ≡ Some held → held.number ≡ number) → held.number ≡ number
     by true e found rest =
@@ -100,8 +100,8 @@ closed_after number (call ∷ calls) h =
 
 -- what is not open is not open further on
 pub closed_head : (call : OpenCall) (calls : List OpenCall) (number : ℕ)
-    → is_open (call ∷ calls) number ≡ false → has_number number call ≡ false
-closed_head call calls number closed = by (has_number number call) closed
+    → is_open (call ∷ calls) number ≡ false → has_call_number number call ≡ false
+closed_head call calls number closed = by (has_call_number number call) closed
   where
     by : (t : Bool) → (t || is_open calls number) ≡ false → t ≡ false
     by true e = e
@@ -109,7 +109,7 @@ closed_head call calls number closed = by (has_number number call) closed
 
 pub closed_tail : (call : OpenCall) (calls : List OpenCall) (number : ℕ)
     → is_open (call ∷ calls) number ≡ false → is_open calls number ≡ false
-closed_tail call calls number closed = by (has_number number call) closed
+closed_tail call calls number closed = by (has_call_number number call) closed
   where
     by : (t : Bool) → (t || is_open calls number) ≡ false → is_open calls number ≡ false
     by true e = cc
@@ -165,7 +165,7 @@ module _ (f : OpenCall → ℕ) where
       by false low false high rest =
           let under = ltb-false call.number number low in
           let over = ltb-false number call.number high in
-          absurd (both_ways (has_number number call) (closed_head call calls number closed)
+          absurd (both_ways (has_call_number number call) (closed_head call calls number closed)
           (eq-eqb call.number number (omega (arith, under, over))))
 
   -- with one call more
@@ -184,10 +184,10 @@ module _ (f : OpenCall → ℕ) where
         → sum_by f (without_call calls number) + f held ≡ sum_by f calls
     sum_without [] order found = absurd (none-some held found)
     sum_without (call ∷ calls) order found =
-        by (has_number number call) refl found (sum_without calls order.1)
+        by (has_call_number number call) refl found (sum_without calls order.1)
         ∙ sym (sum_by-cons f call calls)
       where
-        by : (t : Bool) → has_number number call ≡ t
+        by : (t : Bool) → has_call_number number call ≡ t
             → cond t (Some call) (call_of calls number) ≡ Some held
             → (call_of calls number ≡ Some held
             → sum_by f (without_call calls number) + f held ≡ sum_by f calls)
@@ -210,10 +210,10 @@ module _ (f : OpenCall → ℕ) where
     sum_changed units [] order found = absurd (none-some held found)
     sum_changed units (call ∷ calls) order found =
         let before = sum_by-cons f call calls in
-        let after = by (has_number number call) refl found (sum_changed units calls order.1) in
+        let after = by (has_call_number number call) refl found (sum_changed units calls order.1) in
         omega (arith, before, after)
       where
-        by : (t : Bool) → has_number number call ≡ t
+        by : (t : Bool) → has_call_number number call ≡ t
             → cond t (Some call) (call_of calls number) ≡ Some held
             → (call_of calls number ≡ Some held
             → sum_by f (with_changed calls number units) + f held
@@ -241,7 +241,7 @@ module _ (f : OpenCall → ℕ) where
     within_sum [] found = absurd (none-some held found)
     within_sum (call ∷ calls) found =
         let head = sum_by-cons f call calls in
-        let within = by (has_number number call) found (within_sum calls) in
+        let within = by (has_call_number number call) found (within_sum calls) in
         omega (arith, head, within)
       where
         by : (t : Bool) → cond t (Some call) (call_of calls number) ≡ Some held

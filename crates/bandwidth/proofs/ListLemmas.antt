@@ -16,7 +16,7 @@ use Rattle.std.proofs.lemmas.Map.Keys.{sorted_head, sorted_tail}
 use Rattle.std.proofs.lemmas.List.Sums.{sum_by-cons}
 use Rattle.bandwidth.specs.declared.open_call.OpenCall.{OpenCall}
 use Rattle.bandwidth.specs.CallList.{IsUnderNumber}
-use Rattle.bandwidth.specs.Calls.{has_number, call_of, is_open, with_call, without_call, with_changed}
+use Rattle.bandwidth.specs.Calls.{has_call_number, call_of, is_open, with_call, without_call, with_changed}
 use Rattle.bandwidth.specs.Use.{units_of}
 use Rattle.bandwidth.proofs.CallLemmas.{Ascend, open_if_found, closed_after, closed_head, closed_tail, without_none, changed_none}
 
@@ -41,7 +41,7 @@ above a b h = subst (λ o. MatchOrdering o (a < b) (a ≡ b) (b < a)) h (ranked 
 
 -- the test of the map is that of the list
 same_test : (number : ℕ) (e : ℕ × OpenCall) → IsUnderNumber e
-    → is_at (nat_cmp number) e.0 ≡ has_number number e.1
+    → is_at (nat_cmp number) e.0 ≡ has_call_number number e.1
 same_test number e h =
     unsigned_tied number e.0 ∙ nat_eq_equiv.symm number e.0 ∙ ap (λ n. n == number) h.number
 
@@ -51,7 +51,7 @@ pub found : (entries : Entries) → AreNumbered entries → (number : ℕ)
 found [] h number = refl
 found (e ∷ es) h number =
     ap (λ t. cond t (Some e.1) (lookup (is_at (nat_cmp number)) es)) (same_test number e h.0)
-    ∙ ap (cond (has_number number e.1) (Some e.1)) (found es h.1 number)
+    ∙ ap (cond (has_call_number number e.1) (Some e.1)) (found es h.1 number)
 
 pub is_there : (entries : Entries) → AreNumbered entries → (number : ℕ)
     → is_some (lookup (is_at (nat_cmp number)) entries) ≡ is_open (values_of entries) number
@@ -176,7 +176,7 @@ list_with (e ∷ es) h sorted call closed =
         ∙ ap (λ cs. cs ++ call ∷ filter (λ c. nat_lt call.number c.number) (values_of (e ∷ es)))
         (sym (none_below call.number (values_of (e ∷ es)) over))
     by Equal k rest =
-        absurd (both_ways (has_number call.number e.1)
+        absurd (both_ways (has_call_number call.number e.1)
         (closed_head e.1 (values_of es) call.number closed)
         (eq-eqb e.1.number call.number (sym (same call.number e.0 k ∙ h.0.number))))
     by Greater k rest =
@@ -195,7 +195,7 @@ numbered_changed number call own (e ∷ es) h =
     by (is_at (nat_cmp number) e.0) (same_test number e h.0)
     (numbered_changed number call own es h.1)
   where
-    by : (t : Bool) → t ≡ has_number number e.1
+    by : (t : Bool) → t ≡ has_call_number number e.1
         → AreNumbered (set_value (is_at (nat_cmp number)) es call)
         → AreNumbered (cond t ((e.0, call) ∷ es)
         (e ∷ set_value (is_at (nat_cmp number)) es call))
@@ -216,13 +216,13 @@ list_changed number units held [] h sorted there = absurd (none-some held there)
 list_changed number units held (e ∷ es) h sorted there =
     ap (λ t. values_of (cond t ((e.0, changed) ∷ es)
     (e ∷ set_value (is_at (nat_cmp number)) es changed))) (same_test number e h.0)
-    ∙ by (has_number number e.1) refl there
+    ∙ by (has_call_number number e.1) refl there
     (list_changed number units held es h.1 (sorted_tail nat_cmp e.0 (keys_of es) sorted))
   where
     changed : OpenCall
     changed = record held { units = units }
 
-    by : (t : Bool) → has_number number e.1 ≡ t
+    by : (t : Bool) → has_call_number number e.1 ≡ t
         → cond t (Some e.1) (call_of (values_of es) number) ≡ Some held
         → (call_of (values_of es) number ≡ Some held
         → values_of (set_value (is_at (nat_cmp number)) es changed)
@@ -261,10 +261,10 @@ list_without number [] h sorted = refl
 list_without number (e ∷ es) h sorted =
     ap (λ t. values_of (cond t es (e ∷ remove_entry (is_at (nat_cmp number)) es)))
     (same_test number e h.0)
-    ∙ by (has_number number e.1) refl
+    ∙ by (has_call_number number e.1) refl
     (list_without number es h.1 (sorted_tail nat_cmp e.0 (keys_of es) sorted))
   where
-    by : (t : Bool) → has_number number e.1 ≡ t
+    by : (t : Bool) → has_call_number number e.1 ≡ t
         → values_of (remove_entry (is_at (nat_cmp number)) es) ≡ without_call (values_of es) number
         → values_of (cond t es (e ∷ remove_entry (is_at (nat_cmp number)) es))
         ≡ cond (not t) (e.1 ∷ without_call (values_of es) number)

@@ -6,7 +6,7 @@ use Rattle.std.proofs.lemmas.List.Sums.{sum_by-cons}
 use Rattle.bandwidth.specs.declared.open_call.OpenCall.{OpenCall}
 use Rattle.bandwidth.specs.declared.faults.CallsFault.TheVariants as faults
 use Rattle.bandwidth.specs.OpenCalls.{if_owned}
-use Rattle.bandwidth.specs.Calls.{has_number, has_owner, is_open, with_call, without_call, with_changed}
+use Rattle.bandwidth.specs.Calls.{has_call_number, has_owner, is_open, with_call, without_call, with_changed}
 use Rattle.bandwidth.proofs.CallLemmas.{sum_with}
 
 -- ---- how many calls there are
@@ -27,7 +27,7 @@ pub length_without : (calls : List OpenCall) (number : ℕ)
     → length (without_call calls number) ≤ length calls
 length_without [] number = omega arith
 length_without (call ∷ calls) number =
-    by (has_number number call) (length_without calls number)
+    by (has_call_number number call) (length_without calls number)
   where
     by : (t : Bool) → length (without_call calls number) ≤ length calls
         → length (cond (not t) (call ∷ without_call calls number) (without_call calls number))

@@ -8,16 +8,16 @@ use Rattle.bandwidth.specs.declared.faults.CallsFault.TheVariants as faults
 
 -- ---- who is found
 -- whether the call has this number
-abbrev pub has_number : ℕ → OpenCall → Bool
-has_number number call = call.number == number
+abbrev pub has_call_number : ℕ → OpenCall → Bool
+has_call_number number call = call.number == number
 
 -- the call with this number
 abbrev pub call_of : List OpenCall → ℕ → Option OpenCall
-call_of calls number = find (has_number number) calls
+call_of calls number = find (has_call_number number) calls
 
 -- a call with this number is open
 abbrev pub is_open : List OpenCall → ℕ → Bool
-is_open calls number = list_any (has_number number) calls
+is_open calls number = list_any (has_call_number number) calls
 
 -- whether the endpoint with this ID owns the call
 abbrev pub has_owner : List ℕ → OpenCall → Bool
@@ -36,12 +36,12 @@ with_call calls call =
 
 -- without the call of this number
 abbrev pub without_call : List OpenCall → ℕ → List OpenCall
-without_call calls number = filter (λ c. not (has_number number c)) calls
+without_call calls number = filter (λ c. not (has_call_number number c)) calls
 
 -- a call of this number with this bandwidth, and another as it is
 abbrev pub with_units : ℕ → ℕ → OpenCall → OpenCall
 with_units number units call =
-    if has_number number call then record call { units = units } else call
+    if has_call_number number call then record call { units = units } else call
 
 abbrev pub with_changed : List OpenCall → ℕ → ℕ → List OpenCall
 with_changed calls number units = map (with_units number units) calls

@@ -7,7 +7,7 @@ ghost use Rattle.bandwidth.specs.Sums.{zones_in};
 use gk_terms::{Name, Units};
 
 /// A call that was admitted and not yet released. The numbers stand before the names, so that a
-/// request that changes or closes a call finds them in the first cache line, with the owner.
+/// request that changes or closes a call usually finds them and the owner in one cache line.
 #[derive(Clone, Copy, Debug, PartialEq, Eq)]
 pub struct OpenCall {
     /// The number by which the call's requests name it, 1 to 4294967295. No two open calls share

@@ -3,6 +3,4 @@
 
 #[cfg(test)]
 mod calls_tests;
-#[cfg(test)]
-mod fits_tests;
 pub mod laws;

@@ -9,5 +9,3 @@ mod piece_tests;
 mod short_text_tests;
 #[cfg(test)]
 mod stream_tests;
-#[cfg(test)]
-mod term_tests;

@@ -2,28 +2,38 @@
 
 use gk_lines::fakes::Piecewise;
 use gk_lines::{Noted, Sink, Source, StreamFailed, WriteFault, write_whole};
-use std::process::Abort;
-use std::test::Fail;
+use std::alloc::Global;
+
+/// What a call answers, whether a call has failed, and how many there were.
+type Noting = (Result<usize, StreamFailed>, bool, u64);
+
+/// A call of the reader for four bytes.
+fn read_noted(noted: &mut Noted<&mut Piecewise<&[u8]>>) -> Noting {
+    let mut piece = [0; 4];
+    let read = noted.read(&mut piece);
+    (read, noted.has_failed(), noted.calls())
+}
 
 #[test]
 fn notes_each_read(rt: HostRuntime) {
     let mut reader = Piecewise::failing_at(b"abcde".as_slice(), 2, 3);
     let mut noted = Noted::new(&mut reader);
-    let mut piece = [0; 4];
-    assert_eq!(rt; noted.calls(), 0);
-    for (calls, read, has_failed, front) in [
-        (1, Ok(2), false, b"ab"),
-        (2, Ok(2), false, b"cd"),
-        (3, Err(StreamFailed), true, b"cd"),
-        (4, Ok(1), true, b"ed"),
-        (5, Ok(0), true, b"ed"),
+    for want in [
+        (Ok(2), false, 1),
+        (Ok(2), false, 2),
+        (Err(StreamFailed), true, 3),
+        (Ok(1), true, 4),
+        (Ok(0), true, 5),
     ] {
-        assert_eq!(rt; noted.read(&mut piece), read, "call {calls}");
-        assert_eq!(rt; noted.has_failed(), has_failed, "call {calls}");
-        assert_eq!(rt; noted.calls(), calls);
-        assert_eq!(rt; &piece[..2], front.as_slice(), "call {calls}");
+        assert_eq!(rt; read_noted(&mut noted), want);
     }
     assert_eq!(rt; reader.calls, 5);
+}
+
+/// A call of the writer with these bytes.
+fn write_noted(noted: &mut Noted<&mut Piecewise<&mut Vec<u8>>>, bytes: &[u8]) -> Noting {
+    let written = noted.write(bytes);
+    (written, noted.has_failed(), noted.calls())
 }
 
 #[test]
@@ -31,58 +41,53 @@ fn notes_each_write(rt: HostRuntime) {
     let mut output = Vec::new(rt.alloc());
     let mut writer = Piecewise::failing_at(&mut output, 2, 2);
     let mut noted = Noted::new(&mut writer);
-    for (calls, bytes, written, has_failed) in [
-        (1, b"abc".as_slice(), Ok(2), false),
-        (2, b"c", Err(StreamFailed), true),
-        (3, b"c", Ok(1), true),
-        (4, b"", Ok(0), true),
+    for (bytes, want) in [
+        (b"abc".as_slice(), (Ok(2), false, 1)),
+        (b"c", (Err(StreamFailed), true, 2)),
+        (b"c", (Ok(1), true, 3)),
+        (b"", (Ok(0), true, 4)),
     ] {
-        assert_eq!(rt; noted.write(bytes), written, "call {calls}");
-        assert_eq!(rt; noted.has_failed(), has_failed, "call {calls}");
-        assert_eq!(rt; noted.calls(), calls);
+        assert_eq!(rt; write_noted(&mut noted, bytes), want);
     }
-    assert_eq!(rt; writer.calls, 4);
     assert_eq!(rt; output.as_slice(), b"abc".as_slice());
 }
 
-/// Seven bytes are written whole.
-fn assert_writes(
-    rt: &impl Abort,
-    most: usize,
-    failing_call: Option<u64>,
+/// How seven bytes are written whole to a writer that takes so many a call and fails at this one,
+/// whether a call has failed, and how many there were.
+fn write_seven(
     output: &mut Vec<u8>,
-    want: (Result<(), WriteFault>, u64),
-) {
-    let (written, calls) = want;
-    let mut writer = Piecewise::new(output, most);
-    writer.failing_call = failing_call;
+    most: usize,
+    failing_call: u64,
+) -> (Result<(), WriteFault>, bool, u64) {
+    let mut writer = Piecewise::failing_at(output, most, failing_call);
     let mut noted = Noted::new(&mut writer);
-    assert_eq!(rt;
-        write_whole(&mut noted, b"abcdefg"),
-        written,
-        "at most {most}"
-    );
-    assert_eq!(rt; noted.has_failed(), written.is_err(), "at most {most}");
-    assert_eq!(rt; noted.calls(), calls, "at most {most}");
-    assert_eq!(rt; writer.calls, calls, "at most {most}");
+    let written = write_whole(&mut noted, b"abcdefg");
+    (written, noted.has_failed(), noted.calls())
+}
+
+/// Whether that is written after so many calls, and else so many bytes at the call that fails.
+fn is_written(alloc: Global, most: usize, failing_call: u64, calls: u64, taken: &[u8]) -> bool {
+    let mut output = Vec::new(alloc);
+    let written = write_seven(&mut output, most, failing_call);
+    let want = if taken == b"abcdefg".as_slice() {
+        (Ok(()), false, calls)
+    } else {
+        (Err(WriteFault), true, calls)
+    };
+    written == want && output.as_slice() == taken
 }
 
 #[test]
-fn writes_whole(rt: HostRuntime) -> Result<(), Fail> {
-    for (most, failing_call, want, taken) in [
-        (100, None, (Ok(()), 1), b"abcdefg".as_slice()),
-        (3, None, (Ok(()), 3), b"abcdefg"),
-        (1, Some(8), (Ok(()), 7), b"abcdefg"),
-        (3, Some(2), (Err(WriteFault), 2), b"abc"),
-        (3, Some(1), (Err(WriteFault), 1), b""),
-        (0, None, (Err(WriteFault), 1), b""),
+fn writes_whole(rt: HostRuntime) {
+    for (most, failing_call, calls, taken) in [
+        (100, 2, 1, b"abcdefg".as_slice()),
+        (3, 4, 3, b"abcdefg"),
+        (1, 8, 7, b"abcdefg"),
+        (3, 2, 2, b"abc"),
+        (3, 1, 1, b""),
+        (0, 9, 1, b""),
     ] {
-        let mut output = Vec::new(rt.alloc());
-        assert_writes(&rt, most, failing_call, &mut output, want);
-        assert_eq!(rt; output.as_slice(), taken, "at most {most}");
+        let written = is_written(rt.alloc(), most, failing_call, calls, taken);
+        assert!(rt; written, "most {most}, failing at {failing_call}");
     }
-    let mut nothing = Noted::new(Vec::new(rt.alloc()));
-    assert_eq!(rt; write_whole(&mut nothing, b""), Ok(()));
-    assert_eq!(rt; nothing.calls(), 0);
-    Ok(())
 }

@@ -6,13 +6,13 @@ use Rattle.gk_terms.specs.declared.limits.TheConstants.{MOST_LINES}
 use Rattle.gk_terms.specs.Text.{lines_of}
 use Rattle.command_reader.specs.declared.commands.Command.{Command}
 use Rattle.command_reader.specs.Accepted.{LinesSay, IsAccepted}
-use Rattle.command_reader.specs.Line.{line_of}
+use Rattle.command_reader.specs.Line.{command_of}
 use Rattle.command_reader.specs.Reading.{command_fault, reading_in}
-use Rattle.command_reader.specs.WholeLines.{EndsALine, ReadsBack, KeepsLine, commands_read, commands_said}
+use Rattle.command_reader.specs.WholeLines.{EndsALine, ReadsAsLine, KeepsLine, commands_read, commands_said}
 use Rattle.command_reader.proofs.read_back.File.{one_more_said, said_again}
 
 -- ---- a text of whole lines with one more
-before_others : (text line rest : List ℕ) → EndsALine text → ReadsBack line
+before_others : (text line rest : List ℕ) → EndsALine text → ReadsAsLine line
     → lines_of (((text ++ line) ++ 10 ∷ []) ++ rest) ≡ lines_of text ++ line ∷ lines_of rest
 before_others text line rest ends back =
     ap (λ t. lines_of (t ++ rest)) (append_assoc text line (10 ∷ []))
@@ -20,13 +20,13 @@ before_others text line rest ends back =
     ∙ ends ((line ++ 10 ∷ []) ++ rest)
     ∙ ap (λ lines. lines_of text ++ lines) (back rest)
 
-pub one_more_line : (text line : List ℕ) → EndsALine text → ReadsBack line
+pub one_more_line : (text line : List ℕ) → EndsALine text → ReadsAsLine line
     → lines_of ((text ++ line) ++ 10 ∷ []) ≡ lines_of text ++ line ∷ []
 one_more_line text line ends back =
     ap lines_of (sym (append-nil ((text ++ line) ++ 10 ∷ []))) ∙ before_others text line [] ends
     back
 
-pub still_ends : (text line : List ℕ) → EndsALine text → ReadsBack line → EndsALine
+pub still_ends : (text line : List ℕ) → EndsALine text → ReadsAsLine line → EndsALine
     ((text ++ line) ++ 10 ∷ [])
 still_ends text line ends back rest =
     before_others text line rest ends back
@@ -38,7 +38,7 @@ pub one_more_kept : (before : Option (List (List ℕ))) (line : List ℕ)
     (after : Option (List (List ℕ))) (commands : List Command) (command : Command)
     → IfSome before (λ lines. LinesSay lines commands) → KeepsLine before line after → length
     commands < MOST_LINES
-    → line_of line ≡ Ok (Some command) → command_fault commands command ≡ None → IfSome after
+    → command_of line ≡ Ok (Some command) → command_fault commands command ≡ None → IfSome after
     (λ lines. LinesSay lines (commands ++ command ∷ []))
 one_more_kept before line None commands command says keeps room said free = tt
 one_more_kept None line (Some after) commands command says keeps room said free = absurd keeps

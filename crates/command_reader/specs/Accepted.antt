@@ -9,7 +9,7 @@ use Rattle.command_reader.specs.declared.commands.Command.{Command}
 use Rattle.command_reader.specs.declared.commands.Command.TheVariants.{ZoneLocal, ZoneRemote, ZonePrefix, GwTypePrefix, RejectUnknownPrefix, BandwidthDefault, BandwidthZone, BandwidthRemote}
 use Rattle.command_reader.specs.declared.commands.LimitKind.{LimitKind}
 use Rattle.command_reader.specs.declared.commands.LimitKind.TheVariants.{Session, Total, Interzone}
-use Rattle.command_reader.specs.Line.{line_of}
+use Rattle.command_reader.specs.Line.{command_of}
 use Rattle.command_reader.specs.Printing.{command_words}
 use Rattle.command_reader.specs.Progress.{Progress, commands_in}
 use Rattle.command_reader.specs.Reading.{nothing_read, lines_after, names_unknown}
@@ -25,7 +25,7 @@ canonical_line command = spaced (command_words command)
 
 -- a command whose canonical line says it: words, and no more bytes than a line may have
 pub record PrintsBack (command : Command) : Type 0 where
-  pub said : line_of (canonical_line command) ≡ Ok (Some command)
+  pub said : command_of (canonical_line command) ≡ Ok (Some command)
   pub words : list_all is_word (command_words command) ≡ true
   pub fits : length (canonical_line command) ≤ MOST_LINE_BYTES
 

@@ -1,5 +1,5 @@
 -- The names of declared zones, kept for look-ups.
-use Rattle.std.specs.Prelude.{◌≡◌, ◌⊎◌, ℕ, List, ◌∷◌, length, Option, Some, None, bytes_eq, option_and_then, MatchOption}
+use Rattle.std.specs.Prelude.{◌≡◌, ◌⊎◌, ℕ, List, ◌∷◌, length, Option, Some, None, bytes_eq, option_and_then, option_map, MatchOption}
 use Rattle.std.specs.List.{list_any}
 use Rattle.std.specs.List.Sorted.{IsPermutation}
 use Rattle.command_reader.specs.declared.commands.Command.{Command}
@@ -13,6 +13,10 @@ pub record AreDeclared (names : List (List ℕ)) (commands : List Command) : Typ
   pub same : (name : List ℕ) → list_any (bytes_eq name) names ≡ is_declared commands name
   pub count : length names ≡ length (zones_of commands)
 
+-- the name of the zone that a command declares
+abbrev pub declared_name : Command → Option (List ℕ)
+declared_name command = option_map (λ zone. zone.0) (declared_by command)
+
 -- the fault of one more zone of this name, by the names alone
 abbrev pub fault_of_one_more : List (List ℕ) → List ℕ → Option FaultKind
 fault_of_one_more names name = fault_of_name (list_any (bytes_eq name) names) (length names)
@@ -20,7 +24,7 @@ fault_of_one_more names name = fault_of_name (list_any (bytes_eq name) names) (l
 -- the fault of a command, by the names alone
 abbrev pub fault_by_names : List (List ℕ) → Command → Option FaultKind
 fault_by_names names command =
-    option_and_then (λ zone. fault_of_one_more names zone.0) (declared_by command)
+    option_and_then (fault_of_one_more names) (declared_name command)
 
 -- why a command is not added: its fault; or out of memory, if it has none
 abbrev pub MayRefuseCommand : Option FaultKind → FaultKind → Type 0
@@ -29,4 +33,4 @@ MayRefuseCommand fault kind = (fault ≡ Some kind) ⊎ ((kind ≡ NoMemory) × 
 -- new has the name that the command declares, if it declares one, beside those of old
 abbrev pub AddsDeclared : List (List ℕ) → List (List ℕ) → Command → Type 0
 AddsDeclared old new command =
-    MatchOption (declared_by command) (new ≡ old) (λ zone. IsPermutation (zone.0 ∷ old) new)
+    MatchOption (declared_name command) (new ≡ old) (λ name. IsPermutation (name ∷ old) new)

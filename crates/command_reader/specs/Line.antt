@@ -7,7 +7,7 @@ use Rattle.command_reader.specs.declared.commands.Command.{Command}
 use Rattle.command_reader.specs.declared.commands.Command.TheVariants.{RejectUnknownPrefix}
 use Rattle.gk_terms.specs.Fields.{nothing_more}
 use Rattle.command_reader.specs.Fields.{is_one_of}
-use Rattle.command_reader.specs.ZoneLine.{zone_at}
+use Rattle.command_reader.specs.ZoneLine.{zone_line_at}
 use Rattle.command_reader.specs.TechnologyLine.{gw_type_prefix_at}
 use Rattle.command_reader.specs.BandwidthLine.{bandwidth_at}
 
@@ -62,7 +62,7 @@ passed_at word words =
 -- what a line says by its first word, and the words after it
 abbrev pub named_command_at : List ℕ → List (List ℕ) → Result (Option Command) FaultKind
 named_command_at word words =
-    if bytes_eq word (codes "zone") then kept_command_of (zone_at words)
+    if bytes_eq word (codes "zone") then kept_command_of (zone_line_at words)
     else (if bytes_eq word (codes "gw-type-prefix") then kept_command_of (gw_type_prefix_at words)
     else (if bytes_eq word (codes "arq") then kept_command_of (arq_at words)
     else (if bytes_eq word (codes "bandwidth") then kept_command_of (bandwidth_at words)
@@ -74,5 +74,5 @@ command_at [] = Ok None
 command_at (word ∷ words) = if is_remark word then Ok None else named_command_at word words
 
 -- what a line says
-unfoldable pub line_of : List ℕ → Result (Option Command) FaultKind
-line_of line = if is_too_long line then Err TooLong else command_at (words_of line)
+unfoldable pub command_of : List ℕ → Result (Option Command) FaultKind
+command_of line = if is_too_long line then Err TooLong else command_at (words_of line)

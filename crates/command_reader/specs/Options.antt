@@ -1,6 +1,7 @@
--- How the options of a `gw-type-prefix` line are read word by word. What they mean is in
--- specs/TechnologyLine; these are the contracts of the private functions that read them.
-use Rattle.std.specs.Prelude.{◌≡◌, ◌||◌, ℕ, Bool, true, false, List, [], ◌∷◌, ◌++◌, Option, Some, None, Result, Ok, Err, IsErr, MatchResult, codes, bytes_eq, if◌then◌else◌}
+-- How src/technology_lines reads the options of a `gw-type-prefix` line, one word after another.
+-- Only the contracts of its private functions need this: what the options mean is in
+-- specs/TechnologyLine.
+use Rattle.std.specs.Prelude.{◌≡◌, ◌||◌, ℕ, Bool, true, false, List, [], ◌∷◌, ◌++◌, Option, Some, None, Result, Ok, Err, IsErr, MatchResult}
 use Rattle.std.specs.Option.{ok_or}
 use Rattle.gk_terms.specs.Name.{name_of}
 use Rattle.gk_terms.specs.Fields.{◌>>=◌}
@@ -11,9 +12,7 @@ use Rattle.command_reader.specs.declared.technology_lines.TechnologyOption.TheVa
 use Rattle.command_reader.specs.declared.technology_lines.Expected.{Expected}
 use Rattle.command_reader.specs.declared.technology_lines.Expected.TheVariants.{AnOption, AName, OptionOrName}
 use Rattle.command_reader.specs.declared.technology_lines.OpenOptions.{OpenOptions}
-use Rattle.command_reader.specs.Fields.{is_one_of}
-use Rattle.command_reader.specs.ZoneLine.{hunt_words}
-use Rattle.command_reader.specs.TechnologyLine.{TechnologyOptions}
+use Rattle.command_reader.specs.TechnologyLine.{TechnologyOptions, by_option_word}
 use Rattle.command_reader.specs.Memory.{HoldsNames}
 
 -- ---- one word
@@ -24,10 +23,8 @@ hopoff_name_of word = ok_or (name_of word) BadName >>= λ name. Ok (HopoffName n
 -- the option that a word is, if it is one
 abbrev pub option_of : List ℕ → Result (Option TechnologyOption) FaultKind
 option_of word =
-    if bytes_eq word (codes "hopoff") then Ok (Some Hopoff)
-    else (if is_one_of hunt_words word then Ok (Some Hunt)
-    else (if bytes_eq word (codes "default-technology") then Ok (Some DefaultTechnology)
-    else (if bytes_eq word (codes "gw") then Err Unsupported else Ok None)))
+    by_option_word word (Ok (Some Hopoff)) (Ok (Some Hunt)) (Ok (Some DefaultTechnology))
+    (Err Unsupported) (Ok None)
 
 -- an option, or what the word is if it is not one
 abbrev pub option_or : Result TechnologyOption FaultKind → Option TechnologyOption

@@ -9,7 +9,7 @@ use Rattle.command_reader.specs.declared.commands.LocalAddress.{LocalAddress}
 use Rattle.command_reader.specs.declared.commands.GatewayPriority.{GatewayPriority}
 use Rattle.command_reader.specs.declared.commands.LimitKind.{LimitKind}
 use Rattle.command_reader.specs.declared.commands.LimitKind.TheVariants.{Session, Total, Interzone}
-use Rattle.command_reader.specs.Fields.{is_one_of}
+use Rattle.command_reader.specs.TechnologyLine.{is_option_word}
 
 -- ---- zones
 -- the port, if one was given
@@ -34,14 +34,10 @@ gateway_words None = []
 gateway_words (Some g) = codes "gw-priority" ∷ decimal g.priority ∷ g.gateways
 
 -- ---- technology prefixes
--- names that would be read as an option after another name
-abbrev pub option_words : List (List ℕ)
-option_words =
-    codes "hopoff" ∷ codes "seq" ∷ codes "blast" ∷ codes "default-technology" ∷ codes "gw" ∷ []
-
--- a further name of a hopoff: such a name comes after the word `hopoff` again
+-- a further name of a hopoff: one that would be read as an option comes after the word `hopoff`
+-- again
 abbrev pub further_words : List ℕ → List (List ℕ)
-further_words name = if is_one_of option_words name then codes "hopoff" ∷ name ∷ [] else name ∷ []
+further_words name = if is_option_word name then codes "hopoff" ∷ name ∷ [] else name ∷ []
 
 abbrev pub hopoff_words : List (List ℕ) → List (List ℕ)
 hopoff_words [] = []

@@ -7,13 +7,13 @@ use Rattle.command_reader.specs.declared.faults.FaultKind.{FaultKind}
 use Rattle.command_reader.specs.declared.faults.FaultKind.TheVariants.{DuplicateZone, UnknownZone, NoLocalZone, TooMany, NoMemory}
 use Rattle.command_reader.specs.declared.faults.LineFault.{LineFault}
 use Rattle.command_reader.specs.declared.commands.Command.{Command}
-use Rattle.command_reader.specs.Line.{line_of}
+use Rattle.command_reader.specs.Line.{command_of}
 use Rattle.command_reader.specs.Progress.{Progress, line_count, commands_in}
 use Rattle.command_reader.specs.Configuration.{Configuration}
 use Rattle.command_reader.specs.Zones.{zones_of, declared_by, is_declared, named_by, first_local_of}
 
 -- ---- one line
--- the fault of one more zone: its name is declared before, or no more are allowed
+-- the fault of one more zone: its name is already declared, or no more zones may be declared
 abbrev pub fault_of_name : Bool → ℕ → Option FaultKind
 fault_of_name declared count =
     if declared then Some DuplicateZone
@@ -52,7 +52,7 @@ said_after before (Ok (Some command)) =
 unfoldable pub line_after : Progress → List ℕ → Result Progress FaultKind
 line_after before line =
     if nat_le MOST_LINES (line_count before) then Err TooMany
-    else said_after before (line_of line)
+    else said_after before (command_of line)
 
 -- ---- all lines
 -- a fault of the line with this number
@@ -98,10 +98,10 @@ zones_checked read None = local_zone_checked read
 abbrev pub finished : Progress → Result Configuration LineFault
 finished read = zones_checked read (unknown_zone read)
 
--- each line by itself, and then the zones of all
-abbrev pub whole_of : Result Progress LineFault → Result Configuration LineFault
-whole_of (Err fault) = Err fault
-whole_of (Ok read) = finished read
+-- the configuration of what was read, or the fault of a line
+abbrev pub finished_of : Result Progress LineFault → Result Configuration LineFault
+finished_of (Err fault) = Err fault
+finished_of (Ok read) = finished read
 
 -- nothing read yet
 abbrev pub nothing_read : Progress
@@ -109,7 +109,7 @@ nothing_read = record { kept = []; passed = 0 }
 
 -- what the lines of a configuration say, or its first fault
 abbrev pub reading_in : List (List ℕ) → Result Configuration LineFault
-reading_in lines = whole_of (lines_after nothing_read lines)
+reading_in lines = finished_of (lines_after nothing_read lines)
 
 -- what the bytes of a configuration say
 unfoldable pub reading_of : List ℕ → Result Configuration LineFault

@@ -11,6 +11,20 @@ use Rattle.command_reader.specs.declared.commands.Command.TheVariants.{GwTypePre
 use Rattle.command_reader.specs.Fields.{is_one_of}
 use Rattle.command_reader.specs.ZoneLine.{hunt_words}
 
+-- ---- the words that are never a further name
+-- the value for this word: the first for `hopoff`, the second for `seq` and `blast`, the third for
+-- `default-technology`, the fourth for `gw`, which is not supported, and the last for any other
+abbrev pub by_option_word : {A : Type 0} → List ℕ → A → A → A → A → A → A
+by_option_word word hopoff hunt technology gw other =
+    if bytes_eq word (codes "hopoff") then hopoff
+    else (if is_one_of hunt_words word then hunt
+    else (if bytes_eq word (codes "default-technology") then technology
+    else (if bytes_eq word (codes "gw") then gw else other)))
+
+-- whether the word is not read as a further name: it is an option, or `gw`
+abbrev pub is_option_word : List ℕ → Bool
+is_option_word word = by_option_word word true true true true false
+
 -- ---- gw-type-prefix PREFIX [hopoff NAME ...] [seq|blast] [default-technology],
 -- ---- the options in any order
 -- the names of all hopoffs, and whether `default-technology` was given
@@ -41,12 +55,9 @@ abbrev mutual
   pub options_at : Bool → List (List ℕ) → Result TechnologyOptions FaultKind
   options_at further [] = Ok no_options
   options_at further (word ∷ words) =
-      if bytes_eq word (codes "hopoff") then hopoff_at words
-      else (if is_one_of hunt_words word then options_at false words
-      else (if bytes_eq word (codes "default-technology")
-      then with_default (options_at false words)
-      else (if bytes_eq word (codes "gw") then Err Unsupported
-      else (if further then with_hopoff word (options_at true words) else Err Extra))))
+      by_option_word word (hopoff_at words) (options_at false words)
+      (with_default (options_at false words)) (Err Unsupported)
+      (if further then with_hopoff word (options_at true words) else Err Extra)
 
   -- the options after the word `hopoff`: the next word is a name, whatever it is
   pub hopoff_at : List (List ℕ) → Result TechnologyOptions FaultKind

@@ -11,8 +11,8 @@ abbrev pub EndsALine : List ℕ → Type 0
 EndsALine text = (rest : List ℕ) → lines_of (text ++ rest) ≡ lines_of text ++ lines_of rest
 
 -- with a line feed after it, the line is read as it is
-abbrev pub ReadsBack : List ℕ → Type 0
-ReadsBack line = (rest : List ℕ) → lines_of ((line ++ 10 ∷ []) ++ rest) ≡ line ∷ lines_of rest
+abbrev pub ReadsAsLine : List ℕ → Type 0
+ReadsAsLine line = (rest : List ℕ) → lines_of ((line ++ 10 ∷ []) ++ rest) ≡ line ∷ lines_of rest
 
 -- the kept lines with one more; or none from now on
 abbrev pub KeepsLine : Option (List (List ℕ)) → List ℕ → Option (List (List ℕ)) → Type 0

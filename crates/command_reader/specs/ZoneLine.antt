@@ -124,9 +124,9 @@ zone_prefix_at words = do
 abbrev pub left_out_of_zone : List (List ℕ)
 left_out_of_zone = codes "subnet" ∷ codes "circuit-id" ∷ codes "cluster" ∷ []
 
-abbrev pub zone_at : List (List ℕ) → Result Command FaultKind
-zone_at [] = Err Missing
-zone_at (word ∷ words) =
+abbrev pub zone_line_at : List (List ℕ) → Result Command FaultKind
+zone_line_at [] = Err Missing
+zone_line_at (word ∷ words) =
     if bytes_eq word (codes "local") then zone_local_at words
     else (if bytes_eq word (codes "remote") then zone_remote_at words
     else (if bytes_eq word (codes "prefix") then zone_prefix_at words

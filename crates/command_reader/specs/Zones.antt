@@ -51,14 +51,7 @@ first_local_of commands =
 
 -- whether a command declares a local zone
 abbrev pub is_local_command : Command → Bool
-is_local_command (ZoneLocal name domain address) = true
-is_local_command (ZoneRemote name domain address cost priority) = false
-is_local_command (ZonePrefix zone pattern gateways) = false
-is_local_command (GwTypePrefix prefix hopoffs is_default) = false
-is_local_command RejectUnknownPrefix = false
-is_local_command (BandwidthDefault kind size) = false
-is_local_command (BandwidthZone kind zone size) = false
-is_local_command (BandwidthRemote size) = false
+is_local_command command = is_local_option (option_map (λ zone. zone.1) (declared_by command))
 
 -- the zones that a command names and that some command must declare
 abbrev pub named_by : Command → List (List ℕ)

@@ -5,16 +5,18 @@ ghost use Rattle.gk_terms.specs.declared.limits.TheConstants.{MOST_DIALLED};
 ghost use Rattle.gk_terms.specs.Text.{line_text};
 ghost use Rattle.digit_patterns.specs.Pattern.{pattern_text};
 ghost use Rattle.command_reader.specs.Accepted.{PrintsBack};
-ghost use Rattle.command_reader.specs.Fields.{is_one_of};
+ghost use Rattle.command_reader.specs.TechnologyLine.{is_option_word};
 ghost use Rattle.gk_lines.specs.LineBuffer.{extended, with_words, line_of_words};
-ghost use Rattle.command_reader.specs.Printing.{command_words, local_words, port_words, remote_words, gateway_words, option_words, further_words, hopoff_words, default_words, limit_word};
+ghost use Rattle.command_reader.specs.Printing.{command_words, local_words, port_words, remote_words, gateway_words, further_words, hopoff_words, default_words, limit_word};
 
 use crate::commands::{Command, GatewayPriority, LimitKind, LocalAddress};
 use crate::names::Names;
+use crate::zone_lines::is_hunt_word;
 use digit_patterns::Pattern;
 use gk_lines::LineBuffer;
 use gk_terms::limits::MOST_DIALLED;
 use gk_terms::{Address, Kbps, Name, TechPrefix};
+
 /// The dots of the pattern with the most dots.
 static DOTS: [u8; MOST_DIALLED] = [b'.'; MOST_DIALLED];
 
@@ -296,11 +298,10 @@ fn star(has_star: bool) -> &'static [u8]
 
 /// Whether the word would be read as an option after the name of a hopoff.
 fn is_option_word(word: &[u8]) -> bool
-    ensures { result ≡ is_one_of option_words word.now }
+    ensures { result ≡ is_option_word word.now }
 {
     word == b"hopoff".as_slice()
-        || word == b"seq".as_slice()
-        || word == b"blast".as_slice()
+        || is_hunt_word(word)
         || word == b"default-technology".as_slice()
         || word == b"gw".as_slice()
 }

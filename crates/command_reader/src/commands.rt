@@ -117,16 +117,6 @@ impl Command {
     }
 }
 
-/// Kept lines without room for more.
-fn shrunk(lines: Option<WholeLines>) -> Option<WholeLines>
-    ensures { result ≡ lines }
-{
-    match lines {
-        Some(lines) => Some(lines.shrunk()),
-        None => None,
-    }
-}
-
 /// What a bandwidth limit bounds.
 #[derive(Clone, Copy, Debug, PartialEq, Eq)]
 pub enum LimitKind {
@@ -200,7 +190,7 @@ impl Commands {
         Commands {
             commands,
             passed_over,
-            lines: shrunk(lines),
+            lines: lines.map(|lines| lines.shrunk()),
         }
     }
 

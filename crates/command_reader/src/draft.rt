@@ -1,10 +1,10 @@
 //! A configuration as it is read, line by line.
 
-ghost use Rattle.std.specs.Prelude.{◌≡◌, true, ◌⊎◌, ◌+◌, ◌<◌, ◌≤◌, [], MatchResult, Ok, Err, None, is_some, option_map, slice_get};
+ghost use Rattle.std.specs.Prelude.{◌≡◌, ◌≤◌, true, None, is_some, option_map, slice_get};
 ghost use Rattle.std.specs.List.{list_any, position_or_len};
 ghost use Rattle.command_reader.specs.Progress.{line_count, commands_in};
 ghost use Rattle.command_reader.specs.Zones.{first_local_of, is_declared, is_local_command};
-ghost use Rattle.command_reader.specs.Reading.{nothing_read, line_after, fault_at, finished, names_unknown, unknown_zone, LacksMemoryFor, MayReadLine, ReadsLine};
+ghost use Rattle.command_reader.specs.Reading.{nothing_read, fault_at, finished, names_unknown, unknown_zone, MayReadLine, ReadsLine};
 ghost use Rattle.command_reader.specs.WholeLines.{KeepsLine};
 
 use crate::commands::{Command, Commands};
@@ -15,7 +15,6 @@ use crate::whole_lines::WholeLines;
 use gk_terms::Name;
 use gk_terms::limits::MOST_LINES;
 use std::alloc::Global;
-use std::collections::HashSet;
 use std::marker::Model;
 
 /// The lines read so far: the kept commands, the number of each one's line, how many lines were
@@ -61,12 +60,7 @@ impl Draft {
     {
         Draft {
             alloc,
-            kept: Kept {
-                commands: Vec::new(alloc),
-                numbers: Vec::new(alloc),
-                declared: HashSet::new(alloc),
-                line: 0,
-            },
+            kept: Kept::new(alloc, 0),
             passed: 0,
             command_lines: None,
         }
@@ -81,12 +75,7 @@ impl Draft {
     {
         Draft {
             alloc,
-            kept: Kept {
-                commands: room_for(alloc, commands),
-                numbers: room_for(alloc, commands),
-                declared: HashSet::new(alloc),
-                line: 0,
-            },
+            kept: Kept::new(alloc, commands),
             passed: 0,
             command_lines: Some(WholeLines::new(alloc)),
         }
@@ -109,33 +98,22 @@ impl Draft {
         Ok(self)
     }
 
+    #[tactic(auto, unfolding(crate::specs::Reading::line_after))]
     /// Reads the next line, or says its first fault, as `with_line` does. At a fault the draft is
     /// unchanged.
     pub fn read_line(&mut self, line: &[u8]) -> Result<(), LineFault>
         ensures { ReadsLine self.old line.now self.new result }
     {
-        let number = self.line_count() as u32 + 1;
-        match self.read_text(line) {
-            Ok(()) => Ok(()),
-            Err(kind) => Err(LineFault { line: number, kind }),
-        }
-    }
-
-    #[tactic(auto, unfolding(crate::specs::Reading::line_after))]
-    /// Reads the next line, or says the kind of its fault.
-    fn read_text(&mut self, line: &[u8]) -> Result<(), FaultKind>
-        ensures { MatchResult result
-            (λ _. line_after self.old line.now ≡ Ok self.new)
-            (λ kind. ((line_after self.old line.now ≡ Err kind)
-            ⊎ LacksMemoryFor self.old line.now kind) × (self.new ≡ self.old)) }
-    {
         let before = self.line_count();
+        let number = before as u32 + 1;
         if before >= MOST_LINES {
-            return Err(FaultKind::TooMany);
+            return Err(fault_at(number, FaultKind::TooMany));
         }
         let commands_before = self.kept.commands.len();
-        self.kept.line = before as u32 + 1;
-        add_line(&mut self.kept, self.alloc, line)?;
+        self.kept.line = number;
+        if let Err(kind) = add_line(&mut self.kept, self.alloc, line) {
+            return Err(fault_at(number, kind));
+        }
         if self.kept.commands.len() > commands_before {
             self.command_lines = keep_line(self.command_lines.take(), line);
             return Ok(());
@@ -152,10 +130,8 @@ impl Draft {
             return Err(fault);
         }
         if !self.has_local_zone() {
-            return Err(LineFault {
-                line: self.line_count() as u32 + 1,
-                kind: FaultKind::NoLocalZone,
-            });
+            let end = self.line_count() as u32 + 1;
+            return Err(fault_at(end, FaultKind::NoLocalZone));
         }
         Ok(self.into_commands())
     }
@@ -231,16 +207,6 @@ fn keep_line(lines: Option<WholeLines>, line: &[u8]) -> Option<WholeLines>
     lines?.with_line(line)
 }
 
-/// No items, and room for so many if there is memory for it.
-fn room_for<T: Drop>(alloc: Global, items: usize) -> Vec<T>
-    ensures { result.items ≡ [] }
-{
-    match Vec::with_capacity(alloc, items) {
-        Ok(room) => room,
-        Err(_) => Vec::new(alloc),
-    }
-}
-
 /// The fault of naming an unknown zone, at the line of the command at a place, by the numbers of
 /// the lines.
 fn unknown_at(numbers: &[u32], place: usize) -> Option<LineFault>
@@ -248,10 +214,14 @@ fn unknown_at(numbers: &[u32], place: usize) -> Option<LineFault>
         option_map (λ number. fault_at number FaultKind.UnknownZone) (slice_get numbers.now place) }
 {
     let line = *numbers.get(place)?;
-    Some(LineFault {
-        line,
-        kind: FaultKind::UnknownZone,
-    })
+    Some(fault_at(line, FaultKind::UnknownZone))
+}
+
+/// The fault of the line with this number.
+fn fault_at(line: u32, kind: FaultKind) -> LineFault
+    ensures { result ≡ fault_at line kind }
+{
+    LineFault { line, kind }
 }
 
 /// Whether one of the commands declares a local zone.

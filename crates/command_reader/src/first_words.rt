@@ -8,7 +8,7 @@ ghost use Rattle.command_reader.specs.Fields.{is_one_of};
 ghost use Rattle.command_reader.specs.Kept.{MayAdd, Passes};
 ghost use Rattle.command_reader.specs.TechnologyLine.{gw_type_prefix_at};
 ghost use Rattle.command_reader.specs.BandwidthLine.{bandwidth_at};
-ghost use Rattle.command_reader.specs.Line.{arq_at, kept_command_of, no_at, passed_alone, passed_whole, left_out_commands, passed_at, named_command_at, command_at, line_of};
+ghost use Rattle.command_reader.specs.Line.{arq_at, kept_command_of, no_at, passed_alone, passed_whole, left_out_commands, passed_at, named_command_at, command_at, command_of};
 
 use crate::bandwidth_lines::bandwidth;
 use crate::commands::Command;
@@ -21,12 +21,12 @@ use gk_terms::limits::MOST_LINE_BYTES;
 use gk_terms::words::Words;
 use std::alloc::Global;
 
-#[tactic(auto, unfolding(crate::specs::Line::line_of))]
+#[tactic(auto, unfolding(crate::specs::Line::command_of))]
 /// Adds the command of a line, or nothing if it is passed over, or says its first fault from the
 /// left. Memory is taken only for the names of gateways and of hop-off zones, and to keep the
 /// command. If it is refused, and the line has no fault, the answer is `NoMemory`.
 pub fn add_line(kept: &mut Kept, alloc: Global, line: &[u8]) -> Result<(), FaultKind>
-    ensures { MayAdd kept.old (line_of line.now) kept.new result }
+    ensures { MayAdd kept.old (command_of line.now) kept.new result }
 {
     if line.len() > MOST_LINE_BYTES {
         return Err(FaultKind::TooLong);
@@ -145,10 +145,7 @@ fn no(words: &mut Words<'_>) -> Result<(), FaultKind>
 fn alone(words: &mut Words<'_>) -> Result<(), FaultKind>
     ensures { Passes (nothing_more FaultKind.Extra None (words_of words.old)) result }
 {
-    match words.next() {
-        None => Ok(()),
-        Some(_) => Err(FaultKind::Extra),
-    }
+    nothing_more((), words)
 }
 
 /// Whether a line that begins with the word is passed over if it has no further word.

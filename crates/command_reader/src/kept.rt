@@ -1,16 +1,16 @@
 //! What is kept of the lines of a configuration as they are read.
 
-ghost use Rattle.std.specs.Prelude.{◌≡◌, ◌∷◌, MatchResult, Ok, Some, None};
-ghost use Rattle.std.specs.List.Sorted.{IsPermutation};
+ghost use Rattle.std.specs.Prelude.{◌≡◌, [], MatchResult, Ok, Some, None};
+ghost use Rattle.std.specs.Option.{option_copied};
 ghost use Rattle.std.specs.HashSet.{keys};
-ghost use Rattle.command_reader.specs.Index.{AddsDeclared, fault_of_one_more, fault_by_names};
+ghost use Rattle.command_reader.specs.Index.{declared_name, AddsDeclared, fault_by_names};
 ghost use Rattle.command_reader.specs.Kept.{MayAdd};
 
 use crate::commands::Command;
 use crate::faults::FaultKind;
 use gk_terms::Name;
 use gk_terms::limits::MOST_ZONES;
-use std::alloc::AllocError;
+use std::alloc::{AllocError, Global};
 use std::collections::HashSet;
 
 /// The commands of the lines that were read, in line order, the number of each one's line, and the
@@ -24,6 +24,20 @@ pub struct Kept {
 }
 
 impl Kept {
+    /// Nothing kept yet, with room for this many commands if there is memory for it.
+    pub fn new(alloc: Global, commands: usize) -> Kept
+        ensures commands { result.commands.items ≡ [] }
+        ensures numbers { result.numbers.items ≡ [] }
+        ensures declared { keys result.declared ≡ [] }
+    {
+        Kept {
+            commands: room_for(alloc, commands),
+            numbers: room_for(alloc, commands),
+            declared: HashSet::new(alloc),
+            line: 0,
+        }
+    }
+
     /// Adds the command of the line, or says why not: the fault of the zone that it declares, or
     /// `NoMemory`. In that case what was kept is unchanged. A command is large, so room is made for
     /// it first: `push` may hand it back, which costs another copy.
@@ -47,20 +61,9 @@ fn check(declared: &HashSet<Name>, command: &Command) -> Result<(), FaultKind>
         (λ _. fault_by_names (keys declared.now) command.now ≡ None)
         (λ kind. fault_by_names (keys declared.now) command.now ≡ Some kind) }
 {
-    match command {
-        Command::ZoneLocal { name, .. } | Command::ZoneRemote { name, .. } => {
-            check_name(declared, name)
-        }
-        _ => Ok(()),
-    }
-}
-
-/// The fault of one more zone of this name, if it has one.
-fn check_name(declared: &HashSet<Name>, name: &Name) -> Result<(), FaultKind>
-    ensures { MatchResult result
-        (λ _. fault_of_one_more (keys declared.now) name.now ≡ None)
-        (λ kind. fault_of_one_more (keys declared.now) name.now ≡ Some kind) }
-{
+    let Some(name) = declared_name(command) else {
+        return Ok(());
+    };
     if declared.contains(name) {
         return Err(FaultKind::DuplicateZone);
     }
@@ -78,23 +81,31 @@ fn declare(declared: &mut HashSet<Name>, command: &Command) -> Result<(), AllocE
         (λ _. AddsDeclared (keys declared.old) (keys declared.new) command.now)
         (λ _. keys declared.new ≡ keys declared.old) }
 {
-    match command {
-        Command::ZoneLocal { name, .. } | Command::ZoneRemote { name, .. } => {
-            declare_name(declared, name)
-        }
-        _ => Ok(()),
-    }
-}
-
-/// Adds the name of one more zone. If memory runs out, nothing is changed.
-fn declare_name(declared: &mut HashSet<Name>, name: &Name) -> Result<(), AllocError>
-    requires free { fault_of_one_more (keys declared.old) name.now ≡ None }
-    ensures { MatchResult result
-        (λ _. IsPermutation (name.now ∷ keys declared.old) (keys declared.new))
-        (λ _. keys declared.new ≡ keys declared.old) }
-{
+    let Some(name) = declared_name(command) else {
+        return Ok(());
+    };
     match declared.insert(*name) {
         Ok(_) => Ok(()),
         Err(_) => Err(AllocError),
+    }
+}
+
+/// The name of the zone that a command declares, if it declares one.
+fn declared_name(command: &Command) -> Option<&Name>
+    ensures { option_copied result ≡ declared_name command.now }
+{
+    match command {
+        Command::ZoneLocal { name, .. } | Command::ZoneRemote { name, .. } => Some(name),
+        _ => None,
+    }
+}
+
+/// No items, with room for this many if there is memory for it.
+fn room_for<T: Drop>(alloc: Global, items: usize) -> Vec<T>
+    ensures { result.items ≡ [] }
+{
+    match Vec::with_capacity(alloc, items) {
+        Ok(room) => room,
+        Err(_) => Vec::new(alloc),
     }
 }

@@ -2,7 +2,7 @@
 
 ghost use Rattle.std.specs.Prelude.{◌≡◌, ◌++◌, ◌∷◌, [], true, length, ◌-◌, ◌==◌, IfSome, OnOk, slice_index};
 ghost use Rattle.gk_terms.specs.Text.{lines_of};
-ghost use Rattle.command_reader.specs.WholeLines.{ReadsBack};
+ghost use Rattle.command_reader.specs.WholeLines.{ReadsAsLine};
 
 use gk_terms::text_lines::bytes_before_feed;
 use std::alloc::{AllocError, Global};
@@ -41,7 +41,7 @@ impl WholeLines {
     pub fn with_line(mut self, line: &[u8]) -> Option<WholeLines>
         ensures { IfSome result (λ lines. lines ≡ self ++ line.now ∷ []) }
     {
-        if !reads_back(line) {
+        if !reads_as_line(line) {
             return None;
         }
         match put_line(&mut self.bytes, line) {
@@ -66,7 +66,7 @@ impl WholeLines {
     }
 }
 
-/// Puts a line and its line feed at the end. If memory runs out, the text is fit only to be dropped.
+/// Puts a line and its line feed at the end. If memory runs out, the text has to be dropped.
 fn put_line(bytes: &mut Vec<u8>, line: &[u8]) -> Result<(), AllocError>
     ensures { OnOk result (bytes.new.items ≡ (bytes.old.items ++ line.now) ++ 10 ∷ []) }
 {
@@ -77,8 +77,8 @@ fn put_line(bytes: &mut Vec<u8>, line: &[u8]) -> Result<(), AllocError>
 }
 
 /// Whether a line is read back as it is if a line feed is put after it.
-fn reads_back(line: &[u8]) -> bool
-    ensures { result ≡ true → ReadsBack line.now }
+fn reads_as_line(line: &[u8]) -> bool
+    ensures { result ≡ true → ReadsAsLine line.now }
 {
     bytes_before_feed(line) == line.len() && !ends_with_return(line)
 }

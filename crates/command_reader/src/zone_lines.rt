@@ -4,12 +4,11 @@ ghost use Rattle.std.specs.Prelude.{◌≡◌, ◌≤◌, [], ◌∷◌, codes, 
 ghost use Rattle.std.specs.Option.{option_copied};
 ghost use Rattle.gk_terms.specs.Text.{words_of};
 ghost use Rattle.gk_terms.specs.Fields.{Gives};
-ghost use Rattle.command_reader.specs.Fields.{is_one_of, field_but};
+ghost use Rattle.command_reader.specs.Fields.{is_one_of, field_but, nothing_more_but, with_next};
 ghost use Rattle.command_reader.specs.Memory.{UnlessMemory, Any};
 ghost use Rattle.command_reader.specs.Line.{kept_command_of};
 ghost use Rattle.command_reader.specs.Kept.{MayAdd};
-ghost use Rattle.command_reader.specs.ZoneLine.{left_out_of_local, left_out_of_remote, left_out_of_zone, hunt_words, cost_of, local_port_at, local_address_at, zone_local_at, remote_port_at, remote_priority_at, remote_cost_at, zone_remote_at, after_hunt_word, gateways_at, zone_prefix_at, zone_at};
-ghost use Rattle.command_reader.specs.Fields.{with_next};
+ghost use Rattle.command_reader.specs.ZoneLine.{left_out_of_local, left_out_of_remote, left_out_of_zone, hunt_words, cost_of, local_port_at, local_address_at, zone_local_at, remote_port_at, remote_priority_at, remote_cost_at, zone_remote_at, after_hunt_word, gateways_at, zone_prefix_at, zone_line_at};
 
 use crate::commands::{Command, GatewayPriority, LocalAddress};
 use crate::faults::FaultKind;
@@ -32,7 +31,8 @@ pub const DEFAULT_PRIORITY: u8 = 50;
 
 /// Adds the command of `zone` and what follows it.
 pub fn add_zone(kept: &mut Kept, alloc: Global, words: &mut Words<'_>) -> Result<(), FaultKind>
-    ensures { MayAdd kept.old (kept_command_of (zone_at (words_of words.old))) kept.new result }
+    ensures { MayAdd kept.old (kept_command_of (zone_line_at (words_of words.old)))
+        kept.new result }
 {
     match words.next() {
         None => Err(FaultKind::Missing),
@@ -156,10 +156,8 @@ fn remote_cost(next: Option<&[u8]>, words: &mut Words<'_>) -> Result<(u8, u8), F
     ensures { result ≡ remote_cost_at (with_next (option_copied next.entry) (words_of words.old)) }
 {
     match next {
-        None => Ok((DEFAULT_COST, DEFAULT_PRIORITY)),
         Some(word) if word == b"cost".as_slice() => cost_and_priority(words),
-        Some(word) if is_left_out_of_remote(word) => Err(FaultKind::Unsupported),
-        Some(_) => Err(FaultKind::Extra),
+        next => remote_end((DEFAULT_COST, DEFAULT_PRIORITY), next),
     }
 }
 
@@ -177,10 +175,8 @@ fn remote_priority(words: &mut Words<'_>) -> Result<u8, FaultKind>
     ensures { result ≡ remote_priority_at (words_of words.old) }
 {
     match words.next() {
-        None => Ok(DEFAULT_PRIORITY),
         Some(word) if word == b"priority".as_slice() => last_priority(words),
-        Some(word) if is_left_out_of_remote(word) => Err(FaultKind::Unsupported),
-        Some(_) => Err(FaultKind::Extra),
+        next => remote_end(DEFAULT_PRIORITY, next),
     }
 }
 
@@ -189,8 +185,16 @@ fn last_priority(words: &mut Words<'_>) -> Result<u8, FaultKind>
     ensures { result ≡ remote_priority_at (codes "priority" ∷ words_of words.old) }
 {
     let priority = cost_field(words)?;
-    match words.next() {
-        None => Ok(priority),
+    remote_end(priority, words.next())
+}
+
+/// The value, if no word comes after the last field of a `zone remote` line.
+fn remote_end<T: Drop>(value: T, next: Option<&[u8]>) -> Result<T, FaultKind>
+    ensures { result ≡ nothing_more_but left_out_of_remote value
+        (with_next (option_copied next.entry) []) }
+{
+    match next {
+        None => Ok(value),
         Some(word) if is_left_out_of_remote(word) => Err(FaultKind::Unsupported),
         Some(_) => Err(FaultKind::Extra),
     }

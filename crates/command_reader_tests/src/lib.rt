@@ -2,12 +2,4 @@
 #![tactic(auto)]
 
 #[cfg(test)]
-mod accept_tests;
-#[cfg(test)]
-mod command_tests;
-#[cfg(test)]
 mod lines_tests;
-#[cfg(test)]
-mod print_tests;
-#[cfg(test)]
-mod test_texts;

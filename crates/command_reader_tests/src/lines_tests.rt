@@ -1,8 +1,7 @@
-//! Tests of the lines that are kept of commands.
+//! The lines that are kept of commands, and the one fault that no script brings about.
 
-use crate::test_texts::assert_same_commands;
-use command_reader::{CommandLines, Commands, Draft, read};
-use std::process::Abort;
+use command_reader::{CommandLines, Commands, Draft, FaultKind, LineFault, read};
+use std::alloc::Global;
 use std::test::Fail;
 
 /// Lines of every kind, with remarks, empty lines, blanks and both line endings between and around
@@ -21,43 +20,43 @@ fn lines_of(commands: Commands) -> Result<CommandLines, Fail> {
     }
 }
 
+/// The commands of that text, as its lines say them that were kept.
+fn read_again(alloc: Global) -> Result<Commands, Fail> {
+    let lines = lines_of(read(alloc, TEXT)?)?;
+    Ok(lines.commands(alloc)?)
+}
+
+/// Whether these are 12 commands beside 5 lines that were passed over, and those the same beside
+/// none.
+fn are_the_twelve(given: &Commands, again: &Commands) -> bool {
+    let (passed, passed_again) = (given.passed(), again.passed());
+    given.len() == 12 && (passed, passed_again) == (5, 0) && given.as_slice() == again.as_slice()
+}
+
 #[test]
 fn reads_kept_lines_again(rt: HostRuntime) -> Result<(), Fail> {
-    let alloc = rt.alloc();
-    let given = read(alloc, TEXT)?;
-    assert_eq!(rt; (given.len(), given.passed()), (12, 5));
-    let lines = lines_of(read(alloc, TEXT)?)?;
-    let again = lines.commands(alloc)?;
-    assert_eq!(rt; again.passed(), 0);
-    assert_same_commands(&rt, &again, &given);
-    assert_same_commands(&rt, &lines_of(again)?.commands(alloc)?, &given);
+    let given = read(rt.alloc(), TEXT)?;
+    assert!(rt; are_the_twelve(&given, &read_again(rt.alloc())?));
+    Ok(())
+}
+
+/// Whether this draft keeps its line.
+fn keeps_its_line(draft: Draft) -> Result<bool, Fail> {
+    let draft = draft.with_line(b"zone local a d")?;
+    Ok(draft.finish()?.into_lines().is_ok())
+}
+
+#[test]
+fn keeps_lines_if_asked(rt: HostRuntime) -> Result<(), Fail> {
+    assert!(rt; keeps_its_line(Draft::keeping_lines(rt.alloc(), 1))?);
+    assert!(rt; !keeps_its_line(Draft::new(rt.alloc()))?);
     Ok(())
 }
 
 #[test]
-fn keeps_no_line_of_a_fault(rt: HostRuntime) -> Result<(), Fail> {
-    let alloc = rt.alloc();
-    let mut draft = Draft::keeping_lines(alloc, 3);
-    draft.read_line(b"zone local a d".as_slice())?;
-    assert!(rt; draft.read_line(b"zone local a d".as_slice()).is_err());
-    assert!(rt;
-        draft
-            .read_line(b"zone local b\nzone local c d".as_slice())
-            .is_err()
-    );
-    draft.read_line(b"zone prefix a 9*".as_slice())?;
-    let given = draft.finish()?;
-    assert_eq!(rt; given.len(), 2);
-    assert_eq!(rt; lines_of(given)?.commands(alloc)?.len(), 2);
-    Ok(())
-}
-
-#[test]
-fn keeps_no_lines_unasked(rt: HostRuntime) -> Result<(), Fail> {
-    let draft = Draft::new(rt.alloc()).with_line(b"zone local a d".as_slice())?;
-    let Err(given) = draft.finish()?.into_lines() else {
-        return Err(Fail::new("lines were kept"));
-    };
-    assert_eq!(rt; given.len(), 1);
+fn prints_that_memory_ran_out(rt: HostRuntime) -> Result<(), Fail> {
+    let (line, kind) = (7, FaultKind::NoMemory);
+    let printed = format!(in rt.alloc(); "{}", LineFault { line, kind })?;
+    assert_eq!(rt; printed.as_str(), "line 7: NoMemory");
     Ok(())
 }

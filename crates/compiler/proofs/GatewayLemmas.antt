@@ -20,7 +20,7 @@ use Rattle.command_reader.specs.declared.commands.Command.TheVariants.{ZoneLocal
 use Rattle.command_reader.specs.Zones.{zones_of, is_declared, named_by}
 use Rattle.compiler.specs.Last.{last_in}
 use Rattle.compiler.specs.Priority.{priority_among, priority_in, named_priority_of}
-use Rattle.compiler.specs.Rows.{Row}
+use Rattle.compiler.specs.Rows.{ZoneRow}
 use Rattle.compiler.specs.Zones.{number_in}
 use Rattle.compiler.specs.TablesIndex.{Zones, NumberedRow, is_about, numbered_priority_in, numbered_priority_of, Priorities, kept_priority, ArePriorities}
 use Rattle.compiler.proofs.FirstRows.{same_pattern-same}
@@ -85,7 +85,7 @@ and_false true = refl
 and_false false = refl
 
 -- no row has the pattern
-pub about_none : (zones : Zones) (rows : List NumberedRow) (said : Row)
+pub about_none : (zones : Zones) (rows : List NumberedRow) (said : ZoneRow)
     → position (same_pattern said.0) (keys_of rows) ≡ None
     → (place : ℕ) (row : NumberedRow) → slice_get rows place ≡ Some row
     → is_about zones row (Some said) ≡ false
@@ -114,7 +114,7 @@ about_none zones rows said none place row at = by (same_pattern said.0 row.0) re
             true≢false (sym e ∙ ap (same_pattern said.0) (sym g) ∙ fails)
 
 -- a row has the pattern, and its zone is the same one or not
-pub about_some : (zones : Zones) (rows : List NumberedRow) (said : Row) (found : ℕ)
+pub about_some : (zones : Zones) (rows : List NumberedRow) (said : ZoneRow) (found : ℕ)
     (pattern : PatternParts) (number : ℕ) (same : Bool)
     → IsDistinct same_pattern (keys_of rows)
     → position (same_pattern said.0) (keys_of rows) ≡ Some found
@@ -211,7 +211,7 @@ same_number commands zone other declared = by (bytes_eq zone other) refl
             absurd (true≢false (sym (nat_list_eq_equiv.refl zone)
             ∙ ap (bytes_eq zone) (mine ∙ sym theirs) ∙ e))
 
-same_priority : (commands : List Command) (row : Row) (gateway : List ℕ) (command : Command)
+same_priority : (commands : List Command) (row : ZoneRow) (gateway : List ℕ) (command : Command)
     → All (λ name. is_declared commands name ≡ true) (named_by command)
     → numbered_priority_in (zones_of commands)
     (row.0, number_in (zones_of commands) row.1) gateway command
@@ -228,7 +228,7 @@ same_priority commands row gateway (BandwidthZone kind zone size) h = refl
 same_priority commands row gateway (BandwidthRemote size) h = refl
 
 -- what commands say by numbers is what they say by names
-pub numbered_is_named : (commands : List Command) (row : Row) (gateway : List ℕ)
+pub numbered_is_named : (commands : List Command) (row : ZoneRow) (gateway : List ℕ)
     → All (λ command. All (λ name. is_declared commands name ≡ true) (named_by command)) commands
     → numbered_priority_of (zones_of commands) commands
     (row.0, number_in (zones_of commands) row.1) gateway

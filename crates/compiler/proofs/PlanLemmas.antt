@@ -16,7 +16,7 @@ use Rattle.command_reader.specs.declared.zones.ZoneKind.TheVariants as kinds
 use Rattle.command_reader.specs.Zones.{zones_of, zone_of}
 use Rattle.compiler.specs.Pick.{picked}
 use Rattle.compiler.specs.Plan.{RemoteZone, LocalZone, target_in, remote_target, local_target, row_at, row_meant, target_of, by_row, by_hopoff, by_technology, plan_of}
-use Rattle.compiler.specs.Rows.{Row, rows_of, zones_for, row_of_pattern, row_for, first_rows_of, with_picked_zone}
+use Rattle.compiler.specs.Rows.{ZoneRow, rows_of, zones_for, row_of_pattern, row_for, first_rows_of, with_picked_zone}
 use Rattle.compiler.specs.Technology.{technology_of, hopoffs_of}
 use Rattle.compiler.specs.Zones.{zone_at, number_in}
 use Rattle.compiler.specs.TablesIndex.{kind_at, best_number, plan_to, NumberedRow, zone_at_pattern, AreRows, places_of}
@@ -32,7 +32,7 @@ zone_of_number commands name = sym (find_at (λ zone. bytes_eq name zone.0) (zon
 
 -- the plan for a zone by its number means that zone
 pub plan_to_zone : (commands : List Command) (name : List ℕ) (technology : Option (List ℕ))
-    (row : Option ℕ) (used : Option Row)
+    (row : Option ℕ) (used : Option ZoneRow)
     → row_meant commands row ≡ Some used
     → target_of commands (plan_to (kind_at (zones_of commands) (number_in (zones_of commands) name))
     (number_in (zones_of commands) name) technology row)
@@ -186,7 +186,7 @@ module _ (commands : List Command) (rows : List NumberedRow)
       (λ (hit : Hit). option_map (λ (row : NumberedRow). row.0) (slice_get rows hit.value))
       (best_hit (places_of rows) text)
       ≡ option_map (λ (p : PatternParts). Some p)
-      (option_map (λ (row : Row). row.0) (best_of (rows_of commands) text))
+      (option_map (λ (row : ZoneRow). row.0) (best_of (rows_of commands) text))
   found_pattern =
       fused (λ (hit : Hit). option_map (λ (row : NumberedRow). row.0)
       (slice_get rows hit.value)) hit_of
@@ -204,22 +204,25 @@ module _ (commands : List Command) (rows : List NumberedRow)
       (best_of rows text))
       ∙ ap (option_map (λ (p : PatternParts). Some p))
       (same_best rows (first_rows_of (rows_of commands)) text h.patterns
-      ∙ ap (option_map (λ (row : Row). row.0)) (best_of-first_rows_of (rows_of commands) text))
+      ∙ ap (option_map (λ (row : ZoneRow). row.0)) (best_of-first_rows_of (rows_of commands)
+      text))
 
   pub no_hit : best_hit (places_of rows) text ≡ None → row_for commands text ≡ None
   no_hit none = by (best_of (rows_of commands) text) refl
     where
-      by : (o : Option Row) → best_of (rows_of commands) text ≡ o → row_for commands text ≡ None
-      by None e = ap (option_and_then (λ (best : Row). row_of_pattern commands best.0)) e
+      by : (o : Option ZoneRow) → best_of (rows_of commands) text ≡ o → row_for commands text ≡
+          None
+      by None e = ap (option_and_then (λ (best : ZoneRow). row_of_pattern commands best.0)) e
       by (Some row) e = absurd (impossible (sym found_pattern))
         where
           impossible : option_map (λ (p : PatternParts). Some p)
-              (option_map (λ (r : Row). r.0) (best_of (rows_of commands) text))
+              (option_map (λ (r : ZoneRow). r.0) (best_of (rows_of commands) text))
               ≡ option_map (λ (hit : Hit). option_map (λ (r : NumberedRow). r.0)
               (slice_get rows hit.value))
               (best_hit (places_of rows) text) → ⊥
           impossible g = let f : Some (Some row.0) ≡ None =
-              ap (λ o. option_map (λ (p : PatternParts). Some p) (option_map (λ (r : Row). r.0) o))
+              ap (λ o. option_map (λ (p : PatternParts). Some p) (option_map (λ (r : ZoneRow).
+              r.0) o))
               (sym e)
               ∙ g
               ∙ ap (option_map (λ (hit : Hit). option_map (λ (r : NumberedRow). r.0)
@@ -230,7 +233,7 @@ module _ (commands : List Command) (rows : List NumberedRow)
   at_hit : (hit : Hit) → best_hit (places_of rows) text ≡ Some hit
       → Some (option_map (λ (row : NumberedRow). row.0) (slice_get rows hit.value))
       ≡ option_map (λ (p : PatternParts). Some p)
-      (option_map (λ (row : Row). row.0) (best_of (rows_of commands) text))
+      (option_map (λ (row : ZoneRow). row.0) (best_of (rows_of commands) text))
   at_hit hit e =
       sym (ap (option_map (λ (one : Hit). option_map (λ (row : NumberedRow). row.0)
       (slice_get rows one.value))) e)
@@ -241,8 +244,9 @@ module _ (commands : List Command) (rows : List NumberedRow)
   row_at_hit hit e none = by (best_of (rows_of commands) text)
       (sym (ap (λ o. Some (option_map (λ (row : NumberedRow). row.0) o)) none) ∙ at_hit hit e)
     where
-      by : (o : Option Row) → Some None
-          ≡ option_map (λ (p : PatternParts). Some p) (option_map (λ (row : Row). row.0) o) → ⊥
+      by : (o : Option ZoneRow) → Some None
+          ≡ option_map (λ (p : PatternParts). Some p) (option_map (λ (row : ZoneRow). row.0) o) →
+          ⊥
       by None g = cc
       by (Some row) g = cc
 
@@ -258,20 +262,20 @@ module _ (commands : List Command) (rows : List NumberedRow)
       ap (λ n. target_of commands
       (plan_to (kind_at (zones_of commands) n) n technology (Some hit.value))) (sym row.numbered)
       ∙ plan_to_zone commands row.zone technology (Some hit.value) (Some (pattern, row.zone))
-      (ap (option_map (λ (used : Row). Some used)) row.stands)
+      (ap (option_map (λ (used : ZoneRow). Some used)) row.stands)
       ∙ ap (λ used. Some (by_row commands technology used)) (sym used)
     where
       row : IsRow commands hit.value pattern number
       row = row_of_place commands rows hit.value pattern number h at kept
 
-      by : (o : Option Row) → best_of (rows_of commands) text ≡ o
+      by : (o : Option ZoneRow) → best_of (rows_of commands) text ≡ o
           → Some (Some pattern)
-          ≡ option_map (λ (p : PatternParts). Some p) (option_map (λ (r : Row). r.0) o)
+          ≡ option_map (λ (p : PatternParts). Some p) (option_map (λ (r : ZoneRow). r.0) o)
           → row_for commands text ≡ row_of_pattern commands pattern
       by None g f = cc
       by (Some best) g f =
           let same : best.0 ≡ pattern = cc in
-          ap (option_and_then (λ (one : Row). row_of_pattern commands one.0)) g
+          ap (option_and_then (λ (one : ZoneRow). row_of_pattern commands one.0)) g
           ∙ ap (row_of_pattern commands) same
 
       used : row_for commands text ≡ Some (pattern, row.zone)

@@ -16,7 +16,7 @@ use Rattle.command_reader.specs.declared.commands.Command.TheVariants.{ZoneLocal
 use Rattle.std.specs.Cmp.Lexicographic.{same_text}
 use Rattle.gk_terms.specs.TechPrefix.{is_tech_prefix}
 use Rattle.compiler.specs.Last.{last_in}
-use Rattle.compiler.specs.Rows.{Row, row_of, rows_of, zone_for, zones_for, with_row, first_rows_of}
+use Rattle.compiler.specs.Rows.{ZoneRow, row_of, rows_of, zone_for, zones_for, with_row, first_rows_of}
 use Rattle.compiler.specs.Technology.{prefix_in, prefixes_of, hopoffs_in, hopoffs_of}
 use Rattle.compiler.specs.Zones.{number_in}
 use Rattle.compiler.specs.TablesIndex.{Zones, better_in, best_after, best_number, hopoffs_named, Technologies, technology_at, hopoff_at, is_among, AreTechnologies, NumberedRow, zone_at_pattern, with_pattern, AreRows}
@@ -62,7 +62,7 @@ best_number-append zones names more =
 
 -- ---- rows
 -- a pattern whose zones are one more
-pub zones_for-more : (commands : List Command) (command : Command) (row : Row)
+pub zones_for-more : (commands : List Command) (command : Command) (row : ZoneRow)
     (pattern : PatternParts)
     → row_of command ≡ Some row
     → zones_for (commands ++ command ∷ []) pattern
@@ -91,14 +91,14 @@ rows_same zones commands command rows h none = record {
       (sym (rows_of-same commands command none));
 }
 
-has_pattern-keys : (pattern : PatternParts) (rows : List Row)
+has_pattern-keys : (pattern : PatternParts) (rows : List ZoneRow)
     → has_pattern pattern rows ≡ list_any (λ other. same_pattern other pattern) (keys_of rows)
 has_pattern-keys pattern [] = refl
 has_pattern-keys pattern (row ∷ rows) =
     ap (λ t. same_pattern row.0 pattern || t) (has_pattern-keys pattern rows)
 
 -- the patterns with that of one more row
-keys-with_row : (rows : List Row) (row : Row)
+keys-with_row : (rows : List ZoneRow) (row : ZoneRow)
     → keys_of (with_row rows row) ≡ with_pattern (keys_of rows) row.0
 keys-with_row rows row =
     by (has_pattern row.0 rows)
@@ -109,7 +109,7 @@ keys-with_row rows row =
     by true = refl
     by false = map-append (λ r. r.0) rows (row ∷ [])
 
-pub patterns-more : (commands : List Command) (command : Command) (row : Row)
+pub patterns-more : (commands : List Command) (command : Command) (row : ZoneRow)
     → row_of command ≡ Some row
     → keys_of (first_rows_of (rows_of (commands ++ command ∷ [])))
     ≡ with_pattern (keys_of (first_rows_of (rows_of commands))) row.0
@@ -120,7 +120,7 @@ patterns-more commands command row h =
     ∙ keys-with_row (first_rows_of (rows_of commands)) row
 
 -- the map with the row of one more command
-pub rows_more : (zones : Zones) (commands : List Command) (command : Command) (row : Row)
+pub rows_more : (zones : Zones) (commands : List Command) (command : Command) (row : ZoneRow)
     (old new : List NumberedRow)
     → AreRows zones commands old → row_of command ≡ Some row
     → ((other : PatternParts) → zone_at_pattern new other ≡ cond (same_pattern row.0 other)

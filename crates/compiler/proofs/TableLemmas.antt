@@ -16,13 +16,13 @@ use Rattle.command_reader.specs.Accepted.{IsAccepted}
 use Rattle.command_reader.proofs.accepted.AcceptedLemmas.{zones_few}
 use Rattle.gk_terms.specs.declared.limits.TheConstants.{MOST_ZONES}
 use Rattle.compiler.specs.declared.limits.ZoneLimits.{ZoneLimits}
-use Rattle.compiler.specs.declared.plans.TheConstants.{USUAL_GATEWAY_PRIORITY}
+use Rattle.compiler.specs.declared.plans.TheConstants.{DEFAULT_GATEWAY_PRIORITY}
 use Rattle.compiler.specs.Plan.{row_at, row_meant, target_of, by_row}
 use Rattle.compiler.specs.Priority.{entries_of, named_priority, AreNamedFor, priority_of}
-use Rattle.compiler.specs.Rows.{Row, rows_of, row_for, first_rows_of, with_picked_zone}
+use Rattle.compiler.specs.Rows.{ZoneRow, rows_of, row_for, first_rows_of, with_picked_zone}
 use Rattle.compiler.specs.Technology.{technology_of, hopoffs_of}
 use Rattle.compiler.specs.Zones.{zone_meant, local_zone, view_at, view_of, view_of_name, number_in}
-use Rattle.compiler.specs.TablesIndex.{Zones, kind_at, best_number, plan_to, numbered_priority_of, NumberedRow, zone_at_pattern, AreRows, Technologies, IsFound, IsLongest, Priorities, IsIndex}
+use Rattle.compiler.specs.TablesIndex.{Zones, kind_at, best_number, plan_to, numbered_priority_of, NumberedRow, zone_at_pattern, AreRows, Technologies, IsFoundTechnology, IsLongest, Priorities, IsIndex}
 use Rattle.compiler.proofs.RowLemmas.{IsEquivalence-pattern}
 use Rattle.compiler.proofs.ZoneLemmas.{number_by_position}
 use Rattle.compiler.proofs.TechnologyLemmas.{longest_none, longest_some}
@@ -91,7 +91,7 @@ few_zones commands zones h accepted = omega (arith, ap length h, zones_few comma
 -- the row of a number, as it is kept
 kept_row : (commands : List Command) (rows : List NumberedRow)
     → AreRows (zones_of commands) commands rows → IsDistinct same_pattern (keys_of rows)
-    → (place : ℕ) (row : Row) → row_at commands place ≡ Some row
+    → (place : ℕ) (row : ZoneRow) → row_at commands place ≡ Some row
     → slice_get rows place ≡ Some (row.0, number_in (zones_of commands) row.1)
 kept_row commands rows h distinct place row at =
     let first = item_from_map (with_picked_zone commands)
@@ -106,7 +106,7 @@ kept_row commands rows h distinct place row at =
     let same : Some (kept.0.0, is_row.zone) ≡ Some row = sym is_row.stands ∙ at in
     kept.1
     ∙ ap (λ n. Some (kept.0.0, n)) (sym is_row.numbered)
-    ∙ ap (option_map (λ (r : Row). (r.0, number_in (zones_of commands) r.1))) same
+    ∙ ap (option_map (λ (r : ZoneRow). (r.0, number_in (zones_of commands) r.1))) same
 
 -- the kept priorities of a row are what the commands say
 pub kept_priorities : {S : Type 0} {commands : List Command} {zones : Zones} {first_local : List ℕ}
@@ -121,7 +121,7 @@ pub kept_priorities : {S : Type 0} {commands : List Command} {zones : Zones} {fi
 kept_priorities {S} {commands} {zones} {rows = rows} {priorities = priorities} h place =
     by (row_at commands place) refl
   where
-    by : (o : Option Row) → row_at commands place ≡ o
+    by : (o : Option ZoneRow) → row_at commands place ≡ o
         → IfSome (option_map (λ row. Some row) o) (λ used.
         AreNamedFor commands used (entries_of (lookup (nat_eq place) priorities)))
     by None e = tt
@@ -135,12 +135,13 @@ kept_priorities {S} {commands} {zones} {rows = rows} {priorities = priorities} h
         ∙ numbered_is_named commands row gateway h.declared
 
 -- the priorities that are named for a row give those of all gateways
-pub priority_by_named : (commands : List Command) (used : Option Row) (named : List (List ℕ × ℕ))
+pub priority_by_named : (commands : List Command) (used : Option ZoneRow) (named : List (List ℕ ×
+    ℕ))
     → AreNamedFor commands used named
     → (gateway : List ℕ) → named_priority named gateway ≡ priority_of commands used gateway
 priority_by_named commands None named h gateway = ap (λ all. named_priority all gateway) h
 priority_by_named commands (Some row) named h gateway =
-    ap (λ o. unwrap_or o USUAL_GATEWAY_PRIORITY) (h gateway)
+    ap (λ o. unwrap_or o DEFAULT_GATEWAY_PRIORITY) (h gateway)
 
 -- ---- by the whole index
 module _ {S : Type 0} {commands : List Command} {zones : Zones} {first_local : List ℕ}
@@ -178,13 +179,13 @@ module _ {S : Type 0} {commands : List Command} {zones : Zones} {first_local : L
   index_longest_none digits = longest_none zones commands technologies h.technologies_are digits
 
   pub index_longest : (digits found : List ℕ) (hopoff : Option ℕ)
-      → IsFound technologies digits found hopoff
+      → IsFoundTechnology technologies digits found hopoff
       → technology_of commands digits ≡ Some found
   index_longest digits found hopoff =
       longest_some zones commands technologies h.technologies_are digits found hopoff
 
   pub index_hopoff : (digits found : List ℕ) (hopoff : Option ℕ)
-      → IsFound technologies digits found hopoff
+      → IsFoundTechnology technologies digits found hopoff
       → hopoff ≡ best_number (zones_of commands) (hopoffs_of commands found)
   index_hopoff digits found hopoff f =
       ap (option_and_then (λ (o : Option ℕ). o)) (sym f.kept)

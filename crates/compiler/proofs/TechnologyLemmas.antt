@@ -13,7 +13,7 @@ use Rattle.gk_terms.specs.TechPrefix.{is_technology_byte, is_tech_prefix}
 use Rattle.gk_terms.proofs.ChoiceLemmas.{first_unbeaten-IsFirstUnbeaten, first_unbeaten-none, IsRankOrder-by}
 use Rattle.command_reader.specs.declared.commands.Command.{Command}
 use Rattle.compiler.specs.Technology.{prefixes_of, begins_with, is_longer, technology_of}
-use Rattle.compiler.specs.TablesIndex.{Zones, Technologies, technology_at, is_among, AreTechnologies, AreWithin, IsFound, IsLongest}
+use Rattle.compiler.specs.TablesIndex.{Zones, Technologies, technology_at, is_among, AreTechnologies, AreWithin, IsFoundTechnology, IsLongest}
 
 -- ---- texts that may be prefixes
 pub front_passes : (p : ℕ → Bool) (count : ℕ) (text : List ℕ) → count ≤ prefix_len p text
@@ -165,7 +165,7 @@ module _ (technologies : Technologies) (text : List ℕ) (most : ℕ) (h : IsMos
       (technology_at technologies (take count text)) ≡ Some (found, hopoff)
       → ((longer : ℕ) → count < longer → longer ≤ most
       → technology_at technologies (take longer text) ≡ None)
-      → IsFound technologies text found hopoff
+      → IsFoundTechnology technologies text found hopoff
   found_longest count found hopoff some within here tried =
       by (technology_at technologies (take count text)) refl here
     where
@@ -175,7 +175,7 @@ module _ (technologies : Technologies) (text : List ℕ) (most : ℕ) (h : IsMos
       by : (o : Option (Option ℕ)) → technology_at technologies (take count text) ≡ o
           → option_map {U = List ℕ × Option ℕ} (λ hop. (take count text, hop)) o
           ≡ Some (found, hopoff)
-          → IsFound technologies text found hopoff
+          → IsFoundTechnology technologies text found hopoff
       by None e g = cc
       by (Some hop) e g =
           let text_is : take count text ≡ found =
@@ -304,7 +304,8 @@ module _ (zones : Zones) (commands : List Command) (technologies : Technologies)
           absurd (not_none (take (length q) digits) (kept_beginning first.place q first.stands)
           (h (length q) (begins_within digits q r.0)))
 
-  pub longest_some : (found : List ℕ) (hopoff : Option ℕ) → IsFound technologies digits found hopoff
+  pub longest_some : (found : List ℕ) (hopoff : Option ℕ) → IsFoundTechnology technologies digits
+      found hopoff
       → technology_of commands digits ≡ Some found
   longest_some found hopoff h = by (first_unbeaten is_longer beginnings) refl
     where

@@ -13,7 +13,7 @@ use Rattle.compiler.specs.declared.plans.Plan.{Plan}
 use Rattle.compiler.specs.declared.plans.Plan.TheVariants as plans
 use Rattle.compiler.specs.Pick.{picked}
 use Rattle.compiler.specs.Technology.{technology_of, hopoffs_of}
-use Rattle.compiler.specs.Rows.{Row, row_for, picked_rows_of}
+use Rattle.compiler.specs.Rows.{ZoneRow, row_for, picked_rows_of}
 use Rattle.compiler.specs.Zones.{zone_at}
 
 -- where a call is to go, as far as the commands say
@@ -21,14 +21,14 @@ pub data Target : Type 0 where
   -- to a zone of another gatekeeper, at its address
   RemoteZone : (zone : List ℕ) (address : AddressParts) → Target
   -- to a local zone, with the technology prefix that was found and the row that was used
-  LocalZone : (zone : List ℕ) (technology : Option (List ℕ)) (row : Option Row) → Target
+  LocalZone : (zone : List ℕ) (technology : Option (List ℕ)) (row : Option ZoneRow) → Target
   -- to the caller's zone, with the technology prefix that was found
   CallersZone : (technology : Option (List ℕ)) → Target
   -- nowhere: no zone prefix matches, and such digits are rejected
   UnknownPrefix : Target
 
 -- a zone as the target. In an accepted configuration each zone that is named is declared
-abbrev pub target_in : List ℕ → Option (List ℕ) → Option Row → Option ZoneKind → Target
+abbrev pub target_in : List ℕ → Option (List ℕ) → Option ZoneRow → Option ZoneKind → Target
 target_in zone technology row None = UnknownPrefix
 target_in zone technology row (Some kinds.Local) = LocalZone zone technology row
 target_in zone technology row (Some (kinds.Remote address cost priority)) =
@@ -50,7 +50,7 @@ abbrev pub rejects_unknown : List Command → Bool
 rejects_unknown commands = list_any is_reject commands
 
 -- the zone of the row that was found; else the caller's zone, unless such digits are rejected
-abbrev pub by_row : List Command → Option (List ℕ) → Option Row → Target
+abbrev pub by_row : List Command → Option (List ℕ) → Option ZoneRow → Target
 by_row commands technology (Some row) =
     target_in row.1 technology (Some row) (zone_of commands row.1)
 by_row commands technology None =
@@ -80,16 +80,16 @@ remote_target (name, kinds.Local) = None
 remote_target (name, kinds.Remote address cost priority) = Some (RemoteZone name address)
 
 -- a local zone as the target; nothing if the zone is a remote one
-abbrev pub local_target : Option (List ℕ) → Option Row → List ℕ × ZoneKind → Option Target
+abbrev pub local_target : Option (List ℕ) → Option ZoneRow → List ℕ × ZoneKind → Option Target
 local_target technology row (name, kinds.Local) = Some (LocalZone name technology row)
 local_target technology row (name, kinds.Remote address cost priority) = None
 
 -- the row of a number
-abbrev pub row_at : List Command → ℕ → Option Row
+abbrev pub row_at : List Command → ℕ → Option ZoneRow
 row_at commands number = slice_get (picked_rows_of commands) number
 
 -- the row that was used, if there is one, by its number; nothing if the number is out of range
-abbrev pub row_meant : List Command → Option ℕ → Option (Option Row)
+abbrev pub row_meant : List Command → Option ℕ → Option (Option ZoneRow)
 row_meant commands None = Some None
 row_meant commands (Some number) = option_map (λ row. Some row) (row_at commands number)
 

@@ -25,7 +25,7 @@ use Rattle.compiler.specs.Limit.{same_kind, default_size, zone_size, units_of_kb
 use Rattle.compiler.specs.Pick.{is_option_preferred}
 use Rattle.compiler.specs.Plan.{rejects_unknown}
 use Rattle.compiler.specs.Priority.{priority_among, entries_of}
-use Rattle.compiler.specs.Rows.{Row, row_of, rows_of, zones_for, first_rows_of}
+use Rattle.compiler.specs.Rows.{ZoneRow, row_of, rows_of, zones_for, first_rows_of}
 use Rattle.compiler.specs.Technology.{prefixes_of, hopoffs_of, default_technology_of}
 use Rattle.compiler.specs.Zones.{number_in}
 
@@ -107,7 +107,7 @@ pub record AreTechnologies (zones : Zones) (commands : List Command) (technologi
       is_tech_prefix prefix ≡ true
 
 -- what was found is kept for that beginning of the text, and nothing for a longer one
-pub record IsFound (technologies : Technologies) (text found : List ℕ) (hopoff : Option ℕ)
+pub record IsFoundTechnology (technologies : Technologies) (text found : List ℕ) (hopoff : Option ℕ)
     : Type 0 where
   pub within : length found ≤ length text
   pub begins : found ≡ take (length found) text
@@ -119,7 +119,8 @@ pub record IsFound (technologies : Technologies) (text found : List ℕ) (hopoff
 abbrev pub IsLongest : Technologies → List ℕ → Option (List ℕ × Option ℕ) → Type 0
 IsLongest technologies text None =
     (count : ℕ) → count ≤ length text → technology_at technologies (take count text) ≡ None
-IsLongest technologies text (Some (found, hopoff)) = IsFound technologies text found hopoff
+IsLongest technologies text (Some (found, hopoff)) = IsFoundTechnology technologies text found
+    hopoff
 
 -- ---- rows
 -- each pattern with the number of the zone that is picked for it
@@ -164,7 +165,7 @@ gateways_named (BandwidthZone kind zone size) = None
 gateways_named (BandwidthRemote size) = None
 
 -- whether what a `zone prefix` says is about a row of a pattern and a zone by number
-abbrev pub is_about : Zones → NumberedRow → Option Row → Bool
+abbrev pub is_about : Zones → NumberedRow → Option ZoneRow → Bool
 is_about zones row None = false
 is_about zones row (Some said) = (number_in zones said.1 == row.1) && same_pattern said.0 row.0
 
@@ -183,13 +184,13 @@ numbered_priority_of zones commands row gateway =
 abbrev pub Priorities : Type 0 → Type 0
 Priorities S = List (ℕ × IndexMap (List ℕ) ℕ S)
 
--- the gateways of a row
-abbrev pub gateways_at : {S : Type 0} → Priorities S → ℕ → List (List ℕ × ℕ)
-gateways_at priorities place = entries_of (lookup (nat_eq place) priorities)
+-- the gateways of a row, each with its priority
+abbrev pub priorities_at : {S : Type 0} → Priorities S → ℕ → List (List ℕ × ℕ)
+priorities_at priorities place = entries_of (lookup (nat_eq place) priorities)
 
 -- what is kept of a gateway for a row
 abbrev pub kept_priority : {S : Type 0} → Priorities S → ℕ → List ℕ → Option ℕ
-kept_priority priorities place gateway = lookup (bytes_eq gateway) (gateways_at priorities place)
+kept_priority priorities place gateway = lookup (bytes_eq gateway) (priorities_at priorities place)
 
 -- whether a place was found, and it is this one
 abbrev pub is_place : Option ℕ → ℕ → Bool

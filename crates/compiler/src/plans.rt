@@ -6,7 +6,7 @@ use gk_terms::{Dialled, TechPrefix, Version};
 use std::marker::Model;
 
 /// The priority of a gateway for a row whose `gw-priority` options do not name it.
-pub const USUAL_GATEWAY_PRIORITY: u8 = 5;
+pub const DEFAULT_GATEWAY_PRIORITY: u8 = 5;
 
 /// The number of a zone: its place, from 0, among the zones that are declared, in line order. It is
 /// used with the tables that gave it.

@@ -13,7 +13,7 @@ ghost use Rattle.compiler.specs.TablesIndex as Index;
 
 use crate::limit_table::{limits_at, limits_in, remote_limit_in};
 use crate::limits::ZoneLimits;
-use crate::plans::{Plan, Routed, RowNo, USUAL_GATEWAY_PRIORITY, ZoneNo};
+use crate::plans::{DEFAULT_GATEWAY_PRIORITY, Plan, Routed, RowNo, ZoneNo};
 use crate::priorities::priorities_in;
 use crate::rows::{prefixes_in, rows_in};
 use crate::technologies::{default_technology_in, technologies_in, technology_of};
@@ -215,8 +215,8 @@ impl Tables {
             Some(gateways) => gateways
                 .get(gateway)
                 .copied()
-                .unwrap_or(USUAL_GATEWAY_PRIORITY),
-            None => USUAL_GATEWAY_PRIORITY,
+                .unwrap_or(DEFAULT_GATEWAY_PRIORITY),
+            None => DEFAULT_GATEWAY_PRIORITY,
         }
     }
 

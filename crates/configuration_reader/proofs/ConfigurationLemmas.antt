@@ -14,15 +14,15 @@ use Rattle.gk_lines.proofs.LinesTaken.{LinesTaken, none_taken, one_more_taken, a
 use Rattle.command_reader.specs.declared.faults.LineFault.{LineFault}
 use Rattle.command_reader.specs.declared.faults.FaultKind.TheVariants.{TooLong}
 use Rattle.command_reader.specs.Configuration.{Configuration}
-use Rattle.command_reader.specs.Line.{line_of}
+use Rattle.command_reader.specs.Line.{command_of}
 use Rattle.command_reader.specs.Progress.{Progress}
-use Rattle.command_reader.specs.Reading.{nothing_read, finished, whole_of, MayRead, MayReadLine, MayReadOn}
+use Rattle.command_reader.specs.Reading.{nothing_read, finished, finished_of, MayRead, MayReadLine, MayReadOn}
 use Rattle.command_reader.proofs.one_by_one.ReadOnLemmas.{no_more_lines, one_line, refused_line, finishes, refuses, long_says, same_line}
 use Rattle.configuration_reader.specs.declared.configuration.Until.{Until}
 use Rattle.configuration_reader.specs.declared.configuration.Until.TheVariants.{EndLine, EndOfInput}
 use Rattle.configuration_reader.specs.declared.configuration.ConfigurationFault.{ConfigurationFault}
 use Rattle.configuration_reader.specs.declared.configuration.ConfigurationFault.TheVariants.{Line, Read}
-use Rattle.configuration_reader.specs.Configuration.{is_end_alone, is_end_line, ends_with, configuration_in, rest_in, configuration_of, rest_of, IsUnended, LeavesRest, MayGive, answer_of, is_decided, ContinuesWith}
+use Rattle.configuration_reader.specs.Configuration.{is_end_alone, is_end_line, ends_with, configuration_in, rest_in, configuration_of, rest_of, IsUnended, LeavesRest, MayGive, with_line_fault, is_decided, ContinuesWith}
 
 -- ---- what is kept of a line says what the line says
 long_ends_not : (until : Until) (line : List ℕ) → is_too_long line ≡ true → ends_with until line ≡
@@ -31,8 +31,8 @@ long_ends_not EndLine line h = ap (λ t. not t && is_end_alone (words_of line)) 
 long_ends_not EndOfInput line h = refl
 
 kept_says : (ended : Bool) (kept bytes rest : List ℕ) (t : TakesLine ended kept bytes rest) →
-    line_of (content_of kept) ≡ line_of (content_of t.raw)
-kept_says ended kept bytes rest t = same_of_kept line_of (Err TooLong) long_says kept t.raw
+    command_of (content_of kept) ≡ command_of (content_of t.raw)
+kept_says ended kept bytes rest t = same_of_kept command_of (Err TooLong) long_says kept t.raw
     (TakesLine-says_same ended kept bytes rest t)
 
 kept_ends : (until : Until) (ended : Bool) (kept bytes rest : List ℕ)
@@ -66,7 +66,7 @@ SaysAfter (Ok read) lines end = MayReadOn read lines end
 SaysAfter (Err fault) lines end = end ≡ Err fault
 
 continued : (read after end : Result Progress LineFault) (kept raw : List ℕ) (lines : List (List ℕ))
-    → line_of kept ≡ line_of raw → ContinuesWith read kept after → SaysAfter after lines end →
+    → command_of kept ≡ command_of raw → ContinuesWith read kept after → SaysAfter after lines end →
     SaysAfter read (raw ∷ lines) end
 continued (Ok before) (Ok read) end kept raw lines same c says = one_line before read raw lines end
     (same_line before kept raw (Ok read) same c) says
@@ -89,7 +89,8 @@ says_decided EndLine (Err fault) lines decided = refl
 says_decided EndOfInput (Ok draft) lines decided = let no_such : ⊥ = cc in absurd no_such
 says_decided EndOfInput (Err fault) lines decided = refl
 
--- a configuration that is being read: none of the lines that were taken ends it, and what is left completes it
+-- a configuration that is being read: none of the lines that were taken ends it, and what is left
+-- completes it
 pub record IsReading (until : Until) (ended : Bool) (read : Result Progress LineFault)
     (bytes rest : List ℕ) : Type 0 where
   pub raws : List (List ℕ)
@@ -138,7 +139,8 @@ module _ (until : Until) (ended next_ended : Bool) (kept bytes rest next : List 
     (open_still : ended ≡ false) (r : IsReading until ended read bytes rest)
     (t : TakesLine next_ended kept rest next) (c : ContinuesWith read (content_of kept) after)
   where
-    one_line_says : (lines : List (List ℕ)) (end : Result Progress LineFault) → configuration_in until
+    one_line_says : (lines : List (List ℕ)) (end : Result Progress LineFault) → configuration_in
+        until
         (lines_of rest) ≡ content_of t.raw ∷ lines → SaysAfter after lines end → MayReadOn
         nothing_read (configuration_of until bytes) end
     one_line_says lines end split says =
@@ -154,7 +156,8 @@ module _ (until : Until) (ended next_ended : Bool) (kept bytes rest next : List 
         (raw_lines_of next) (rest_in until (raw_lines_of next))
     rest_here = ap (rest_in until) t.first
 
-    line_goes_on : ends_with until (content_of kept) ≡ false → IsReading until next_ended after bytes
+    line_goes_on : ends_with until (content_of kept) ≡ false → IsReading until next_ended after
+        bytes
         next
     line_goes_on goes_on =
         let other : ends_with until (content_of t.raw) ≡ false = sym
@@ -231,12 +234,12 @@ leaves_all EndOfInput bytes rest left = tt
 
 gives_finished : (until : Until) (bytes rest : List ℕ) (answer : Result Configuration LineFault) →
     MayRead (configuration_of until bytes) answer → rest ≡ rest_of until bytes → MayGive until bytes
-    rest (answer_of answer)
+    rest (with_line_fault answer)
 gives_finished until bytes rest (Ok configuration) says left = (says, left)
 gives_finished until bytes rest (Err fault) says left = (says, leaves_all until bytes rest left)
 
 gives : (until : Until) (bytes rest : List ℕ) (read : Result Progress LineFault) → IsReadOut until
-    read bytes rest → MayGive until bytes rest (answer_of (whole_of read))
+    read bytes rest → MayGive until bytes rest (with_line_fault (finished_of read))
 gives until bytes rest (Ok read) out = gives_finished until bytes rest (finished read)
     (finishes (configuration_of until bytes) read out.says) (out.left (undecided until read))
 gives until bytes rest (Err fault) out = (
@@ -265,7 +268,7 @@ module _ (until : Until) (ended next_ended : Bool) (kept : List ℕ)
   pub reading_ends : (known rest next : Option (List ℕ)) → KnownStep known rest
       (IsReading until ended read) → KnownStep rest next (TakesLine next_ended kept) → ends_with
       until (content_of kept) ≡ true → KnownStep known next
-      (λ bytes rest. MayGive until bytes rest (answer_of (whole_of after)))
+      (λ bytes rest. MayGive until bytes rest (with_line_fault (finished_of after)))
   reading_ends None rest next r t e = tt
   reading_ends (Some bytes) None next r t e = absurd r
   reading_ends (Some bytes) (Some rest) None r t e = absurd t
@@ -275,7 +278,7 @@ module _ (until : Until) (ended next_ended : Bool) (kept : List ℕ)
   pub reading_decides : (known rest next : Option (List ℕ)) → KnownStep known rest
       (IsReading until ended read) → KnownStep rest next (TakesLine next_ended kept) → is_decided
       until after ≡ true → KnownStep known next (λ bytes rest. MayGive until bytes rest
-      (answer_of (whole_of after)))
+      (with_line_fault (finished_of after)))
   reading_decides None rest next r t d = tt
   reading_decides (Some bytes) None next r t d = absurd r
   reading_decides (Some bytes) (Some rest) None r t d = absurd t
@@ -285,12 +288,12 @@ module _ (until : Until) (ended next_ended : Bool) (kept : List ℕ)
 pub reading_runs_out : (until : Until) (ended : Bool) (read : Result Progress LineFault)
     (known mid new : Option (List ℕ)) → KnownStep known mid (IsReading until ended read) → Keeps mid
     new → IsAtEnd mid → KnownStep known new (λ bytes rest. MayGive until bytes rest
-    (answer_of (whole_of read)))
+    (with_line_fault (finished_of read)))
 reading_runs_out until ended read None mid new r k e = tt
 reading_runs_out until ended read (Some bytes) None new r k e = absurd r
 reading_runs_out until ended read (Some bytes) (Some rest) None r k e = absurd k
 reading_runs_out until ended read (Some bytes) (Some rest) (Some next) r k e =
-    subst (λ (n : List ℕ). MayGive until bytes n (answer_of (whole_of read))) (sym k)
+    subst (λ (n : List ℕ). MayGive until bytes n (with_line_fault (finished_of read))) (sym k)
     (gives until bytes rest read (input_ends until ended bytes rest read r e))
 
 pub reading_stops : (until : Until) (ended : Bool) (read : Result Progress LineFault)

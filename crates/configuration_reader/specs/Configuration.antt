@@ -75,9 +75,11 @@ is_read_failure (Line fault) = false
 is_read_failure (Read fault) = is_failure fault
 
 -- ---- what was read, as the answer
-abbrev pub answer_of : Result Configuration LineFault → Result Configuration ConfigurationFault
-answer_of (Ok configuration) = Ok configuration
-answer_of (Err fault) = Err (Line fault)
+-- the same, with the fault of a line as that of the configuration
+abbrev pub with_line_fault : Result Configuration LineFault → Result Configuration
+    ConfigurationFault
+with_line_fault (Ok configuration) = Ok configuration
+with_line_fault (Err fault) = Err (Line fault)
 
 -- whether a configuration that ends with its input is faulty already, so that nothing more of it is
 -- read

@@ -4,7 +4,7 @@ ghost use Rattle.std.specs.Prelude.{◌≡◌, [], IfErr};
 ghost use Rattle.gk_terms.specs.Text.{words_of};
 ghost use Rattle.gk_lines.specs.Streams.{NotesIf, KnownStep};
 ghost use Rattle.gk_lines.specs.LineReader.{left_of, AtEndIfEnded, CountsTurns};
-ghost use Rattle.command_reader.specs.Reading.{whole_of};
+ghost use Rattle.command_reader.specs.Reading.{finished_of};
 ghost use Rattle.configuration_reader.specs.Configuration as Spec;
 
 use command_reader::{Commands, Draft, LineFault};
@@ -98,7 +98,7 @@ fn with_line(read: Result<Draft, LineFault>, line: &[u8]) -> Result<Draft, LineF
 
 /// The configuration that was read, or its fault.
 fn conclude(read: Result<Draft, LineFault>) -> Result<Commands, ConfigurationFault>
-    ensures { result ≡ Spec.answer_of (whole_of read) }
+    ensures { result ≡ Spec.with_line_fault (finished_of read) }
 {
     let draft = match read {
         Ok(draft) => draft,

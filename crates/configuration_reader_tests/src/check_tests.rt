@@ -1,89 +1,36 @@
-//! Configurations that are checked, over memory.
+//! Configurations that are checked, over readers and writers that move a byte a call, or fail.
 
 use command_reader::{FaultKind, LineFault};
 use configuration_reader::check::{CheckFault, check};
 use gk_lines::fakes::Piecewise;
 use gk_lines::{Noted, ReadFault};
 use std::alloc::Global;
-use std::process::Abort;
 use std::test::Fail;
 
 /// A configuration of three commands, in five lines.
-const CONFIGURATION: &str = "gatekeeper\n \
+const CONFIGURATION: &[u8] = b"gatekeeper\n \
     zone local gk-a  example.com\n \
     zone remote gk-x example.com 10.9.0.1\n \
     gw-type-prefix 1#* hopoff gk-x seq\n\
     end\n";
 
 /// Its canonical lines, and then the summary.
-const REPORT: &str = "zone local gk-a example.com\n\
+const REPORT: &[u8] = b"zone local gk-a example.com\n\
     zone remote gk-x example.com 10.9.0.1 1719 cost 50 priority 50\n\
     gw-type-prefix 1# hopoff gk-x\n\
     3 commands, 2 passed over\n";
 
-/// A configuration with a fault at line 2, which ends with its byte 20.
-const FAULTY: &[u8] = b"zone local a b\nzone\nzone local a b\n";
-
-/// The fault of that line.
-const FAULT: CheckFault = CheckFault::Config(LineFault {
-    line: 2,
-    kind: FaultKind::Missing,
-});
-
-/// Asserts how a check over these streams ends, and what it writes.
-fn assert_check(
-    rt: &impl Abort,
-    alloc: Global,
-    reader: &mut Noted<Piecewise<&[u8]>>,
-    prints: bool,
-    failing_write: Option<u64>,
-    want: (Result<(), CheckFault>, &[u8]),
-) {
-    let (result, written) = want;
-    let mut output = Vec::new(alloc);
-    let mut stream = Piecewise::new(&mut output, 1);
-    stream.failing_call = failing_write;
-    let checked = check(alloc, reader, &mut Noted::new(stream), prints);
-    assert_eq!(rt; checked, result);
-    assert_eq!(rt; output.as_slice(), written);
+/// The fault of a line.
+fn refused(line: u32, kind: FaultKind) -> Result<(), CheckFault> {
+    Err(CheckFault::Config(LineFault { line, kind }))
 }
 
-/// Asserts what a check of an accepted configuration writes.
-fn assert_report(rt: &impl Abort, alloc: Global, text: &str, prints: bool, report: &str) {
-    let mut reader = Noted::new(Piecewise::new(text.as_bytes(), 7));
-    let want = (Ok(()), report.as_bytes());
-    assert_check(rt, alloc, &mut reader, prints, None, want);
-}
-
-#[test]
-fn reports_an_accepted_configuration(rt: HostRuntime) {
-    for (text, prints, report) in [
-        (CONFIGURATION, false, "3 commands, 2 passed over\n"),
-        (CONFIGURATION, true, REPORT),
-        ("zone local a b", false, "1 commands, 0 passed over\n"),
-        (
-            "zone local a b\nend\nzone local c d\nend\n",
-            true,
-            "zone local a b\nzone local c d\n2 commands, 2 passed over\n",
-        ),
-    ] {
-        assert_report(&rt, rt.alloc(), text, prints, report);
-    }
-}
-
-/// Asserts that a check ends with this fault after so many bytes, and writes nothing.
-fn assert_refused(
-    rt: &impl Abort,
-    alloc: Global,
-    text: &[u8],
-    prints: bool,
-    bytes: u64,
-    fault: LineFault,
-) {
-    let mut reader = Noted::new(Piecewise::new(text, 1));
-    let want = (Err(CheckFault::Config(fault)), b"".as_slice());
-    assert_check(rt, alloc, &mut reader, prints, None, want);
-    assert_eq!(rt; reader.calls(), bytes, "{text:?}");
+/// How a check of these bytes ends if the reader fails at this call, and how often it is called. It
+/// fails at no call 0.
+fn end_and_calls(alloc: Global, text: &[u8], failing_call: u64) -> (Result<(), CheckFault>, u64) {
+    let mut reader = Noted::new(Piecewise::failing_at(text, 1, failing_call));
+    let ended = check(alloc, &mut reader, &mut Noted::new(Vec::new(alloc)), true);
+    (ended, reader.calls())
 }
 
 #[test]
@@ -111,53 +58,47 @@ fn reads_nothing_after_the_first_faulty_line(rt: HostRuntime) {
             FaultKind::UnknownZone,
         ),
     ] {
-        for prints in [false, true] {
-            let fault = LineFault { line, kind };
-            assert_refused(&rt, rt.alloc(), text, prints, bytes, fault);
-        }
+        let want = (refused(line, kind), bytes);
+        assert_eq!(rt; end_and_calls(rt.alloc(), text, 0), want);
     }
-}
-
-/// Asserts how a check ends if the reader, which gives one byte a call, fails at this call.
-fn assert_failed_read(rt: &impl Abort, alloc: Global, text: &[u8], call: u64, fault: CheckFault) {
-    let mut reader = Noted::new(Piecewise::failing_at(text, 1, call));
-    let want = (Err(fault), b"".as_slice());
-    assert_check(rt, alloc, &mut reader, true, None, want);
 }
 
 #[test]
 fn names_a_reader_that_fails(rt: HostRuntime) {
-    let failed = CheckFault::ReadFault(ReadFault::Failed);
-    let accepted = CONFIGURATION.as_bytes();
-    for call in 1..=accepted.len() as u64 + 1 {
-        assert_failed_read(&rt, rt.alloc(), accepted, call, failed);
+    let failed = Err(CheckFault::ReadFault(ReadFault::Failed));
+    let most = CONFIGURATION.len() as u64;
+    for call in 1..=most + 1 {
+        let ended = end_and_calls(rt.alloc(), CONFIGURATION, call);
+        assert_eq!(rt; ended, (failed, call));
     }
-    for call in 1..=20 {
-        assert_failed_read(&rt, rt.alloc(), FAULTY, call, failed);
+    // The second line has a fault, and ends with the twentieth byte.
+    let faulty = b"zone local a b\nzone\nzone local a b\n".as_slice();
+    let missing = refused(2, FaultKind::Missing);
+    for (call, want) in [(20, (failed, 20)), (21, (missing, 20))] {
+        assert_eq!(rt; end_and_calls(rt.alloc(), faulty, call), want);
     }
-    assert_failed_read(&rt, rt.alloc(), FAULTY, 21, FAULT);
 }
 
-/// Asserts what is written of the report if the writer, which takes one byte a call, fails at this
-/// call.
-fn assert_failed_write(rt: &impl Abort, alloc: Global, call: usize) {
-    let mut reader = Noted::new(Piecewise::new(CONFIGURATION.as_bytes(), 7));
-    let (front, _) = REPORT.as_bytes().split_at(call.min(REPORT.len()));
-    let want = (Err(CheckFault::WriteFault), front);
-    assert_check(
-        rt,
-        alloc,
-        &mut reader,
-        true,
-        Some((call as u64).saturating_add(1)),
-        want,
-    );
+/// How a check ends whose writer, which takes one byte a call, fails at this call.
+fn end_of_report(alloc: Global, output: &mut Vec<u8>, failing_call: u64) -> Result<(), CheckFault> {
+    let mut reader = Noted::new(CONFIGURATION);
+    let mut writer = Noted::new(Piecewise::failing_at(output, 1, failing_call));
+    check(alloc, &mut reader, &mut writer, true)
 }
 
 #[test]
 fn names_a_writer_that_fails(rt: HostRuntime) {
-    for call in 0..REPORT.len() {
-        assert_failed_write(&rt, rt.alloc(), call);
+    for count in 0..=REPORT.len() {
+        let (taken, rest) = REPORT.split_at(count.min(REPORT.len()));
+        let want = if rest.is_empty() {
+            Ok(())
+        } else {
+            Err(CheckFault::WriteFault)
+        };
+        let mut output = Vec::new(rt.alloc());
+        let ended = end_of_report(rt.alloc(), &mut output, (count as u64).saturating_add(1));
+        assert_eq!(rt; ended, want);
+        assert_eq!(rt; output.as_slice(), taken);
     }
 }
 
@@ -166,7 +107,6 @@ fn check_faults_are_printed(rt: HostRuntime) -> Result<(), Fail> {
     let (line, kind) = (7, FaultKind::TooMany);
     for (fault, text) in [
         (CheckFault::ReadFault(ReadFault::Failed), "cannot read"),
-        (CheckFault::ReadFault(ReadFault::TurnsSpent), "cannot read"),
         (
             CheckFault::Config(LineFault { line, kind }),
             "line 7: TooMany",

@@ -4,3 +4,5 @@
 
 #[cfg(test)]
 mod check_tests;
+#[cfg(test)]
+mod fault_tests;

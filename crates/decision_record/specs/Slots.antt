@@ -41,10 +41,10 @@ use Rattle.decision_record.specs.declared.slots.Slot.TheVariants as slot
 
 -- ---- parts
 -- where a call leads
-abbrev pub destination_meant : ShortDestination → AddressParts → Destination
-destination_meant (short.Gateway id) address = destination.Gateway id address
-destination_meant (short.Terminal id) address = destination.Terminal id address
-destination_meant (short.Zone name) address = destination.Zone name address
+abbrev pub short_destination_meant : ShortDestination → AddressParts → Destination
+short_destination_meant (short.Gateway id) address = destination.Gateway id address
+short_destination_meant (short.Terminal id) address = destination.Terminal id address
+short_destination_meant (short.Zone name) address = destination.Zone name address
 
 -- the sum of a call that would be above its limit, from a zone
 abbrev pub over_meant : ShortOver → (zone : List ℕ) → Over
@@ -56,23 +56,23 @@ abbrev pub named_over_meant : NamedOver → Over
 named_over_meant (named.Zone kind zone) = over.Zone kind zone
 named_over_meant named.Remote = over.Remote
 
--- why an admission is refused that leads to no destination
-abbrev pub reason_meant : Unrouted → AdmitRefusal
-reason_meant unrouted.CallerNotRegistered = admit.CallerNotRegistered
-reason_meant (unrouted.CallOpen zone) = admit.CallOpen
-reason_meant (unrouted.NoRoute zone refusal) = admit.NoRoute refusal
+-- why an admission that leads to no destination is refused
+abbrev pub unrouted_reason_meant : Unrouted → AdmitRefusal
+unrouted_reason_meant unrouted.CallerNotRegistered = admit.CallerNotRegistered
+unrouted_reason_meant (unrouted.CallOpen zone) = admit.CallOpen
+unrouted_reason_meant (unrouted.NoRoute zone refusal) = admit.NoRoute refusal
 
 -- the zone of its caller
-abbrev pub zone_meant : Unrouted → Option (List ℕ)
-zone_meant unrouted.CallerNotRegistered = None
-zone_meant (unrouted.CallOpen zone) = Some zone
-zone_meant (unrouted.NoRoute zone refusal) = Some zone
+abbrev pub unrouted_zone_meant : Unrouted → Option (List ℕ)
+unrouted_zone_meant unrouted.CallerNotRegistered = None
+unrouted_zone_meant (unrouted.CallOpen zone) = Some zone
+unrouted_zone_meant (unrouted.NoRoute zone refusal) = Some zone
 
 -- where its digits lead
-abbrev pub route_meant : Unrouted → Option Route
-route_meant unrouted.CallerNotRegistered = None
-route_meant (unrouted.CallOpen zone) = None
-route_meant (unrouted.NoRoute zone refusal) = Some (route.Refused refusal)
+abbrev pub unrouted_route_meant : Unrouted → Option Route
+unrouted_route_meant unrouted.CallerNotRegistered = None
+unrouted_route_meant (unrouted.CallOpen zone) = None
+unrouted_route_meant (unrouted.NoRoute zone refusal) = Some (route.Refused refusal)
 
 -- why a bandwidth change is refused
 abbrev pub refusal_meant : Unchanged → ChangeRefusal
@@ -85,8 +85,8 @@ register_reply short_reply.Granted id zone = reply.Registered id zone
 register_reply (short_reply.Refused reason) id zone = reply.RegisterRefused id reason
 
 -- where an admission leads
-abbrev pub destination_of : RoutedAdmission → Destination
-destination_of a = destination_meant a.destination a.address
+abbrev pub routed_destination_meant : RoutedAdmission → Destination
+routed_destination_meant a = short_destination_meant a.destination a.address
 
 -- the slot of a registration with this reply, whose endpoint stands at this place
 abbrev pub registered_slot : ShortReply → (place : ℕ) → Slot
@@ -107,12 +107,12 @@ admission_entry asked replied zone route = record {
 -- of one that leads to a destination
 abbrev pub routed_entry : RoutedAdmission → Reply → PlainEntry
 routed_entry a replied =
-    admission_entry a.asked replied (Some a.zone) (Some (route.To (destination_of a)))
+    admission_entry a.asked replied (Some a.zone) (Some (route.To (routed_destination_meant a)))
 
 -- and is granted
 abbrev pub admitted_entry : RoutedAdmission → PlainEntry
 admitted_entry a =
-    routed_entry a (reply.Admitted a.asked.call (destination_of a) a.asked.units)
+    routed_entry a (reply.Admitted a.asked.call (routed_destination_meant a) a.asked.units)
 
 -- or is refused since this sum would be above its limit
 abbrev pub over_entry : RoutedAdmission → Over → PlainEntry
@@ -121,8 +121,8 @@ over_entry a over = routed_entry a (reply.AdmitRefused a.asked.call (admit.OverL
 -- of one that leads to none
 abbrev pub refused_entry : RefusedAdmission → PlainEntry
 refused_entry a =
-    admission_entry a.asked (reply.AdmitRefused a.asked.call (reason_meant a.cause))
-    (zone_meant a.cause) (route_meant a.cause)
+    admission_entry a.asked (reply.AdmitRefused a.asked.call (unrouted_reason_meant a.cause))
+    (unrouted_zone_meant a.cause) (unrouted_route_meant a.cause)
 
 -- of another event
 abbrev pub other_entry : PlainEvent → Reply → PlainEntry

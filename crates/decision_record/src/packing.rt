@@ -264,7 +264,7 @@ fn admission(
 impl ShortDestination {
     /// The destination of this kind and of this name, except for the address.
     fn of(kind: DestinationKind, name: ShortName) -> ShortDestination
-        ensures { (address : _) → Spec.destination_meant result address
+        ensures { (address : _) → Spec.short_destination_meant result address
             ≡ destination_meant kind name address }
     {
         match kind {

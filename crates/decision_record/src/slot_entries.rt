@@ -24,7 +24,7 @@ use std::borrow::Cow;
 impl ShortDestination {
     /// The destination at this address.
     fn at(&self, address: Address) -> Destination
-        ensures { result ≡ Spec.destination_meant self.now address }
+        ensures { result ≡ Spec.short_destination_meant self.now address }
     {
         match self {
             ShortDestination::Gateway { id } => Destination::Gateway {
@@ -76,7 +76,7 @@ impl NamedOver {
 impl Unrouted {
     /// Why the admission is refused.
     fn reason(&self) -> AdmitRefusal
-        ensures { result ≡ Spec.reason_meant self.now }
+        ensures { result ≡ Spec.unrouted_reason_meant self.now }
     {
         match self {
             Unrouted::CallerNotRegistered => AdmitRefusal::CallerNotRegistered,
@@ -87,7 +87,7 @@ impl Unrouted {
 
     /// The zone of the caller, if it was registered.
     fn zone(&self) -> Option<Name>
-        ensures { result ≡ Spec.zone_meant self.now }
+        ensures { result ≡ Spec.unrouted_zone_meant self.now }
     {
         match self {
             Unrouted::CallerNotRegistered => None,
@@ -97,7 +97,7 @@ impl Unrouted {
 
     /// Where the digits lead, if that was looked for.
     fn route(&self) -> Option<Route>
-        ensures { result ≡ Spec.route_meant self.now }
+        ensures { result ≡ Spec.unrouted_route_meant self.now }
     {
         match self {
             Unrouted::CallerNotRegistered | Unrouted::CallOpen { .. } => None,
@@ -150,7 +150,7 @@ impl Slot {
 impl RoutedAdmission {
     /// Where it leads.
     fn destination(&self) -> Destination
-        ensures { result ≡ Spec.destination_of self.now }
+        ensures { result ≡ Spec.routed_destination_meant self.now }
     {
         self.destination.at(self.address)
     }

@@ -8,7 +8,7 @@ use Rattle.std.proofs.lemmas.List.Folds.{find_at, list_any_at}
 use Rattle.std.proofs.lemmas.Option.{get_or_from_slice_get}
 use Rattle.gk_terms.proofs.ChoiceLemmas.{find_passes, within_list, first_unbeaten-none}
 use Rattle.digit_patterns.specs.PatternParts.{PatternParts}
-use Rattle.digit_patterns.specs.Pattern.{matches, Matches, has_count, rank_of, is_above, outranks, Outranks}
+use Rattle.digit_patterns.specs.Pattern.{matches, Matches, has_count, rank_of, is_rank_above, outranks, Outranks}
 use Rattle.digit_patterns.specs.Table.{IsBest, best_of, ranks_above, row_matches}
 use Rattle.digit_patterns.specs.Laws.{RankDecides, RankOrders, RankIsTotal, BestIsLongest}
 use Rattle.digit_patterns.proofs.Ranks.{IsRankOrder-outranks, IsRankOrder-ranks_above}
@@ -51,7 +51,11 @@ rank_orders = record {
 }
 
 -- of two ranks that differ one is above the other
-equal_ranks : (a b c d e f : ℕ) → is_above (a, b, c) (d, e, f) ≡ false → is_above (d, e, f)
+equal_ranks : (a b c d e f : ℕ) → is_rank_above (a, b, c) (d, e, f) ≡ false → is_rank_above (
+  d,
+  e,
+  f,
+)
     (a, b, c) ≡ false → (a ≡ d) × (b ≡ e) × (c ≡ f)
 equal_ranks a b c d e f h i =
     let x : a ≡ d = grind (arith, nat_tests) in

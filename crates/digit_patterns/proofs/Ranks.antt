@@ -5,31 +5,39 @@ use Rattle.std.proofs.Math.Seq.{take_all}
 use Rattle.gk_terms.specs.Choice.{better}
 use Rattle.gk_terms.proofs.ChoiceLemmas.{IsRankOrder, IsRankOrder-on, first_unbeaten-pass}
 use Rattle.digit_patterns.specs.PatternParts.{PatternParts}
-use Rattle.digit_patterns.specs.Pattern.{is_above, outranks, rank_of}
+use Rattle.digit_patterns.specs.Pattern.{is_rank_above, outranks, rank_of}
 use Rattle.digit_patterns.specs.Table.{best_of, ranks_above, row_matches}
 
 -- ranks are compared number by number
-pub IsRankOrder-is_above : IsRankOrder is_above
+pub IsRankOrder-is_above : IsRankOrder is_rank_above
 IsRankOrder-is_above = record {
   irreflexive = λ r. lower r.0 r.1 r.2;
   transitive = λ r s t. chain r.0 r.1 r.2 s.0 s.1 s.2 t.0 t.1 t.2;
   splits = λ r s t. split r.0 r.1 r.2 s.0 s.1 s.2 t.0 t.1 t.2;
 }
   where
-    lower : (a b c : ℕ) → is_above (a, b, c) (a, b, c) ≡ false
+    lower : (a b c : ℕ) → is_rank_above (a, b, c) (a, b, c) ≡ false
     lower a b c = grind (arith, nat_tests)
 
-    chain : (a b c d e f g h i : ℕ) → is_above (a, b, c) (d, e, f) ≡ true → is_above (d, e, f)
-        (g, h, i) ≡ true → is_above (a, b, c) (g, h, i) ≡ true
+    chain : (a b c d e f g h i : ℕ) → is_rank_above (a, b, c) (d, e, f) ≡ true → is_rank_above (
+      d,
+      e,
+      f,
+    )
+        (g, h, i) ≡ true → is_rank_above (a, b, c) (g, h, i) ≡ true
     chain a b c d e f g h i j k = grind (arith, nat_tests)
 
-    split : (a b c d e f g h i : ℕ) → is_above (a, b, c) (g, h, i) ≡ true → is_above (a, b, c)
-        (d, e, f) ≡ false → is_above (d, e, f) (g, h, i) ≡ true
+    split : (a b c d e f g h i : ℕ) → is_rank_above (a, b, c) (g, h, i) ≡ true → is_rank_above (
+      a,
+      b,
+      c,
+    )
+        (d, e, f) ≡ false → is_rank_above (d, e, f) (g, h, i) ≡ true
     split a b c d e f g h i j k = grind (arith, nat_tests)
 
 -- so are patterns by their ranks
 pub IsRankOrder-outranks : IsRankOrder outranks
-IsRankOrder-outranks = IsRankOrder-on rank_of is_above IsRankOrder-is_above
+IsRankOrder-outranks = IsRankOrder-on rank_of is_rank_above IsRankOrder-is_above
 
 -- and rows by their patterns
 pub IsRankOrder-ranks_above : {V : Type 0} → IsRankOrder (ranks_above {V = V})

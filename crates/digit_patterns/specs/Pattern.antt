@@ -54,12 +54,12 @@ abbrev pub rank_of : PatternParts → ℕ × ℕ × ℕ
 rank_of p = (length p.literals, p.dots, cond p.star 0 1)
 
 -- the first number that differs is the greater
-abbrev pub is_above : ℕ × ℕ × ℕ → ℕ × ℕ × ℕ → Bool
-is_above r s =
+abbrev pub is_rank_above : ℕ × ℕ × ℕ → ℕ × ℕ × ℕ → Bool
+is_rank_above r s =
     nat_lt s.0 r.0 || ((r.0 == s.0) && (nat_lt s.1 r.1 || ((r.1 == s.1) && nat_lt s.2 r.2)))
 
 abbrev pub outranks : PatternParts → PatternParts → Bool
-outranks p q = is_above (rank_of p) (rank_of q)
+outranks p q = is_rank_above (rank_of p) (rank_of q)
 
 abbrev pub Outranks : PatternParts → PatternParts → Type 0
 Outranks p q = IsTrue (outranks p q)

@@ -11,10 +11,11 @@ use Rattle.gk_protocol.specs.declared.request_lines.Heard.TheVariants.{Blank, An
 use Rattle.gk_protocol.specs.declared.requests.Request.{Request}
 use Rattle.gk_protocol.specs.declared.answers.Answer.{Answer}
 use Rattle.gk_protocol.specs.declared.answers.Answer.TheVariants.{Malformed}
-use Rattle.gk_protocol.specs.Answers.{line_of}
+use Rattle.gk_protocol.specs.Answers.{answer_line_of}
 use Rattle.gk_protocol.specs.Asking.{Asking, Whole}
 use Rattle.gk_protocol.specs.Asking as asking
-use Rattle.gk_protocol.specs.Requests.{asking_of, asking_at, whole_of, asked_of, registering_of, registering_by_word, registering_at, register_at, no_memory_to, no_memory_answer_of}
+use Rattle.gk_protocol.specs.Registrations.{registering_of, registering_by_word, registering_at, register_at, no_memory_to, no_memory_answer_of}
+use Rattle.gk_protocol.specs.Requests.{asking_of, asking_at, whole_request_of, asked_of}
 use Rattle.gk_protocol.specs.Hearing.{AnswersRequest, HearsRequest, HearsRegistration, HearsReload, LacksOptions, Hears}
 use Rattle.gk_lines.specs.Streams.{KnownStep}
 use Rattle.gk_lines.specs.declared.line_reader.ReadFault.{ReadFault}
@@ -54,16 +55,16 @@ module _ {S : Type 0} (MayAnswer : S → Request → Answer → S → Type 0) wh
 
   -- a line of another first word than RRQ and CFG
   pub heard_request : (old new : S) (line reply : List ℕ) (read : Result Request RequestFault)
-      (heard : Result Heard RequestFault) → asking_of line ≡ whole_of read
+      (heard : Result Heard RequestFault) → asking_of line ≡ whole_request_of read
       → HearsRequest MayAnswer old read heard reply new → Hears MayAnswer old line heard reply new
   heard_request old new line reply read (Ok Answered) asks h = (read, asks, inl h)
   heard_request old new line reply read (Ok Blank) asks h = absurd h
   heard_request old new line reply read (Ok (Reload sequence count)) asks h = absurd h
-  heard_request old new line reply read (Err fault) asks h = (asks ∙ ap whole_of h.0, h.1)
+  heard_request old new line reply read (Err fault) asks h = (asks ∙ ap whole_request_of h.0, h.1)
 
   -- a registration
   pub heard_registration : (old new : S) (line reply : List ℕ) (words : List (List ℕ))
-      (heard : Result Heard RequestFault) → asking_of line ≡ whole_of (register_at words)
+      (heard : Result Heard RequestFault) → asking_of line ≡ whole_request_of (register_at words)
       → registering_of line ≡ registering_at words → HearsRegistration MayAnswer old words heard
       reply new → Hears MayAnswer old line heard reply new
   heard_registration old new line reply words (Ok Answered) asks registers h =
@@ -71,7 +72,7 @@ module _ {S : Type 0} (MayAnswer : S → Request → Answer → S → Type 0) wh
       (λ (answered : AnswersRequest MayAnswer old (register_at words) reply new).
       (register_at words, asks, inl answered))
       (λ (lacking : (sequence : ℕ) × (id : List ℕ) × (registering_at words ≡ Some (sequence, id)) ×
-      (reply ≡ line_of (no_memory_to (sequence, id))) × (new ≡ old)). (
+      (reply ≡ answer_line_of (no_memory_to (sequence, id))) × (new ≡ old)). (
         register_at words,
         asks,
         inr (
@@ -87,7 +88,7 @@ module _ {S : Type 0} (MayAnswer : S → Request → Answer → S → Type 0) wh
   heard_registration old new line reply words (Ok (Reload sequence count)) asks registers h = absurd
       h
   heard_registration old new line reply words (Err fault) asks registers h =
-      (asks ∙ ap whole_of h.0, h.1)
+      (asks ∙ ap whole_request_of h.0, h.1)
 
   -- a registration whose options could not be read
   pub registration_lacks : (old : S) (reply : List ℕ) (words : List (List ℕ)) (none : NoRequest)
@@ -120,10 +121,10 @@ module _ {S : Type 0} (MayAnswer : S → Request → Answer → S → Type 0) wh
         asked.1,
         asked.4,
         answered_request old new line asked.0 asked.1
-            (h.1 ∙ ap whole_of asked.2) asked.3,
+            (h.1 ∙ ap whole_request_of asked.2) asked.3,
       ))
       (λ (lacks : (answer : Answer) × (no_memory_answer_of line ≡ Some answer) ×
-      (reply ≡ line_of answer) × (new ≡ old)). (
+      (reply ≡ answer_line_of answer) × (new ≡ old)). (
         lacks.0,
         lacks.2,
         (h.0, h.1, inr (lacks.1, lacks.3)),

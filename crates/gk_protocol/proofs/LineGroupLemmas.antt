@@ -11,13 +11,14 @@ use Rattle.gk_protocol.specs.declared.request_faults.RequestFault.TheVariants.{C
 use Rattle.gk_protocol.specs.declared.requests.Request.{Request}
 use Rattle.gk_protocol.specs.declared.answers.Answer.{Answer}
 use Rattle.gk_protocol.specs.declared.answers.Answer.TheVariants.{Malformed}
-use Rattle.gk_protocol.specs.Answers.{line_of}
+use Rattle.gk_protocol.specs.Answers.{answer_line_of}
 use Rattle.gk_protocol.specs.declared.requests.Request.TheVariants as request
 use Rattle.gk_protocol.specs.Asking.{Asking, Reload}
 use Rattle.gk_protocol.specs.declared.owned_lines.TakenLines.{TakenLines}
 use Rattle.gk_protocol.specs.declared.owned_lines.TakenLines.TheVariants as taken
 use Rattle.gk_protocol.specs.declared.sessions.Progress.TheVariants.{Blank, Answered, CutShort as Cut}
-use Rattle.gk_protocol.specs.Requests.{asking_of, whole_of, no_memory_answer_of, reload_without_memory}
+use Rattle.gk_protocol.specs.Registrations.{no_memory_answer_of}
+use Rattle.gk_protocol.specs.Requests.{asking_of, whole_request_of, reload_without_memory}
 use Rattle.gk_protocol.specs.Session.{Asked, asked_in, handed_on, MayGet, Runs, IsWhole, IsStopped, IsCutShort}
 use Rattle.gk_protocol.specs.OwnedLines.{TakesLines, GivesLines}
 use Rattle.gk_protocol.specs.AnswersLine.{AnswersReload, AnswersLine}
@@ -51,7 +52,7 @@ module _ {S : Type 0} (MayAnswer : S → Request → Answer → S → Type 0) wh
     pub asks : (at_end : Bool) (more : List (List ℕ))
         → asked_in at_end 0 (raws ++ more) ≡ one ∷ asked_in at_end 0 more
     pub answer : Answer
-    pub line : reply ≡ line_of answer
+    pub line : reply ≡ answer_line_of answer
     pub get : MayGet MayAnswer now one answer new
 
   module _ (ended mid_ended now_ended : Bool) (kept bytes rest mid next : List ℕ) (old now : S)
@@ -151,7 +152,7 @@ module _ {S : Type 0} (MayAnswer : S → Request → Answer → S → Type 0) wh
           whole = group_whole [] (alone a.1 a.2);
           one = record { request = asked.0; no_memory = no_memory_answer_of (content_of kept) };
           asks = line_asks t.raw asked.0 (no_memory_answer_of (content_of kept))
-              (group_asks (whole_of asked.0) asked.1)
+              (group_asks (whole_request_of asked.0) asked.1)
               (sym (kept_registers mid_ended kept rest mid t));
           answer = a.0.0;
           line = a.0.1;
@@ -193,7 +194,7 @@ module _ {S : Type 0} (MayAnswer : S → Request → Answer → S → Type 0) wh
       pub taken : LinesTaken now_ended bytes next (u.raws ++ raws)
       pub asks : asked_in true 0 raws ≡ (record { request = Err CutShort; no_memory = None }) ∷ []
       pub none : next ≡ []
-      pub line : reply ≡ line_of (Malformed CutShort)
+      pub line : reply ≡ answer_line_of (Malformed CutShort)
       pub same : new ≡ now
 
     cut_reload : (reply : List ℕ) (new : S) (sequence owned : ℕ)

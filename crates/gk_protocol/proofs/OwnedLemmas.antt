@@ -20,7 +20,8 @@ use Rattle.gk_protocol.specs.declared.requests.Request.TheVariants as request
 use Rattle.gk_protocol.specs.Asking.{Asking, Reload}
 use Rattle.gk_protocol.specs.declared.answers.Answer.{Answer}
 use Rattle.gk_protocol.specs.declared.owned_lines.TakenLines.TheVariants as taken
-use Rattle.gk_protocol.specs.Requests.{asking_of, no_memory_answer_of, reload_without_memory}
+use Rattle.gk_protocol.specs.Registrations.{no_memory_answer_of}
+use Rattle.gk_protocol.specs.Requests.{asking_of, reload_without_memory}
 use Rattle.gk_protocol.specs.Session.{Asked, asked_by, asked_in, lines_owned, handed_on}
 use Rattle.gk_protocol.specs.OwnedLines.{TakesLines, HandsOn, GivesLines}
 use Rattle.gk_protocol.proofs.HandedLemmas.{kept_handed}

@@ -10,9 +10,10 @@ use Rattle.gk_protocol.specs.declared.request_faults.RequestFault.{RequestFault}
 use Rattle.gk_protocol.specs.declared.request_faults.RequestFault.TheVariants.{LineTooLong}
 use Rattle.gk_protocol.specs.declared.requests.Request.{Request}
 use Rattle.gk_protocol.specs.declared.answers.Answer.{Answer}
-use Rattle.gk_protocol.specs.Answers.{line_of}
+use Rattle.gk_protocol.specs.Answers.{answer_line_of}
 use Rattle.gk_protocol.specs.Asking.{Asking}
-use Rattle.gk_protocol.specs.Requests.{asking_of, asking_at, whole_of, registering_of, registering_by_word, no_memory_to, no_memory_answer_of}
+use Rattle.gk_protocol.specs.Registrations.{registering_of, registering_by_word, no_memory_to, no_memory_answer_of}
+use Rattle.gk_protocol.specs.Requests.{asking_of, asking_at, whole_request_of}
 use Rattle.gk_protocol.specs.Session.{Asked, asked_by, asked_in, lines_owned, requests_of, MayGet, Runs, IsWhole, IsCutShort}
 use Rattle.gk_protocol.proofs.SessionUnderWay.{IsUnderWay}
 
@@ -42,14 +43,14 @@ kept_registers ended kept bytes rest t =
 -- a request or a fault, whatever follows
 one_asked : (request : Result Request RequestFault) (no_memory : Option Answer) (at_end : Bool)
     (raws : List (List ℕ))
-    → asked_by at_end no_memory raws (whole_of request)
-    ++ asked_in at_end (lines_owned (whole_of request)) raws
+    → asked_by at_end no_memory raws (whole_request_of request)
+    ++ asked_in at_end (lines_owned (whole_request_of request)) raws
     ≡ (record { request = request; no_memory = no_memory }) ∷ asked_in at_end 0 raws
 one_asked (Ok request) no_memory at_end raws = refl
 one_asked (Err fault) no_memory at_end raws = refl
 
 pub line_asks : (raw : List ℕ) (request : Result Request RequestFault) (no_memory : Option Answer)
-    → asking_of (content_of raw) ≡ whole_of request
+    → asking_of (content_of raw) ≡ whole_request_of request
     → no_memory_answer_of (content_of raw) ≡ no_memory
     → (at_end : Bool) (raws : List (List ℕ))
     → asked_in at_end 0 (raw ∷ raws)
@@ -59,7 +60,7 @@ line_asks raw request no_memory asks lacks at_end raws =
     λ asking answer.
     asked_by at_end answer raws asking ++ asked_in at_end (lines_owned asking) raws in
     ap (λ asking. by asking (no_memory_answer_of (content_of raw))) asks
-    ∙ ap (by (whole_of request)) lacks ∙ one_asked request no_memory at_end raws
+    ∙ ap (by (whole_request_of request)) lacks ∙ one_asked request no_memory at_end raws
 
 pub blank_asks : (raw : List ℕ) → asking_of (content_of raw) ≡ Ok None
     → (at_end : Bool) (raws : List (List ℕ))
@@ -72,7 +73,7 @@ module _ {S : Type 0} (MayAnswer : S → Request → Answer → S → Type 0) wh
   -- one more reply
   runs_then : (old mid new : S) (asked : List Asked) (one : Asked) (text : List ℕ) (answer : Answer)
       → Runs MayAnswer old asked text mid → MayGet MayAnswer mid one answer new
-      → Runs MayAnswer old (asked ++ one ∷ []) (text ++ line_of answer) new
+      → Runs MayAnswer old (asked ++ one ∷ []) (text ++ answer_line_of answer) new
   runs_then old mid new [] one text answer runs get =
       let same : mid ≡ old = runs.1 in
       let first : MayGet MayAnswer old one answer new =
@@ -82,15 +83,16 @@ module _ {S : Type 0} (MayAnswer : S → Request → Answer → S → Type 0) wh
         new,
         first,
         (refl, refl),
-        ap (λ t. t ++ line_of answer) runs.0 ∙ sym (append-nil (line_of answer)),
+        ap (λ t. t ++ answer_line_of answer) runs.0 ∙ sym (append-nil (answer_line_of answer)),
       )
   runs_then old mid new (a ∷ others) one text answer runs get = (
     runs.0,
-    runs.1 ++ line_of answer,
+    runs.1 ++ answer_line_of answer,
     runs.2,
     runs.3,
     runs_then runs.2 mid new others one runs.1 answer runs.4 get,
-    ap (λ t. t ++ line_of answer) runs.5 ∙ append_assoc (line_of runs.0) runs.1 (line_of answer),
+    ap (λ t. t ++ answer_line_of answer) runs.5 ∙ append_assoc (answer_line_of runs.0) runs.1
+        (answer_line_of answer),
   )
 
   -- ---- raw lines that were taken, and what they ask
@@ -129,7 +131,8 @@ module _ {S : Type 0} (MayAnswer : S → Request → Answer → S → Type 0) wh
         → ((at_end : Bool) (more : List (List ℕ))
         → asked_in at_end 0 (raws ++ more) ≡ one ∷ asked_in at_end 0 more)
         → MayGet MayAnswer now one answer new
-        → IsUnderWay MayAnswer now_ended bytes next old new (text ++ line_of answer) (count + 1)
+        → IsUnderWay MayAnswer now_ended bytes next old new (text ++ answer_line_of answer) (count +
+        1)
     answered_lines one answer new asks get = record {
       raws = u.raws ++ raws;
       taken = taken;
@@ -148,13 +151,14 @@ module _ {S : Type 0} (MayAnswer : S → Request → Answer → S → Type 0) wh
     pub answered_at_end : (one : Asked) (answer : Answer) (new : S)
         → asked_in true 0 raws ≡ one ∷ [] → next ≡ []
         → MayGet MayAnswer now one answer new
-        → IsWhole MayAnswer bytes old new (text ++ line_of answer) (count + 1)
+        → IsWhole MayAnswer bytes old new (text ++ answer_line_of answer) (count + 1)
     answered_at_end one answer new asks none get =
         let asked : requests_of bytes ≡ u.asked ++ one ∷ [] =
         ap (asked_in true 0) (all_taken now_ended bytes next (u.raws ++ raws) taken none)
         ∙ asked_at_end one asks in
         record {
-          runs = subst (λ (a : List Asked). Runs MayAnswer old a (text ++ line_of answer) new)
+          runs = subst (λ (a : List Asked). Runs MayAnswer old a (text ++ answer_line_of answer)
+              new)
               (sym asked) (runs_then old now new u.asked one text answer u.runs get);
           counted = omega (arith, u.counted, length-append u.asked (one ∷ []), ap length asked);
         }
@@ -164,7 +168,7 @@ module _ {S : Type 0} (MayAnswer : S → Request → Answer → S → Type 0) wh
         → asked_in true 0 raws ≡ one ∷ []
         → ((filter (list_any (λ b. b == 10)) (u.raws ++ raws) ≡ u.raws ++ raws)
         × (asked_in false 0 raws ≡ one ∷ [])) ⊎ (next ≡ [])
-        → MayGet MayAnswer now one answer new → line_of answer ≡ written ++ lost
+        → MayGet MayAnswer now one answer new → answer_line_of answer ≡ written ++ lost
         → IsCutShort MayAnswer bytes next old new (text ++ written)
     cut_lines one answer new written lost asks whole get line = record {
       read = taken.read;

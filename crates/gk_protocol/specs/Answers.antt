@@ -153,12 +153,12 @@ fault_word fault.BadNumber = codes "number"
 fault_word fault.CutShort = codes "cut"
 
 -- ---- answers
-abbrev pub words_of : Answer → List (List ℕ)
-words_of (Reply sequence reply) = reply_words sequence reply
-words_of (Misconfigured sequence fault) =
+abbrev pub answer_words_of : Answer → List (List ℕ)
+answer_words_of (Reply sequence reply) = reply_words sequence reply
+answer_words_of (Misconfigured sequence fault) =
     codes "CRJ" ∷ decimal sequence ∷ decimal fault.line ∷ kind_word fault.kind ∷ []
-words_of (Malformed fault) = codes "ERR" ∷ fault_word fault ∷ []
+answer_words_of (Malformed fault) = codes "ERR" ∷ fault_word fault ∷ []
 
 -- an answer's line, with its line feed
-abbrev pub line_of : Answer → List ℕ
-line_of answer = line_text (words_of answer)
+abbrev pub answer_line_of : Answer → List ℕ
+answer_line_of answer = line_text (answer_words_of answer)

@@ -12,8 +12,9 @@ use Rattle.gk_protocol.specs.declared.owned_lines.TakenLines.{TakenLines}
 use Rattle.gk_protocol.specs.declared.owned_lines.TakenLines.TheVariants as taken
 use Rattle.gk_protocol.specs.declared.sessions.Progress.{Progress}
 use Rattle.gk_protocol.specs.declared.sessions.Progress.TheVariants.{Blank, Answered, CutShort}
-use Rattle.gk_protocol.specs.Answers.{line_of}
-use Rattle.gk_protocol.specs.Requests.{asking_of, whole_of, no_memory_answer_of, reload_without_memory}
+use Rattle.gk_protocol.specs.Answers.{answer_line_of}
+use Rattle.gk_protocol.specs.Registrations.{no_memory_answer_of}
+use Rattle.gk_protocol.specs.Requests.{asking_of, whole_request_of, reload_without_memory}
 use Rattle.gk_protocol.specs.OwnedLines.{GivesLines}
 use Rattle.gk_protocol.specs.Session.{MayGet}
 
@@ -21,19 +22,19 @@ module _ {S : Type 0} (MayAnswer : S → Request → Answer → S → Type 0) wh
   -- what a line asks by itself is answered
   abbrev pub AnswersAlone : S → List ℕ → Answer → S → Type 0
   AnswersAlone old line answer new =
-      (request : Result Request RequestFault) × (asking_of line ≡ whole_of request)
+      (request : Result Request RequestFault) × (asking_of line ≡ whole_request_of request)
       × MayGet MayAnswer old
       (record { request = request; no_memory = no_memory_answer_of line }) answer new
 
   -- the answer to a reload by what became of its lines, of which the reply is the line
   abbrev pub AnswersReload : S → ℕ → TakenLines → Progress → List ℕ → S → Type 0
   AnswersReload old sequence (taken.Whole lines) Answered reply new =
-      (answer : Answer) × (reply ≡ line_of answer)
+      (answer : Answer) × (reply ≡ answer_line_of answer)
       × MayAnswer old (request.Reload sequence lines) answer new
   AnswersReload old sequence taken.NoMemory Answered reply new =
-      (reply ≡ line_of (reload_without_memory sequence)) × (new ≡ old)
+      (reply ≡ answer_line_of (reload_without_memory sequence)) × (new ≡ old)
   AnswersReload old sequence taken.CutShort CutShort reply new =
-      (reply ≡ line_of (Malformed fault.CutShort)) × (new ≡ old)
+      (reply ≡ answer_line_of (Malformed fault.CutShort)) × (new ≡ old)
   AnswersReload old sequence lines progress reply new = ⊥
 
   -- a line asks for a reload with the next lines, which are taken; or their end was not read, and
@@ -52,7 +53,7 @@ module _ {S : Type 0} (MayAnswer : S → Request → Answer → S → Type 0) wh
   abbrev pub AnswersByItself : S → List ℕ → Result Progress ReadFault → List ℕ → S → Type 0
   AnswersByItself old line (Ok Blank) reply new = (asking_of line ≡ Ok None) × (new ≡ old)
   AnswersByItself old line (Ok Answered) reply new =
-      (answer : Answer) × (reply ≡ line_of answer) × AnswersAlone old line answer new
+      (answer : Answer) × (reply ≡ answer_line_of answer) × AnswersAlone old line answer new
   AnswersByItself old line (Ok CutShort) reply new = ⊥
   AnswersByItself old line (Err fault) reply new = ⊥
 

@@ -8,10 +8,11 @@ use Rattle.gk_protocol.specs.declared.request_lines.Heard.{Heard}
 use Rattle.gk_protocol.specs.declared.request_lines.Heard.TheVariants.{Blank, Answered, Reload}
 use Rattle.gk_protocol.specs.declared.requests.Request.{Request}
 use Rattle.gk_protocol.specs.declared.answers.Answer.{Answer}
-use Rattle.gk_protocol.specs.Answers.{line_of}
+use Rattle.gk_protocol.specs.Answers.{answer_line_of}
 use Rattle.gk_protocol.specs.Asking.{Asking}
 use Rattle.gk_protocol.specs.Asking as asking
-use Rattle.gk_protocol.specs.Requests.{asking_of, whole_of, no_memory_to, no_memory_answer_of, register_at, registering_at}
+use Rattle.gk_protocol.specs.Registrations.{no_memory_to, no_memory_answer_of, register_at, registering_at}
+use Rattle.gk_protocol.specs.Requests.{asking_of, whole_request_of}
 
 -- a reload is handed on, and not yet answered
 abbrev pub HearsReload : Result Asking RequestFault → Result Heard RequestFault → Type 0
@@ -24,14 +25,14 @@ HearsReload read heard = ⊥
 abbrev pub LacksOptions : NoRequest → Result Heard RequestFault → List ℕ → Type 0
 LacksOptions (Fault fault) heard reply = heard ≡ Err fault
 LacksOptions (NoMemory sequence id) heard reply =
-    (heard ≡ Ok Answered) × (reply ≡ line_of (no_memory_to (sequence, id)))
+    (heard ≡ Ok Answered) × (reply ≡ answer_line_of (no_memory_to (sequence, id)))
 
 module _ {S : Type 0} (MayAnswer : S → Request → Answer → S → Type 0) where
   -- the request that was read is answered, and the reply is the line of its answer
   abbrev pub AnswersRequest : S → Result Request RequestFault → List ℕ → S → Type 0
   AnswersRequest old read reply new =
       (request : Request) × (answer : Answer) × (read ≡ Ok request)
-      × MayAnswer old request answer new × (reply ≡ line_of answer)
+      × MayAnswer old request answer new × (reply ≡ answer_line_of answer)
 
   -- a request that was read is answered; a fault is given back, and leaves the answerer as it was
   abbrev pub HearsRequest : S → Result Request RequestFault → Result Heard RequestFault → List ℕ
@@ -47,7 +48,7 @@ module _ {S : Type 0} (MayAnswer : S → Request → Answer → S → Type 0) wh
   HearsRegistration old words (Ok Answered) reply new =
       AnswersRequest old (register_at words) reply new
       ⊎ ((sequence : ℕ) × (id : List ℕ) × (registering_at words ≡ Some (sequence, id))
-      × (reply ≡ line_of (no_memory_to (sequence, id))) × (new ≡ old))
+      × (reply ≡ answer_line_of (no_memory_to (sequence, id))) × (new ≡ old))
   HearsRegistration old words (Err fault) reply new =
       (register_at words ≡ Err fault) × (new ≡ old)
   HearsRegistration old words heard reply new = ⊥
@@ -56,10 +57,10 @@ module _ {S : Type 0} (MayAnswer : S → Request → Answer → S → Type 0) wh
   abbrev pub Hears : S → List ℕ → Result Heard RequestFault → List ℕ → S → Type 0
   Hears old line (Ok Blank) reply new = (asking_of line ≡ Ok None) × (new ≡ old)
   Hears old line (Ok Answered) reply new =
-      (read : Result Request RequestFault) × (asking_of line ≡ whole_of read)
+      (read : Result Request RequestFault) × (asking_of line ≡ whole_request_of read)
       × (AnswersRequest old read reply new
       ⊎ ((answer : Answer) × (no_memory_answer_of line ≡ Some answer)
-      × (reply ≡ line_of answer) × (new ≡ old)))
+      × (reply ≡ answer_line_of answer) × (new ≡ old)))
   Hears old line (Ok (Reload sequence count)) reply new =
       (asking_of line ≡ Ok (Some (asking.Reload sequence count))) × (new ≡ old)
   Hears old line (Err fault) reply new = (asking_of line ≡ Err fault) × (new ≡ old)

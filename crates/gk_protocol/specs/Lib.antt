@@ -4,5 +4,8 @@ pub mod Asking
 pub mod CoreAnswers
 pub mod Hearing
 pub mod OwnedLines
+pub mod RegistrationOptions
+pub mod Registrations
+pub mod RequestFields
 pub mod Requests
 pub mod Session

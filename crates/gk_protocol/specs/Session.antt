@@ -14,8 +14,9 @@ use Rattle.gk_lines.specs.declared.line_reader.ReadFault as read
 use Rattle.gk_lines.specs.declared.line_reader.ReadFault.TheVariants as line
 use Rattle.gk_protocol.specs.declared.answers.Answer.{Answer}
 use Rattle.gk_protocol.specs.declared.answers.Answer.TheVariants.{Malformed}
-use Rattle.gk_protocol.specs.Answers.{line_of}
-use Rattle.gk_protocol.specs.Requests.{asking_of, no_memory_answer_of, reload_without_memory}
+use Rattle.gk_protocol.specs.Answers.{answer_line_of}
+use Rattle.gk_protocol.specs.Registrations.{no_memory_answer_of}
+use Rattle.gk_protocol.specs.Requests.{asking_of, reload_without_memory}
 
 -- ---- the requests of an input
 -- what a line asks, or its first fault; and the answer that may stand in its place, if memory runs
@@ -105,7 +106,7 @@ module _ {S : Type 0} (MayAnswer : S → Request → Answer → S → Type 0) wh
   Runs old (asked ∷ others) text new =
       (answer : Answer) × (rest : List ℕ) × (mid : S) × MayGet old asked answer mid
       × Runs mid others rest new
-      × (text ≡ line_of answer ++ rest)
+      × (text ≡ answer_line_of answer ++ rest)
 
   -- ---- how a session ends
   -- at the end of its input: each request was answered, in so many replies
@@ -136,7 +137,7 @@ module _ {S : Type 0} (MayAnswer : S → Request → Answer → S → Type 0) wh
     pub answered : MayGet mid last answer new
     pub written : List ℕ
     pub lost : List ℕ
-    pub line : line_of answer ≡ written ++ lost
+    pub line : answer_line_of answer ≡ written ++ lost
     pub text_is : text ≡ replies ++ written
 
   -- what a session over these bytes wrote, by how it ended, with these bytes read ahead of what it

@@ -23,7 +23,7 @@ use gk_terms::{Address, Name, Units, Version};
 #[tactic(auto, using(gk_lines::proofs::LineBufferLemmas::line_in_room))]
 /// Makes it the line of an answer, with its line feed. Each answer has room.
 pub fn show(line: &mut LineBuffer, answer: &Answer)
-    ensures { line.new ≡ Spec.line_of answer.now }
+    ensures { line.new ≡ Spec.answer_line_of answer.now }
 {
     show_words(line, answer);
     line.push_byte(b'\n');
@@ -31,8 +31,8 @@ pub fn show(line: &mut LineBuffer, answer: &Answer)
 
 /// Makes it the words of an answer.
 fn show_words(line: &mut LineBuffer, answer: &Answer)
-    ensures words { line.new ≡ line_of_words (Spec.words_of answer.now) }
-    ensures room { room_of (Spec.words_of answer.now) < ROOM_BYTES }
+    ensures words { line.new ≡ line_of_words (Spec.answer_words_of answer.now) }
+    ensures room { room_of (Spec.answer_words_of answer.now) < ROOM_BYTES }
 {
     match answer {
         Answer::Reply { sequence, reply } => show_reply(line, *sequence, reply),

@@ -1,13 +1,15 @@
 //! Requests about registrations: `RRQ`, with its options, and `URQ`.
 
-ghost use Rattle.std.specs.Prelude.{◌≡◌, ◌⊎◌, ◌==◌, Ok, Err, MatchResult, if◌then◌else◌};
+ghost use Rattle.std.specs.Prelude.{◌≡◌, Ok, MatchResult, IfOk, option_map};
 ghost use Rattle.gk_terms.specs.Dialled.{dialled_of};
 ghost use Rattle.gk_terms.specs.TechPrefix.{tech_prefix_of};
 ghost use Rattle.gk_terms.specs.Fields.{Gives};
 ghost use Rattle.gk_terms.specs.Outcome.{ChangesUnlessMemory};
 ghost use Rattle.gk_terms.specs.Text.{words_of};
 ghost use Rattle.gk_protocol.specs.Hearing.{HearsRegistration, HearsRequest, LacksOptions};
-ghost use Rattle.gk_protocol.specs.Requests as Spec;
+ghost use Rattle.gk_protocol.specs.Requests.{unregister_at};
+ghost use Rattle.gk_protocol.specs.Registrations as Spec;
+ghost use Rattle.gk_protocol.specs.RegistrationOptions.{IsBare, HasRoomFor, with_registration_option, AreNoOptionsAt};
 
 use crate::answer_lines::show;
 use crate::answerer::Answerer;
@@ -125,7 +127,7 @@ pub(crate) fn unregister<A: Answerer>(
     answerer: &mut A,
     reply: &mut LineBuffer,
 ) -> Result<Heard, RequestFault>
-    ensures { HearsRequest A.may_answer answerer.old (Spec.unregister_at (words_of words.old))
+    ensures { HearsRequest A.may_answer answerer.old (unregister_at (words_of words.old))
         result reply.new answerer.new }
 {
     let sequence = sequence_field(words)?;
@@ -139,7 +141,8 @@ pub(crate) fn unregister<A: Answerer>(
 /// Kind, ID, zone and address of a registration, as an endpoint without aliases and technology
 /// prefixes.
 fn bare_endpoint(alloc: Global, words: &mut Words<'_>) -> Result<Endpoint, RequestFault>
-    ensures { Gives (Spec.endpoint_at (words_of words.old)) result (words_of words.new) }
+    ensures fields { Gives (Spec.endpoint_at (words_of words.old)) result (words_of words.new) }
+    ensures bare { IfOk result (λ bare. IsBare bare) }
 {
     let kind = kind_field(words)?;
     let id = name_field(words, RequestFault::BadName)?;
@@ -155,9 +158,10 @@ fn with_options(
     mut endpoint: Endpoint,
     words: &mut Words<'_>,
 ) -> Result<Endpoint, NoRequest>
+    requires { IsBare endpoint }
     ensures { MatchResult result
-        (λ filled. Spec.options_at Spec.all_options endpoint (words_of words.old) ≡ Ok filled)
-        (Spec.AreNoOptionsAt sequence endpoint (words_of words.old)) }
+        (λ filled. Spec.with_options_at endpoint (words_of words.old) ≡ Ok filled)
+        (AreNoOptionsAt sequence endpoint (words_of words.old)) }
 {
     let id = *endpoint.id();
     let mut left = OptionsLeft {
@@ -172,9 +176,9 @@ fn with_options(
     Ok(endpoint)
 }
 
-/// The option of a word, if so many more may stand.
+/// The option that a word is, if one more of its kind may stand.
 fn option_of(left: &OptionsLeft, word: &[u8]) -> Result<RegistrationOption, RequestFault>
-    ensures { result ≡ Spec.option_of left.now word.now }
+    ensures { result ≡ Spec.registration_option_of left.now word.now }
 {
     if let Some(text) = word.strip_prefix(b"e164=") {
         return alias_option(left.aliases, text);
@@ -185,10 +189,10 @@ fn option_of(left: &OptionsLeft, word: &[u8]) -> Result<RegistrationOption, Requ
     }
 }
 
-/// The alias after `e164=`, if so many more may stand.
+/// The alias after `e164=`, if one more may stand.
 fn alias_option(left: usize, text: &[u8]) -> Result<RegistrationOption, RequestFault>
-    ensures { result ≡ (if left == 0 then Err RequestFault.BadOption
-        else Spec.alias_option (dialled_of text.now)) }
+    ensures { result ≡ Spec.option_if_left left
+        (option_map RegistrationOption.Alias (dialled_of text.now)) }
 {
     if left == 0 {
         return Err(RequestFault::BadOption);
@@ -199,10 +203,10 @@ fn alias_option(left: usize, text: &[u8]) -> Result<RegistrationOption, RequestF
     }
 }
 
-/// The technology prefix after `tech=`, if so many more may stand. One star at its end is dropped.
+/// The technology prefix after `tech=`, if one more may stand. One star at its end is dropped.
 fn technology_option(left: usize, text: &[u8]) -> Result<RegistrationOption, RequestFault>
-    ensures { result ≡ (if left == 0 then Err RequestFault.BadOption
-        else Spec.technology_option (tech_prefix_of text.now)) }
+    ensures { result ≡ Spec.option_if_left left
+        (option_map RegistrationOption.Technology (tech_prefix_of text.now)) }
 {
     if left == 0 {
         return Err(RequestFault::BadOption);
@@ -229,30 +233,31 @@ fn left_after(left: &OptionsLeft, option: &RegistrationOption) -> OptionsLeft
     }
 }
 
-/// Adds an option of a registration by this number and ID, or says why not.
+/// Adds an option of a registration with this sequence number and ID, or says that memory ran out.
+/// There is room for it, since options are counted as written.
 fn add_option(
     endpoint: &mut Endpoint,
     option: &RegistrationOption,
     sequence: u32,
     id: &Name,
 ) -> Result<(), NoRequest>
+    requires { HasRoomFor endpoint.old option.now }
     ensures { MatchResult result
-        (λ _. Spec.with_option endpoint.old option.now ≡ Ok endpoint.new)
-        (λ none. (none ≡ NoRequest.NoMemory sequence id.now)
-        ⊎ ((none ≡ NoRequest.Fault RequestFault.BadOption)
-        × (Spec.with_option endpoint.old option.now ≡ Err RequestFault.BadOption))) }
+        (λ _. endpoint.new ≡ with_registration_option endpoint.old option.now)
+        (λ none. none ≡ NoRequest.NoMemory sequence id.now) }
 {
     match add(endpoint, option) {
         Ok(()) => Ok(()),
         Err(RegistryFault::NoMemory) => Err(NoRequest::NoMemory { sequence, id: *id }),
-        Err(_) => Err(NoRequest::Fault(RequestFault::BadOption)),
+        Err(_) => unreachable!(),
     }
 }
 
 /// Adds an alias or a technology prefix, unless the endpoint has it.
 fn add(endpoint: &mut Endpoint, option: &RegistrationOption) -> Result<(), RegistryFault>
+    requires { HasRoomFor endpoint.old option.now }
     ensures { ChangesUnlessMemory RegistryFault.NoMemory endpoint.old endpoint.new
-        (Spec.added endpoint.old option.now) result }
+        (Ok (with_registration_option endpoint.old option.now)) result }
 {
     match option {
         RegistrationOption::Alias(digits) => endpoint.add_alias(*digits),

@@ -1,9 +1,9 @@
-//! The fields that requests alone have.
+//! The fields that only requests have.
 
 ghost use Rattle.std.specs.Prelude.{◌≡◌};
 ghost use Rattle.gk_terms.specs.Fields.{Gives, nothing_more};
 ghost use Rattle.gk_terms.specs.Text.{words_of};
-ghost use Rattle.gk_protocol.specs.Requests as Spec;
+ghost use Rattle.gk_protocol.specs.RequestFields as Spec;
 
 use crate::request_faults::RequestFault;
 use gk_terms::Units;
@@ -18,7 +18,7 @@ pub const SIGNALLING_PORT: u16 = 1720;
 /// The next word as a sequence number, 1 to 65535.
 pub fn sequence_field(words: &mut Words<'_>) -> Result<u32, RequestFault>
     ensures { Gives
-        (Spec.field_at Spec.sequence_of RequestFault.BadSequence (words_of words.old)) result
+        (Spec.field_at Spec.sequence_number_of RequestFault.BadSequence (words_of words.old)) result
         (words_of words.new) }
 {
     number_field(words, 1, MOST_SEQUENCE, RequestFault::BadSequence)
@@ -26,7 +26,8 @@ pub fn sequence_field(words: &mut Words<'_>) -> Result<u32, RequestFault>
 
 /// The next word as the kind of an endpoint, `GW` or `TERM`.
 pub fn kind_field(words: &mut Words<'_>) -> Result<EndpointKind, RequestFault>
-    ensures { Gives (Spec.field_at Spec.kind_of RequestFault.BadOption (words_of words.old)) result
+    ensures { Gives (Spec.field_at Spec.endpoint_kind_of RequestFault.BadOption (words_of
+        words.old)) result
         (words_of words.new) }
 {
     match words.next() {
@@ -39,7 +40,8 @@ pub fn kind_field(words: &mut Words<'_>) -> Result<EndpointKind, RequestFault>
 
 /// The next word as the number of a call, 1 to 4294967295.
 pub fn call_field(words: &mut Words<'_>) -> Result<u32, RequestFault>
-    ensures { Gives (Spec.field_at Spec.call_of RequestFault.BadNumber (words_of words.old)) result
+    ensures { Gives (Spec.field_at Spec.asked_call_of RequestFault.BadNumber (words_of words.old))
+        result
         (words_of words.new) }
 {
     number_field(words, 1, u32::MAX, RequestFault::BadNumber)
@@ -47,7 +49,8 @@ pub fn call_field(words: &mut Words<'_>) -> Result<u32, RequestFault>
 
 /// The next word as bandwidth in units of 100 bit/s, 0 to 4294967295.
 pub fn units_field(words: &mut Words<'_>) -> Result<Units, RequestFault>
-    ensures { Gives (Spec.field_at Spec.units_of RequestFault.BadNumber (words_of words.old)) result
+    ensures { Gives (Spec.field_at Spec.asked_units_of RequestFault.BadNumber (words_of words.old))
+        result
         (words_of words.new) }
 {
     let units = number_field(words, 0, u32::MAX, RequestFault::BadNumber)?;
@@ -56,7 +59,8 @@ pub fn units_field(words: &mut Words<'_>) -> Result<Units, RequestFault>
 
 /// The next word as a count of the lines that belong to a request, 0 to 20,000.
 pub fn count_field(words: &mut Words<'_>) -> Result<u32, RequestFault>
-    ensures { Gives (Spec.field_at Spec.count_of RequestFault.BadNumber (words_of words.old)) result
+    ensures { Gives (Spec.field_at Spec.owned_count_of RequestFault.BadNumber (words_of words.old))
+        result
         (words_of words.new) }
 {
     number_field(words, 0, MOST_LINES as u32, RequestFault::BadNumber)

@@ -5,7 +5,7 @@ ghost use Rattle.std.specs.Io.KnownBytes.{Appends, IsAtEnd};
 ghost use Rattle.gk_lines.specs.Streams.{Notes, NotesIf, KnownStep, AppendsFront};
 ghost use Rattle.gk_lines.specs.LineReader.{left_of, work_left, AtEndIfEnded, CountsTurns, is_failure};
 ghost use Rattle.gk_terms.specs.Text.{content_of};
-ghost use Rattle.gk_protocol.specs.Answers.{line_of};
+ghost use Rattle.gk_protocol.specs.Answers.{answer_line_of};
 ghost use Rattle.gk_protocol.specs.Session.{IsReadAhead, Ends, is_read_fault, is_write_fault};
 ghost use Rattle.gk_protocol.specs.AnswersLine.{AnswersLine, AnswersReload};
 
@@ -36,7 +36,8 @@ pub fn session<R: Source, W: Sink, A: Answerer>(
     turns: u32,
 ) -> Result<u64, SessionFault>
     // What was written, by how the session ended, however the reader cut the bytes into pieces.
-    // What was read ahead of the lines that were taken is no more than one call of the reader gives.
+    // What was read ahead of the lines that were taken is no more than one call of the reader
+    // gives.
     ensures written { KnownStep (R.remaining reader.old) (R.remaining reader.new) (λ bytes rest.
         (ahead : List ℕ) × (text : List ℕ) × IsReadAhead ahead
         × Ends A.may_answer bytes ahead rest answerer.old answerer.new text result
@@ -203,7 +204,7 @@ fn answer_reload<A: Answerer>(
 /// Answers a line that is not a request. In a function of its own, likewise.
 #[inline(never)]
 fn show_fault(fault: RequestFault, reply: &mut LineBuffer)
-    ensures { reply.new ≡ line_of (Answer.Malformed fault) }
+    ensures { reply.new ≡ answer_line_of (Answer.Malformed fault) }
 {
     show(reply, &Answer::Malformed(fault));
 }

@@ -2,8 +2,8 @@
 #![tactic(auto)]
 
 #[cfg(test)]
-mod reply_tests;
+mod fault_tests;
 #[cfg(test)]
-mod request_tests;
+mod reply_tests;
 #[cfg(test)]
 mod session_tests;

@@ -45,9 +45,8 @@ impl Name {
         }
     }
 
-    /// The same name, of which no more is read than its characters. A copy of a `Name` reads all of
-    /// the 129 bytes in which it is held, and they lie in three cache lines: this is for a name that
-    /// is in no near cache.
+    /// The same name, copied by reading only its length and characters. A plain copy reads all 129
+    /// bytes, which lie in three cache lines: this is for a name that is not in a near cache.
     pub fn copied(&self) -> Name
         ensures { result ≡ self.now }
     {

@@ -17,7 +17,7 @@ use Rattle.gk_protocol.specs.declared.requests.Request.{Request}
 use Rattle.gk_protocol.specs.declared.requests.Request.TheVariants.{Register, Unregister, Admit, Change, Release, Reload}
 use Rattle.gk_protocol.specs.declared.answers.Answer.{Answer}
 use Rattle.gk_protocol.specs.declared.answers.Answer.TheVariants.{Reply}
-use Rattle.gk_protocol.specs.Answers.{line_of}
+use Rattle.gk_protocol.specs.Answers.{answer_line_of}
 use Rattle.gk_protocol.specs.Requests.{reload_without_memory}
 use Rattle.gk_protocol.specs.CoreAnswers.{Replies, ReloadsBy, MayLackMemory, MayAnswer}
 use Rattle.gk_protocol.specs.Session.{Asked, requests_of, Answered, MayGet, Runs}
@@ -87,7 +87,8 @@ run_after limits rest text (Ok configuration) h =
       (
         last_of core (requests_of rest),
         subst
-            (λ (t : List ℕ). Runs MayAnswer core (requests_of rest) t (last_of core (requests_of rest)))
+            (λ (t : List ℕ). Runs MayAnswer core (requests_of rest) t (last_of core (requests_of
+            rest)))
             same (runs core (requests_of rest)),
       ),
     )
@@ -166,9 +167,10 @@ only_text core [] text last r = sym r.0
 only_text core (asked ∷ others) text last r =
     let one : (r.0 ≡ answer_of core asked.request) × (r.2 ≡ core_of core asked.request) =
     only_answer core r.2 asked.request r.0 r.3 in
-    ap (λ answer. line_of answer ++ replies_of (core_of core asked.request) others) (sym one.0)
-    ∙ ap (λ (mid : CoreParts). line_of r.0 ++ replies_of mid others) (sym one.1)
-    ∙ ap (λ rest. line_of r.0 ++ rest) (only_text r.2 others r.1 last r.4)
+    ap (λ answer. answer_line_of answer ++ replies_of (core_of core asked.request) others) (sym
+    one.0)
+    ∙ ap (λ (mid : CoreParts). answer_line_of r.0 ++ replies_of mid others) (sym one.1)
+    ∙ ap (λ rest. answer_line_of r.0 ++ rest) (only_text r.2 others r.1 last r.4)
     ∙ sym r.5
 
 -- what is computed under an accepted configuration
@@ -247,7 +249,8 @@ output_lasts limits bytes text h =
     let run = output_runs limits bytes text h in
     let core : CoreParts = opened run.0 limits in
     let asked : List Asked = requests_of (rest_of EndLine bytes) in
-    let same : replies_of core asked ≡ text = same_ok _ _ _ (computed limits bytes run.0 run.1) h in (
+    let same : replies_of core asked ≡ text =
+    same_ok _ _ _ (computed limits bytes run.0 run.1) h in (
       run.0,
       run.1,
       (

@@ -3,7 +3,7 @@ use Rattle.std.specs.Prelude.{◌≡◌}
 use Rattle.gk_terms.specs.declared.limits.TheConstants.{MOST_LINE_BYTES, MOST_LINES, MOST_ZONES, MOST_ALIASES, MOST_TECHNOLOGIES, MOST_SEQUENCE, MOST_NAME_BYTES, MOST_DIALLED, MOST_TECHNOLOGY}
 use Rattle.command_reader.specs.declared.bandwidth_lines.TheConstants.{MOST_KBPS, MOST_SESSION_KBPS}
 use Rattle.command_reader.specs.declared.zone_lines.TheConstants.{DEFAULT_RAS_PORT, DEFAULT_COST, DEFAULT_PRIORITY}
-use Rattle.compiler.specs.declared.plans.TheConstants.{USUAL_GATEWAY_PRIORITY}
+use Rattle.compiler.specs.declared.plans.TheConstants.{DEFAULT_GATEWAY_PRIORITY}
 use Rattle.gk_protocol.specs.declared.request_fields.TheConstants.{SIGNALLING_PORT}
 
 pub record AreStated : Type 0 where
@@ -22,9 +22,9 @@ pub record AreStated : Type 0 where
   -- of bandwidth, in kbit/s
   pub kbps : MOST_KBPS ≡ 10000000
   pub session_kbps : MOST_SESSION_KBPS ≡ 5000
-  -- where a line gives none
+  -- if a line gives none
   pub ras_port : DEFAULT_RAS_PORT ≡ 1719
   pub signalling_port : SIGNALLING_PORT ≡ 1720
   pub cost : DEFAULT_COST ≡ 50
   pub priority : DEFAULT_PRIORITY ≡ 50
-  pub gateway_priority : USUAL_GATEWAY_PRIORITY ≡ 5
+  pub gateway_priority : DEFAULT_GATEWAY_PRIORITY ≡ 5

@@ -13,7 +13,7 @@ use Rattle.gk_protocol.specs.declared.requests.Request.{Request}
 use Rattle.gk_protocol.specs.declared.requests.Request.TheVariants.{Register, Unregister, Admit, Change, Release, Reload}
 use Rattle.gk_protocol.specs.declared.answers.Answer.{Answer}
 use Rattle.gk_protocol.specs.declared.answers.Answer.TheVariants.{Reply, Misconfigured, Malformed}
-use Rattle.gk_protocol.specs.Answers.{line_of}
+use Rattle.gk_protocol.specs.Answers.{answer_line_of}
 use Rattle.gk_protocol.specs.Requests.{reload_without_memory}
 use Rattle.gk_protocol.specs.CoreAnswers.{MayAnswer}
 use Rattle.gk_protocol.specs.Session.{Asked, requests_of, Runs}
@@ -66,7 +66,7 @@ core_of core (Err fault) = core
 abbrev pub replies_of : CoreParts → List Asked → List ℕ
 replies_of core [] = []
 replies_of core (asked ∷ others) =
-    line_of (answer_of core asked.request) ++ replies_of (core_of core asked.request) others
+    answer_line_of (answer_of core asked.request) ++ replies_of (core_of core asked.request) others
 
 abbrev pub output_after : Limits → List ℕ → Result Configuration LineFault
     → Result (List ℕ) LineFault
@@ -117,7 +117,7 @@ RunsInMemory old [] text new = (text ≡ []) × (new ≡ old)
 RunsInMemory old (asked ∷ others) text new =
     (answer : Answer) × (rest : List ℕ) × (mid : CoreParts)
     × AnsweredInMemory old asked.request answer mid × RunsInMemory mid others rest new
-    × (text ≡ line_of answer ++ rest)
+    × (text ≡ answer_line_of answer ++ rest)
 
 -- the requests after an accepted configuration may get just these replies then
 abbrev pub OutputIsRunInMemory : Type 0

@@ -55,8 +55,8 @@ module _ {S : Type 0} (MayAnswer : S → Request → Answer → S → Type 0)
     pub unended : IsUnended EndLine bytes rest
 
   -- the configuration at the front of these bytes is accepted
-  abbrev pub IsAccepted : List ℕ → Type 0
-  IsAccepted bytes =
+  abbrev pub AcceptsFront : List ℕ → Type 0
+  AcceptsFront bytes =
       (configuration : Configuration)
       × (reading_in (configuration_of EndLine bytes) ≡ Ok configuration)
 
@@ -72,7 +72,8 @@ module _ {S : Type 0} (MayAnswer : S → Request → Answer → S → Type 0)
   RunEnds bytes rest text (Err (Session fault)) =
       Serves bytes rest text (Err fault) ⊎ StopsBefore bytes rest text fault
   RunEnds bytes rest text (Err NoMemory) =
-      (text ≡ []) × IsAccepted bytes × ((ahead : List ℕ) × (rest_of EndLine bytes ≡ ahead ++ rest))
+      (text ≡ []) × AcceptsFront bytes × ((ahead : List ℕ) × (rest_of EndLine bytes ≡ ahead ++
+      rest))
 
 -- ---- faults
 -- whether a run ended at its reader

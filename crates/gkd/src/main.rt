@@ -4,18 +4,8 @@
 #![tactic(auto)]
 
 mod command_line;
-#[cfg(test)]
-mod command_line_tests;
-#[cfg(test)]
-mod configuration_tests;
-#[cfg(test)]
-mod count_tests;
 pub mod laws;
 pub mod run;
-#[cfg(test)]
-mod stream_tests;
-#[cfg(test)]
-mod test_runs;
 
 use admission::STATED_LIMITS;
 use clap::error::ErrorKind;

@@ -154,6 +154,8 @@ pub fn run_over<R: Source, W: Sink>(
     let mut core = opened(alloc, commands, limits)?;
     let result = session_from(alloc, &mut lines, reader, writer, &mut core);
     let_go(lines);
+    // By a call: else each exit has all parts of the core among the facts of its proof.
+    drop(core);
     let replies = result?;
     Ok(replies)
 }
@@ -191,7 +193,10 @@ pub fn run_under<R: Source, W: Sink>(
         return Err(RunFault::BadLimits);
     }
     let mut core = opened(alloc, commands, limits)?;
-    let replies = session(alloc, reader, writer, &mut core, MOST_TURNS)?;
+    let result = session(alloc, reader, writer, &mut core, MOST_TURNS);
+    // By a call, as in `run_over`.
+    drop(core);
+    let replies = result?;
     Ok(replies)
 }
 

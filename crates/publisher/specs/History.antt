@@ -11,20 +11,20 @@ abbrev pub draft_of : List Command → Entry
 draft_of commands = record { in_force = false; commands = commands }
 
 -- that a draft was shown
-abbrev pub in_force_of : List Command → Entry
-in_force_of commands = record { in_force = true; commands = commands }
+abbrev pub confirmation_of : List Command → Entry
+confirmation_of commands = record { in_force = true; commands = commands }
 
 -- the commands, if the entry says that they are in force
 abbrev pub generation_of : Entry → Option (List Command)
 generation_of entry = then_some entry.in_force entry.commands
 
 -- the commands of the entries in force, in order
-abbrev pub generations : List Entry → List (List Command)
-generations log = filter_map generation_of log
+abbrev pub generations_in : List Entry → List (List Command)
+generations_in log = filter_map generation_of log
 
 -- the generations while the publication of the last draft is shown
 abbrev pub shown_by : List Entry → List Command → List (List Command)
-shown_by log commands = generations log ++ commands ∷ []
+shown_by log commands = generations_in log ++ commands ∷ []
 
 -- the last entry
 abbrev pub last_of : List Entry → Option Entry
@@ -39,7 +39,7 @@ abbrev pub MayFollow : List Entry → Entry → Type 0
 MayFollow log entry = entry.in_force ≡ true → last_of log ≡ Some (draft_of entry.commands)
 
 -- each entry may follow those before it
-abbrev pub IsLegal : List Entry → Type 0
-IsLegal log =
+abbrev pub IsLegalLog : List Entry → Type 0
+IsLegalLog log =
     (before : List Entry) (entry : Entry) → IsPrefix (before ++ entry ∷ []) log
     → MayFollow before entry

@@ -48,9 +48,9 @@ impl Gain<Entry, u64> for Nothing {
 pub(crate) struct Add;
 
 impl Play<Entry, u64> for Add {
-    ghost use Rattle.publisher.specs.Law.{Adds};
+    ghost use Rattle.publisher.specs.Law.{AddsEntry};
 
-    ghost then = { Adds };
+    ghost then = { AddsEntry };
 }
 
 /// The entry is the draft of these tables.
@@ -70,9 +70,9 @@ pub(crate) struct Confirms;
 
 impl Plain<Snapshot<Tables>, Entry, u64> for Confirms {
     ghost use Rattle.std.specs.Prelude.{None};
-    ghost use Rattle.publisher.specs.History.{in_force_of};
+    ghost use Rattle.publisher.specs.History.{confirmation_of};
 
-    ghost ask = { λ tables. in_force_of tables.value.commands };
+    ghost ask = { λ tables. confirmation_of tables.value.commands };
 
     ghost state = { λ tables. None };
 }

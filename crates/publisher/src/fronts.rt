@@ -2,7 +2,7 @@
 
 ghost use Rattle.std.specs.Prelude.{◌≡◌, ◌+◌, ◌<◌, ◌≤◌, ◌^◌, [], ◌∷◌, ◌++◌, length, IfSome, MatchBool};
 ghost use mathlib.Core.List.{IsPrefix};
-ghost use Rattle.publisher.specs.History.{IsLegal, MayFollow, generations};
+ghost use Rattle.publisher.specs.History.{IsLegalLog, MayFollow, generations_in};
 ghost use Rattle.publisher.specs.Law.{head_of};
 
 use crate::blanks::Imprint;
@@ -130,7 +130,7 @@ impl<J: Imprint> Front<J> {
             IsPrefix self.now other.now.seen.log }
         ensures longer { length other.now.seen.log ≤ length self.now →
             IsPrefix other.now.seen.log self.now }
-        ensures legal { IsLegal self.now }
+        ensures legal { IsLegalLog self.now }
     {
         let mut both = self.stem.seen.again();
         both.learn(&other.seen);
@@ -140,8 +140,8 @@ impl<J: Imprint> Front<J> {
     /// of the longer one's.
     pub(crate) fn is_shorter(&self, other: &Front<J>) -> bool
         ensures { MatchBool result
-            (IsPrefix (generations self.now) (generations other.now))
-            (IsPrefix (generations other.now) (generations self.now)) }
+            (IsPrefix (generations_in self.now) (generations_in other.now))
+            (IsPrefix (generations_in other.now) (generations_in self.now)) }
     {
         self.meet(&other.stem);
         let mine = self.len();

@@ -7,7 +7,7 @@ ghost use mathlib.Core.List.{IsPrefix};
 ghost use Rattle.left_right.specs.Sides.{view};
 ghost use Rattle.compiler.specs.Plan.{plan_of, target_of};
 ghost use Rattle.publisher.specs.Generations.{commands_of};
-ghost use Rattle.publisher.specs.History.{generations};
+ghost use Rattle.publisher.specs.History.{generations_in};
 ghost use Rattle.publisher.specs.Publications.{list_of};
 
 use crate::blanks::Imprint;
@@ -26,7 +26,7 @@ pub(crate) fn version_of<J: Imprint>(
     told: &Front<J>,
 ) -> (Place<J>, Result<Version, Lost>)
     ensures grows { IsPrefix (view place.place) (view result.0.place) }
-    ensures told { IfOk result.1 (λ _. IsPrefix (generations told.now) (view result.0.place)) }
+    ensures told { IfOk result.1 (λ _. IsPrefix (generations_in told.now) (view result.0.place)) }
     ensures version { IfOk result.1 (λ version. version ≡ length (view result.0.place)) }
 {
     let reading = match place.enter_as::<Shown<J>>() {
@@ -43,7 +43,7 @@ pub(crate) fn tables_of<J: Imprint>(
     told: &Front<J>,
 ) -> (Place<J>, Result<(Version, Arc<Tables, Global>), ReadFault>)
     ensures grows { IsPrefix (view place.place) (view result.0.place) }
-    ensures told { IfOk result.1 (λ _. IsPrefix (generations told.now) (view result.0.place)) }
+    ensures told { IfOk result.1 (λ _. IsPrefix (generations_in told.now) (view result.0.place)) }
     ensures version { IfOk result.1 (λ read. read.0 ≡ length (view result.0.place)) }
     ensures tables { IfOk result.1 (λ read.
         slice_get (view result.0.place) (read.0 - 1) ≡ Some (arc_value read.1).commands) }
@@ -62,7 +62,7 @@ pub(crate) fn route_of<J: Imprint>(
     asked: (&Front<J>, &Dialled),
 ) -> (Place<J>, Result<Routed, Lost>)
     ensures grows { IsPrefix (view place.place) (view result.0.place) }
-    ensures told { IfOk result.1 (λ _. IsPrefix (generations asked.entry.0.now)
+    ensures told { IfOk result.1 (λ _. IsPrefix (generations_in asked.entry.0.now)
         (view result.0.place)) }
     ensures version { IfOk result.1 (λ routed. routed.version ≡ length (view result.0.place)) }
     ensures dialled { IfOk result.1 (λ routed. routed.dialled ≡ asked.entry.1.now) }
@@ -82,7 +82,7 @@ pub(crate) fn route_of<J: Imprint>(
 /// The version of a publication that has all that was told.
 fn version_in<J: Imprint>(shown: &Publication, told: &Front<J>) -> Result<Version, Lost>
     requires { shown.now.stem.seen.book ≡ J.book }
-    ensures told { IfOk result (λ _. IsPrefix (generations told.now) (list_of shown.now)) }
+    ensures told { IfOk result (λ _. IsPrefix (generations_in told.now) (list_of shown.now)) }
     ensures version { IfOk result (λ version. version ≡ length (list_of shown.now)) }
 {
     if !shown.has(told) {
@@ -97,7 +97,7 @@ fn tables_in<J: Imprint>(
     told: &Front<J>,
 ) -> Result<(Version, Arc<Tables, Global>), ReadFault>
     requires { shown.now.stem.seen.book ≡ J.book }
-    ensures told { IfOk result (λ _. IsPrefix (generations told.now) (list_of shown.now)) }
+    ensures told { IfOk result (λ _. IsPrefix (generations_in told.now) (list_of shown.now)) }
     ensures version { IfOk result (λ read. read.0 ≡ length (list_of shown.now)) }
     ensures tables { IfOk result (λ read.
         slice_get (list_of shown.now) (read.0 - 1) ≡ Some (arc_value read.1).commands) }
@@ -118,7 +118,7 @@ fn route_in<J: Imprint>(
     digits: &Dialled,
 ) -> Result<Routed, Lost>
     requires { shown.now.stem.seen.book ≡ J.book }
-    ensures told { IfOk result (λ _. IsPrefix (generations told.now) (list_of shown.now)) }
+    ensures told { IfOk result (λ _. IsPrefix (generations_in told.now) (list_of shown.now)) }
     ensures version { IfOk result (λ routed. routed.version ≡ length (list_of shown.now)) }
     ensures dialled { IfOk result (λ routed. routed.dialled ≡ digits.now) }
     ensures plan { IfOk result (λ routed.

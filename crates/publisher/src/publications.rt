@@ -3,7 +3,7 @@
 ghost use Rattle.std.specs.Prelude.{◌≡◌, ◌+◌, length, Some, IfOk, IsTrue};
 ghost use Rattle.std.specs.Arc.{arc_value};
 ghost use mathlib.Core.List.{IsPrefix};
-ghost use Rattle.publisher.specs.History.{draft_of, generations, last_of, shown_by};
+ghost use Rattle.publisher.specs.History.{draft_of, generations_in, last_of, shown_by};
 
 use crate::blanks::Imprint;
 use crate::entries::{Entry, Law};
@@ -23,7 +23,7 @@ pub(crate) struct Publication {
     pub(crate) tables: Arc<Tables, Global>,
     pub(crate) stem: Stem,
     ghost drafted: { last_of stem.seen.log ≡ Some (draft_of (arc_value tables).commands) },
-    ghost numbered: { version ≡ length (generations stem.seen.log) + 1 },
+    ghost numbered: { version ≡ length (generations_in stem.seen.log) + 1 },
 }
 
 impl Absorb<Publication> for Publication {
@@ -56,7 +56,7 @@ impl Publication {
     /// These tables as this version.
     pub(crate) fn new(version: u32, tables: Arc<Tables, Global>, stem: Stem) -> Publication
         requires drafted { last_of stem.seen.log ≡ Some (draft_of (arc_value tables).commands) }
-        requires numbered { version ≡ length (generations stem.seen.log) + 1 }
+        requires numbered { version ≡ length (generations_in stem.seen.log) + 1 }
         ensures seen { result.stem.seen ≡ stem.seen }
         ensures tables { arc_value result.tables ≡ arc_value tables }
     {
@@ -82,7 +82,7 @@ impl Publication {
 
     /// The number of the version.
     pub(crate) fn version(&self) -> Version
-        ensures { result ≡ length (generations self.now.stem.seen.log) + 1 }
+        ensures { result ≡ length (generations_in self.now.stem.seen.log) + 1 }
     {
         Version::new(self.version)
     }
@@ -91,7 +91,7 @@ impl Publication {
     /// which then says that this is in force.
     pub(crate) fn has<J: Imprint>(&self, told: &Front<J>) -> bool
         requires { self.now.stem.seen.book ≡ J.book }
-        ensures { IsTrue result → IsPrefix (generations told.now)
+        ensures { IsTrue result → IsPrefix (generations_in told.now)
             (shown_by self.now.stem.seen.log (arc_value self.now.tables).commands) }
     {
         told.meet(&self.stem);

@@ -5,7 +5,7 @@ ghost use Rattle.std.specs.Arc.{arc_value};
 ghost use mathlib.Core.List.{IsPrefix};
 ghost use Rattle.publisher.specs.declared.faults.NewFault.TheVariants.{BadPlaces};
 ghost use Rattle.publisher.specs.declared.faults.ReaderFault.TheVariants.{NoPlace};
-ghost use Rattle.publisher.specs.History.{draft_of, generations, in_force_of, last_of};
+ghost use Rattle.publisher.specs.History.{draft_of, generations_in, confirmation_of, last_of};
 ghost use Rattle.publisher.specs.Publications.{confirmed_by, list_of};
 
 use crate::blanks::{Blank, Imprint};
@@ -47,16 +47,16 @@ impl<J: Imprint> Model for Publisher<J> {
     ghost use Rattle.std.specs.Prelude.{◌≡◌, List, length};
     ghost use mathlib.Core.List.{IsPrefix};
     ghost use Rattle.command_reader.specs.declared.commands.Command.{Command};
-    ghost use Rattle.publisher.specs.History.{generations};
+    ghost use Rattle.publisher.specs.History.{generations_in};
     ghost use Rattle.publisher.specs.Publications.{confirmed_by, list_of};
 
     ghost Value = { List (List Command) };
 
-    ghost view = { λ p. generations p.told };
+    ghost view = { λ p. generations_in p.told };
 
-    ghost invariant = { λ p. (generations p.newest ≡ generations p.told) ×
-        (list_of p.copies.desk.shown.value ≡ generations p.told) ×
-        (p.version ≡ length (generations p.told)) ×
+    ghost invariant = { λ p. (generations_in p.newest ≡ generations_in p.told) ×
+        (list_of p.copies.desk.shown.value ≡ generations_in p.told) ×
+        (p.version ≡ length (generations_in p.told)) ×
         (p.told ≡ confirmed_by p.copies.desk.shown.value) ×
         IsPrefix p.told p.newest };
 }
@@ -188,17 +188,17 @@ fn draft<J: Imprint>(
     tables: Arc<Tables, Global>,
 ) -> Option<(Front<J>, Publication)>
     requires room { length newest.now < 2 ^ 61 }
-    requires version { version ≡ length (generations newest.now) + 1 }
+    requires version { version ≡ length (generations_in newest.now) + 1 }
     ensures room { IfSome result (λ d. length d.0 < 2 ^ 62) }
-    ensures kept { IfSome result (λ d. generations d.0 ≡ generations newest.now) }
+    ensures kept { IfSome result (λ d. generations_in d.0 ≡ generations_in newest.now) }
     ensures drafted { IfSome result (λ d.
         last_of d.0 ≡ Some (draft_of (arc_value tables).commands)) }
     ensures goes_on { IfSome result (λ d. IsPrefix newest.now d.0) }
     ensures book { IfSome result (λ d. d.1.stem.seen.book ≡ J.book) }
     ensures list { IfSome result (λ d.
-        list_of d.1 ≡ generations newest.now ++ (arc_value tables).commands ∷ []) }
+        list_of d.1 ≡ generations_in newest.now ++ (arc_value tables).commands ∷ []) }
     ensures confirmed { IfSome result (λ d.
-        confirmed_by d.1 ≡ d.0 ++ in_force_of (arc_value tables).commands ∷ []) }
+        confirmed_by d.1 ≡ d.0 ++ confirmation_of (arc_value tables).commands ∷ []) }
 {
     let about = Snapshot::of(&*tables);
     let Some(drafted) = newest.add::<Drafts>(head, &about) else {
@@ -240,10 +240,10 @@ fn confirm<J: Imprint>(
 ) -> Option<Front<J>>
     requires room { length drafted.now < 2 ^ 62 }
     requires drafted { last_of drafted.now ≡ Some (draft_of tables.now.value.commands) }
-    ensures list { IfSome result (λ front. generations front ≡
-        generations drafted.now ++ tables.now.value.commands ∷ []) }
+    ensures list { IfSome result (λ front. generations_in front ≡
+        generations_in drafted.now ++ tables.now.value.commands ∷ []) }
     ensures confirmed { IfSome result (λ front. front ≡
-        drafted.now ++ in_force_of tables.now.value.commands ∷ []) }
+        drafted.now ++ confirmation_of tables.now.value.commands ∷ []) }
 {
     let Some(front) = drafted.add::<Confirms>(head, tables) else {
         return None;
@@ -261,9 +261,9 @@ fn put_in_force<J: Imprint, R: Wait>(
 ) -> Front<J>
     requires room { length drafted.now < 2 ^ 62 }
     requires drafted { last_of drafted.now ≡ Some (draft_of tables.now.value.commands) }
-    ensures list { generations result ≡
-        generations drafted.now ++ tables.now.value.commands ∷ [] }
-    ensures confirmed { result ≡ drafted.now ++ in_force_of tables.now.value.commands ∷ [] }
+    ensures list { generations_in result ≡
+        generations_in drafted.now ++ tables.now.value.commands ∷ [] }
+    ensures confirmed { result ≡ drafted.now ++ confirmation_of tables.now.value.commands ∷ [] }
 {
     for _ in rt.forever() {
         if let Some(front) = confirm(head, drafted, tables) {

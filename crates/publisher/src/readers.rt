@@ -6,7 +6,7 @@ ghost use mathlib.Core.List.{IsPrefix};
 ghost use Rattle.compiler.specs.Plan.{plan_of, target_of};
 ghost use Rattle.left_right.specs.Sides.{view};
 ghost use Rattle.publisher.specs.Generations.{commands_of};
-ghost use Rattle.publisher.specs.History.{generations, is_in_force};
+ghost use Rattle.publisher.specs.History.{generations_in, is_in_force};
 
 use crate::blanks::Imprint;
 use crate::faults::{Lost, ReadFault};
@@ -34,11 +34,11 @@ impl<J: Imprint> Model for Reader<J> {
     ghost use Rattle.std.specs.Prelude.{◌≡◌, true};
     ghost use Rattle.left_right.specs.Sides.{view as seen_at};
     ghost use Rattle.publisher.specs.Generations.{Known};
-    ghost use Rattle.publisher.specs.History.{generations, is_in_force};
+    ghost use Rattle.publisher.specs.History.{generations_in, is_in_force};
 
     ghost Value = { Known };
 
-    ghost view = { λ r. record { list = seen_at r.place.place; told = generations r.told } };
+    ghost view = { λ r. record { list = seen_at r.place.place; told = generations_in r.told } };
 
     ghost invariant = { λ r. is_in_force r.told ≡ true };
 }
@@ -50,7 +50,7 @@ impl<J: Imprint> Reader<J> {
     pub(crate) fn new(place: Place<J>, told: Front<J>) -> Reader<J>
         requires { is_in_force told ≡ true }
         ensures list { result.list ≡ view place.place }
-        ensures told { result.told ≡ generations told }
+        ensures told { result.told ≡ generations_in told }
     {
         Reader { place, told }
     }

@@ -42,124 +42,93 @@ pub(crate) fn both(
     Ok((tables_of(rt, alloc, TO_ONE)?, tables_of(rt, alloc, TO_TWO)?))
 }
 
-#[test]
-fn what_was_told_is_read(rt: HostRuntime) -> Result<(), Fail> {
-    let (first, second) = both(&rt, rt.alloc())?;
-    told_is_read::<Brand, _>(&rt, rt.alloc(), Blank::new(), first, second)
+/// A reader that has read nothing.
+pub(crate) fn reader_of<J: Imprint, R: Abort>(rt: &R, publisher: &mut Publisher<J>) -> Reader<J>
+    ensures { publisher.new ≡ publisher.old }
+{
+    let Ok(reader) = publisher.reader() else {
+        panic!(rt; "no reader");
+    };
+    reader
 }
 
-fn told_is_read<J: Imprint, R: Wait + Abort>(
+/// A version, and the number of the zone to which it leads 12.
+pub(crate) type InForce = (u32, u32);
+
+/// What a reader reads of version 1, which it holds, and of version 2, of which it was told: its
+/// tables and its route.
+type Read = (Option<InForce>, Option<InForce>, Option<InForce>);
+
+/// Why a reader reads nothing: no version, no tables, no route.
+type Refusals = (Option<Lost>, Option<ReadFault>, Option<Lost>);
+
+#[test]
+fn what_was_told_is_read_and_what_is_held_stays(rt: HostRuntime) -> Result<(), Fail> {
+    let tables = both(&rt, rt.alloc())?;
+    let (read, refusals) = read_when_told::<Brand, _>(&rt, rt.alloc(), Blank::new(), &tables);
+    assert!(rt; read == (Some((1, 1)), Some((2, 2)), Some((2, 2))));
+    assert!(rt; refusals == (Some(Lost), Some(ReadFault::Lost), Some(Lost)));
+    assert!(rt; Arc::strong_count(&tables.0) == 1);
+    Ok(())
+}
+
+/// What a reader reads, the tables that it holds once the publisher is closed; and why it then reads
+/// nothing.
+fn read_when_told<J: Imprint, R: Wait + Abort>(
     rt: &R,
     alloc: Global,
     blank: Blank,
-    first: Arc<Tables, Global>,
-    second: Arc<Tables, Global>,
-) -> Result<(), Fail>
+    tables: &(Arc<Tables, Global>, Arc<Tables, Global>),
+) -> (Read, Refusals)
     requires { blank ≡ J.book }
 {
+    let Ok(first) = Arc::try_clone(&tables.0) else {
+        panic!(rt; "too many owners");
+    };
+    let Ok(second) = Arc::try_clone(&tables.1) else {
+        panic!(rt; "too many owners");
+    };
     let Ok(mut publisher) = Publisher::<J>::new(alloc, blank, first, 1) else {
         panic!(rt; "refused");
     };
-    let reader = publisher.reader();
-    let published = publisher.publish(rt, second);
-    let told = publisher.tell();
-    let Ok(mut reader) = reader else {
-        publisher.close(rt);
-        panic!(rt; "no reader");
-    };
-    reader.learn(told);
-    let zones = (zone_of(rt, &mut reader), zone_of(rt, &mut reader));
-    let read = read_of(rt, &mut reader);
+    let mut reader = reader_of(rt, &mut publisher);
+    let held = reader.read();
+    let _ = version_told(rt, &mut publisher, &mut reader, second);
+    let read = reader.read();
+    let routed = zone_of(rt, &mut reader);
     publisher.close(rt);
-    let after = refusals_of(rt, &mut reader);
-    assert_eq!(rt; published.ok(), Some(Version::new(2)));
-    assert_eq!(rt; read, Some((Version::new(2), to(2))));
-    assert_eq!(rt; zones, (Some((2, 2)), Some((2, 2))));
-    assert_eq!(rt; after, (Some(Lost), Some(ReadFault::Lost), Some(Lost)));
-    Ok(())
+    let read = (in_force(rt, held), in_force(rt, read), routed);
+    (read, refusals_of(rt, &mut reader))
 }
 
-/// Why a reader doesn't tell the version, the tables and a route, if it doesn't.
-fn refusals_of<J: Imprint, R: Abort>(
+/// The version that was read, and where its tables lead 12.
+fn in_force<R: Abort>(
     rt: &R,
-    reader: &mut Reader<J>,
-) -> (Option<Lost>, Option<ReadFault>, Option<Lost>) {
-    let Ok(digits) = Dialled::read(b"12") else {
-        panic!(rt; "no digits");
-    };
-    let version = reader.version().err();
-    let read = match reader.read() {
-        Ok(_) => None,
-        Err(fault) => Some(fault),
-    };
-    let route = reader.route(&digits).err();
-    (version, read, route)
-}
-
-/// The version in force, and the number of the zone to which it leads 12.
-pub(crate) fn zone_of<J: Imprint, R: Abort>(rt: &R, reader: &mut Reader<J>) -> Option<(u32, u32)> {
-    let Ok(digits) = Dialled::read(b"12") else {
-        panic!(rt; "no digits");
-    };
-    let Ok(routed) = reader.route(&digits) else {
-        return None;
-    };
-    let zone = if routed.plan == to(1) {
-        1
-    } else if routed.plan == to(2) {
-        2
-    } else {
-        return None;
-    };
-    Some((routed.version.value(), zone))
-}
-
-#[test]
-fn a_reader_begins_at_version_1(rt: HostRuntime) -> Result<(), Fail> {
-    let tables = tables_of(&rt, rt.alloc(), TO_ONE)?;
-    begins_at_1::<Brand, _>(&rt, rt.alloc(), Blank::new(), tables);
-    Ok(())
-}
-
-fn begins_at_1<J: Imprint, R: Wait + Abort>(
-    rt: &R,
-    alloc: Global,
-    blank: Blank,
-    tables: Arc<Tables, Global>,
-)
-    requires { blank ≡ J.book }
-{
-    let Ok(mut publisher) = Publisher::<J>::new(alloc, blank, tables, 32) else {
-        panic!(rt; "refused");
-    };
-    let reader = publisher.reader();
-    let Ok(mut reader) = reader else {
-        publisher.close(rt);
-        panic!(rt; "no reader");
-    };
-    let version = reader.version();
-    let zone = zone_of(rt, &mut reader);
-    let read = read_of(rt, &mut reader);
-    publisher.close(rt);
-    assert_eq!(rt; version.ok(), Some(Version::new(1)));
-    assert_eq!(rt; zone, Some((1, 1)));
-    assert_eq!(rt; read, Some((Version::new(1), to(1))));
-}
-
-/// The version in force, and the plan of 12 by its tables.
-fn read_of<J: Imprint, R: Abort>(rt: &R, reader: &mut Reader<J>) -> Option<(Version, Plan)> {
-    match reader.read() {
-        Ok((version, tables)) => Some((version, plan_of(rt, &tables))),
+    read: Result<(Version, Arc<Tables, Global>), ReadFault>,
+) -> Option<InForce> {
+    match read {
+        Ok((version, tables)) => Some((version.value(), zone_in(&tables.plan(&digits(rt)))?)),
         Err(_) => None,
     }
 }
 
-/// The plan of 12 by these tables.
-fn plan_of(rt: &impl Abort, tables: &Tables) -> Plan {
+/// The number 12.
+fn digits<R: Abort>(rt: &R) -> Dialled {
     let Ok(digits) = Dialled::read(b"12") else {
         panic!(rt; "no digits");
     };
-    tables.plan(&digits)
+    digits
+}
+
+/// The number of the zone of a plan, 1 or 2.
+fn zone_in(plan: &Plan) -> Option<u32> {
+    if *plan == to(1) {
+        return Some(1);
+    }
+    if *plan == to(2) {
+        return Some(2);
+    }
+    None
 }
 
 /// To the remote zone of this number.
@@ -167,12 +136,48 @@ pub(crate) fn to(zone: u32) -> Plan {
     Plan::Remote(ZoneNo::new(zone))
 }
 
+/// Publishes these tables, and tells the reader of what is published. The number of the tables, if
+/// they were not refused.
+fn version_told<J: Imprint, R: Wait + Abort>(
+    rt: &R,
+    publisher: &mut Publisher<J>,
+    reader: &mut Reader<J>,
+    tables: Arc<Tables, Global>,
+) -> Option<u32>
+    requires { length publisher.old < 10 }
+    ensures { length publisher.new ≤ length publisher.old + 1 }
+{
+    let published = publisher.publish(rt, tables);
+    reader.learn(publisher.tell());
+    match published {
+        Ok(version) => Some(version.value()),
+        Err(_) => None,
+    }
+}
+
+/// Why a reader doesn't tell the version, the tables and a route, if it doesn't.
+fn refusals_of<J: Imprint, R: Abort>(rt: &R, reader: &mut Reader<J>) -> Refusals {
+    let version = reader.version().err();
+    let read = match reader.read() {
+        Ok(_) => None,
+        Err(fault) => Some(fault),
+    };
+    let route = reader.route(&digits(rt)).err();
+    (version, read, route)
+}
+
+/// The version in force, and the number of the zone to which it leads 12.
+pub(crate) fn zone_of<J: Imprint, R: Abort>(rt: &R, reader: &mut Reader<J>) -> Option<InForce> {
+    let Ok(routed) = reader.route(&digits(rt)) else {
+        return None;
+    };
+    Some((routed.version.value(), zone_in(&routed.plan)?))
+}
+
 #[test]
 fn a_refused_publication_leaves_the_list(rt: HostRuntime) -> Result<(), Fail> {
     let tables = both(&rt, rt.alloc())?;
-    let first = Arc::try_clone(&tables.0)?;
-    let last = four_published::<Brand, _>(&rt, rt.alloc(), Blank::new(), first, &tables);
-    if let Some(last) = last {
+    if let Some(last) = four_published::<Brand, _>(&rt, rt.alloc(), Blank::new(), &tables) {
         assert!(rt; last >= 4, "refused more than once: {last}");
     }
     Ok(())
@@ -183,9 +188,7 @@ fn a_refused_publication_leaves_the_list(rt: HostRuntime) -> Result<(), Fail> {
 #[test]
 fn no_publication_is_refused(rt: HostRuntime) -> Result<(), Fail> {
     let tables = both(&rt, rt.alloc())?;
-    let first = Arc::try_clone(&tables.0)?;
-    let last = four_published::<Brand, _>(&rt, rt.alloc(), Blank::new(), first, &tables);
-    if let Some(last) = last {
+    if let Some(last) = four_published::<Brand, _>(&rt, rt.alloc(), Blank::new(), &tables) {
         assert!(rt; last == 5, "one was refused: {last}");
     }
     Ok(())
@@ -200,31 +203,25 @@ fn four_published<J: Imprint, R: Wait + Abort>(
     rt: &R,
     alloc: Global,
     blank: Blank,
-    first: Arc<Tables, Global>,
     tables: &(Arc<Tables, Global>, Arc<Tables, Global>),
 ) -> Option<u32>
     requires { blank ≡ J.book }
 {
+    let Ok(first) = Arc::try_clone(&tables.0) else {
+        panic!(rt; "too many owners");
+    };
     let Ok(mut publisher) = Publisher::<J>::new(alloc, blank, first, 2) else {
         return None;
     };
-    let reader = publisher.reader();
-    let Ok(mut reader) = reader else {
-        publisher.close(rt);
-        panic!(rt; "no reader");
-    };
+    let mut reader = reader_of(rt, &mut publisher);
     let a = published_next(rt, &mut publisher, &mut reader, &tables.1, (1, 1), 2);
-    let second = publisher.reader();
-    let Ok(mut second) = second else {
-        publisher.close(rt);
-        panic!(rt; "no second reader");
-    };
+    let mut second = reader_of(rt, &mut publisher);
     let seen = zone_of(rt, &mut second);
     let b = published_next(rt, &mut publisher, &mut reader, &tables.0, a, 1);
     let c = published_next(rt, &mut publisher, &mut reader, &tables.1, b, 2);
     let d = published_next(rt, &mut publisher, &mut reader, &tables.0, c, 1);
     publisher.close(rt);
-    assert_eq!(rt; seen, Some(a));
+    assert!(rt; seen == Some(a));
     Some(d.0)
 }
 
@@ -244,18 +241,19 @@ fn published_next<J: Imprint, R: Wait + Abort>(
     let Ok(copy) = Arc::try_clone(tables) else {
         return before;
     };
-    let published = publisher.publish(rt, copy);
-    reader.learn(publisher.tell());
-    let read = zone_of(rt, reader);
-    let Ok(version) = published else {
-        assert_eq!(rt; read, Some(before));
-        return before;
+    let published = version_told(rt, publisher, reader, copy);
+    let Some(now) = next_in_force(before, zone, published) else {
+        panic!(rt; "another number");
     };
-    let now = (version.value(), zone);
-    assert!(rt;
-        version.value() > before.0 && version.value() - before.0 == 1,
-        "another number"
-    );
-    assert_eq!(rt; read, Some(now));
+    assert!(rt; zone_of(rt, reader) == Some(now));
     now
+}
+
+/// What is in force after that, none if the publication got another number than the next one.
+fn next_in_force(before: (u32, u32), zone: u32, published: Option<u32>) -> Option<(u32, u32)> {
+    match published {
+        None => Some(before),
+        Some(version) if version > 0 && version - 1 == before.0 => Some((version, zone)),
+        Some(_) => None,
+    }
 }

@@ -2,10 +2,10 @@
 
 ghost use Rattle.std.specs.Prelude.{◌≡◌, ◌+◌, ◌<◌, ◌≤◌, length};
 
-use crate::tests::{both, to};
+use crate::tests::to;
 use command_reader::read;
-use compiler::{Plan, Tables};
-use gk_terms::{Dialled, Version};
+use compiler::Tables;
+use gk_terms::Dialled;
 use publisher::{Blank, Imprint, Publisher, Reader, Told};
 use std::alloc::Global;
 use std::marker::Brand;
@@ -13,99 +13,7 @@ use std::process::Abort;
 use std::sync::atomic::{AtomicU64, Ordering};
 use std::sync::{Arc, Mutex, Wait};
 use std::test::Fail;
-use std::thread;
 use std::thread::{Threads, join};
-
-/// The stage at which the tables of version 1 are held.
-const HELD: u64 = 1;
-
-/// The stage at which the publisher was closed.
-const CLOSED: u64 = 2;
-
-#[test]
-fn held_tables_outlive_the_publisher(rt: HostRuntime) -> Result<(), Fail> {
-    let tables = both(&rt, rt.alloc())?;
-    let first = Arc::try_clone(&tables.0)?;
-    let later = (Arc::try_clone(&tables.1)?, Arc::try_clone(&tables.1)?);
-    let stage = Arc::new(rt.alloc(), AtomicU64::new(0))?;
-    let theirs = Arc::try_clone(&stage)?;
-    let digits = Dialled::read(b"12")?;
-    let held = held_beyond::<Brand, _>(
-        &rt,
-        rt.alloc(),
-        Blank::new(),
-        first,
-        later,
-        (stage, theirs),
-        digits,
-    );
-    assert_eq!(rt; held, Some((Version::new(1), to(1))));
-    assert_eq!(rt; Arc::strong_count(&tables.0), 1);
-    Ok(())
-}
-
-/// A thread reads version 1 and holds its tables while two more versions are published and the
-/// publisher is closed. Then it looks a number up in them, and lets them go.
-fn held_beyond<J: Imprint + Send + Sync + 'static, R: Threads + Wait + Abort>(
-    rt: &R,
-    alloc: Global,
-    blank: Blank,
-    first: Arc<Tables, Global>,
-    later: (Arc<Tables, Global>, Arc<Tables, Global>),
-    stage: (Arc<AtomicU64, Global>, Arc<AtomicU64, Global>),
-    digits: Dialled,
-) -> Option<(Version, Plan)>
-    requires { blank ≡ J.book }
-{
-    let Ok(mut publisher) = Publisher::<J>::new(alloc, blank, first, 1) else {
-        panic!(rt; "refused");
-    };
-    let reader = publisher.reader();
-    let Ok(reader) = reader else {
-        publisher.close(rt);
-        panic!(rt; "no reader");
-    };
-    let (ours, theirs) = stage;
-    let Ok(child) = thread::spawn(rt, move || held_plan(reader, &theirs, &digits)) else {
-        publisher.close(rt);
-        panic!(rt; "no thread");
-    };
-    await_stage(&ours, HELD);
-    let (second, third) = later;
-    let second = publisher.publish(rt, second).ok();
-    let third = publisher.publish(rt, third).ok();
-    publisher.close(rt);
-    ours.store(CLOSED, Ordering::SeqCst);
-    let held = child.join(rt);
-    let published = (Some(Version::new(2)), Some(Version::new(3)));
-    assert_eq!(rt; (second, third), published);
-    held
-}
-
-/// The version in force, and where its tables lead these digits once the publisher was closed.
-fn held_plan<J: Imprint>(
-    mut reader: Reader<J>,
-    stage: &AtomicU64,
-    digits: &Dialled,
-) -> Option<(Version, Plan)> {
-    let read = reader.read();
-    stage.store(HELD, Ordering::SeqCst);
-    await_stage(stage, CLOSED);
-    match read {
-        Ok((version, tables)) => Some((version, tables.plan(digits))),
-        Err(_) => None,
-    }
-}
-
-/// Waits until a stage is reached.
-fn await_stage(stage: &AtomicU64, wanted: u64) {
-    for _ in 0..u64::MAX {
-        if stage.load(Ordering::SeqCst) >= wanted {
-            return;
-        }
-        thread::yield_now();
-    }
-}
 
 /// The last version of the long run.
 const LAST: u32 = 1001;
@@ -142,11 +50,10 @@ impl<J: Imprint> Posts<J> {
 
 #[test]
 fn readers_beside_a_thousand_publications(rt: HostRuntime) -> Result<(), Fail> {
-    let first = tables_of_version(rt.alloc(), 1).ok_or("no memory")?;
     let digits = Dialled::read(b"12")?;
+    let first = tables_of_version(rt.alloc(), 1).ok_or("no memory")?;
     let (published, read) = read_beside::<Brand, _>(&rt, rt.alloc(), Blank::new(), first, &digits);
-    assert_eq!(rt; published, LAST);
-    assert_eq!(rt; read, [Some(LAST); 4]);
+    assert!(rt; published == LAST && read == [Some(LAST); 4]);
     Ok(())
 }
 

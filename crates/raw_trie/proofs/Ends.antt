@@ -9,7 +9,7 @@ use Rattle.digit_patterns.specs.PatternParts.{PatternParts, IsPattern}
 use Rattle.digit_patterns.specs.Pattern.{same_pattern}
 use Rattle.digit_patterns.specs.Duplicate.{has_pattern}
 use Rattle.raw_trie.specs.Nodes.{path_of}
-use Rattle.raw_trie.specs.Trie.{Row, At, EndsAt, Tells, IsTrie, Reaches, GrowsTo, Added, Adds, link_at, end_in, end_at, with_end, with_beginnings}
+use Rattle.raw_trie.specs.Trie.{Row, At, EndsAt, Tells, IsTrie, Reaches, GrowsTo, Added, AddsRow, link_at, end_in, end_at, with_end, with_beginnings}
 use Rattle.raw_trie.proofs.Growth.{end_in-same, Tells-at, LeadsTo-at}
 use Rattle.raw_trie.proofs.Same.{same_parts, same_of_tested, tested_of_same}
 
@@ -218,7 +218,7 @@ module _ (rows : List Row) (paths : List (List ℕ)) (old : List ℕ) (trie : Is
 -- a row is added at the node of its pattern
 pub ended : (old mid new : List ℕ) (node : ℕ) (row : Row) (t : Bool) → IsPattern row.0
     → GrowsTo old mid node (path_of row.0) → t ≡ eqb (get_or mid (place_of node row.0.star) 0) 0
-    → new ≡ with_end mid (place_of node row.0.star) row.1 → Adds old new row t
+    → new ≡ with_end mid (place_of node row.0.star) row.1 → AddsRow old new row t
 ended old mid new node row t pattern grows e w rows paths trie =
     by t (sym e)
   where

@@ -4,7 +4,7 @@ use Rattle.std.specs.List.{Contains}
 use Rattle.std.proofs.lemmas.Bool.{cases_lt, cases_eq}
 use Rattle.std.proofs.lemmas.List.{get_or_append_left, get_or-append_right, get_or-replicate, get_or-set_same, get_or-set_other, length_push, length-append, length-set, same_from_push}
 use Rattle.raw_trie.specs.Nodes.{path_of}
-use Rattle.raw_trie.specs.Trie.{Row, At, LeadsTo, EndsAt, Tells, IsTrie, Reaches, Links, character_of, link_at, end_in, end_at, with_path}
+use Rattle.raw_trie.specs.Trie.{Row, At, LeadsTo, EndsAt, Tells, IsTrie, Reaches, Links, link_character_of, link_at, end_in, end_at, with_path}
 use Rattle.raw_trie.proofs.Paths.{At-left, At-new, At-cases, with_path-there, with_path-new, same_symbol}
 
 -- an end whose two words are as they were is as it was
@@ -33,7 +33,7 @@ longer p c e =
 module _ (rows : List Row) (paths : List (List ℕ)) (old : List ℕ) (trie : IsTrie rows paths old)
     (node symbol : ℕ) (within : node < length paths) (small : symbol < 11) where
   abbrev path : List ℕ
-  path = get_or paths node [] ++ character_of symbol ∷ []
+  path = get_or paths node [] ++ link_character_of symbol ∷ []
 
   abbrev place : ℕ
   place = 15 * node + symbol
@@ -91,71 +91,80 @@ module _ (rows : List Row) (paths : List (List ℕ)) (old : List ℕ) (trie : Is
     parent n p c (inr a) = (
       node,
       At-left paths path node p
-          (within, (same_from_push (get_or paths node []) p (character_of symbol) c a.1).0),
+          (within, (same_from_push (get_or paths node []) p (link_character_of symbol) c a.1).0),
     )
 
     -- a link of the new node
-    no_child : (s : ℕ) (n : ℕ) → At paths n (path ++ character_of s ∷ [])
-        ⊎ ((n ≡ length paths) × (path ≡ path ++ character_of s ∷ [])) → ⊥
-    no_child s n (inl a) = let up = trie.closed n path (character_of s) a in absent up.0 up.1
-    no_child s n (inr a) = longer path (character_of s) a.1
+    no_child : (s : ℕ) (n : ℕ) → At paths n (path ++ link_character_of s ∷ [])
+        ⊎ ((n ≡ length paths) × (path ≡ path ++ link_character_of s ∷ [])) → ⊥
+    no_child s n (inl a) = let up = trie.closed n path (link_character_of s) a in absent up.0 up.1
+    no_child s n (inr a) = longer path (link_character_of s) a.1
 
-    leads_new : (s : ℕ) → s < 11 → LeadsTo more (path ++ character_of s ∷ []) 0
+    leads_new : (s : ℕ) → s < 11 → LeadsTo more (path ++ link_character_of s ∷ []) 0
     leads_new s below =
-        inl (refl, λ n at. no_child s n (At-cases paths path n (path ++ character_of s ∷ []) at))
+        inl (
+          refl,
+          λ n at. no_child s n (At-cases paths path n (path ++ link_character_of s ∷ [])
+              at),
+        )
 
     -- another link of an old node
     leads_old : (n s link : ℕ) → n < length paths → s < 11 → 15 * n + s ≢ place
-        → LeadsTo paths (get_or paths n [] ++ character_of s ∷ []) link
-        → LeadsTo more (get_or paths n [] ++ character_of s ∷ []) link
+        → LeadsTo paths (get_or paths n [] ++ link_character_of s ∷ []) link
+        → LeadsTo more (get_or paths n [] ++ link_character_of s ∷ []) link
     leads_old n s link below low other (inr there) =
-        inr (there.0, At-left paths path link (get_or paths n [] ++ character_of s ∷ []) there.1)
+        inr (
+          there.0,
+          At-left paths path link (get_or paths n [] ++ link_character_of s ∷ [])
+              there.1,
+        )
     leads_old n s link below low other (inl none) =
         inl (
           none.0,
-          λ m at. by m (At-cases paths path m (get_or paths n [] ++ character_of s ∷ [])
+          λ m at. by m (At-cases paths path m (get_or paths n [] ++ link_character_of s ∷ [])
               at),
         )
       where
-        by : (m : ℕ) → At paths m (get_or paths n [] ++ character_of s ∷ [])
-            ⊎ ((m ≡ length paths) × (path ≡ get_or paths n [] ++ character_of s ∷ [])) → ⊥
+        by : (m : ℕ) → At paths m (get_or paths n [] ++ link_character_of s ∷ [])
+            ⊎ ((m ≡ length paths) × (path ≡ get_or paths n [] ++ link_character_of s ∷ [])) → ⊥
         by m (inl a) = none.1 m a
         by m (inr a) =
             let both =
-            same_from_push (get_or paths node []) (get_or paths n []) (character_of symbol)
-            (character_of s) a.1 in
+            same_from_push (get_or paths node []) (get_or paths n []) (link_character_of symbol)
+            (link_character_of s) a.1 in
             let same : node ≡ n =
             trie.apart node n (get_or paths n []) (within, both.0) (below, refl) in
             let alike : symbol ≡ s = same_symbol symbol s small low both.1 in
             other (omega arith)
 
     links : (n s : ℕ) → n < length more → s < 11
-        → LeadsTo more (get_or more n [] ++ character_of s ∷ []) (link_at new n s)
+        → LeadsTo more (get_or more n [] ++ link_character_of s ∷ []) (link_at new n s)
     links n s below low = by (cases_lt n (length paths)) (cases_eq (15 * n + s) place)
       where
         by : (n < length paths) ⊎ (length paths ≤ n)
             → (15 * n + s ≡ place) ⊎ (15 * n + s ≡ place → ⊥)
-            → LeadsTo more (get_or more n [] ++ character_of s ∷ []) (link_at new n s)
+            → LeadsTo more (get_or more n [] ++ link_character_of s ∷ []) (link_at new n s)
         by (inr past) e =
             let last : length paths ≡ n = omega (arith, length_push paths path) in
-            LeadsTo-at more (path ++ character_of s ∷ []) (get_or more n [] ++ character_of s ∷ [])
-            0 (link_at new n s) (ap (λ p. p ++ character_of s ∷ [])
+            LeadsTo-at more (path ++ link_character_of s ∷ []) (get_or more n [] ++
+            link_character_of s ∷ [])
+            0 (link_at new n s) (ap (λ p. p ++ link_character_of s ∷ [])
             (sym new_path ∙ ap (λ k. get_or more k []) last))
             (sym (word-new s (omega arith)) ∙ ap (λ k. get_or new (15 * k + s) 0) last)
             (leads_new s low)
         by (inl early) (inr other) =
-            LeadsTo-at more (get_or paths n [] ++ character_of s ∷ [])
-            (get_or more n [] ++ character_of s ∷ []) (link_at old n s) (link_at new n s)
-            (ap (λ p. p ++ character_of s ∷ []) (sym (old_path n early)))
+            LeadsTo-at more (get_or paths n [] ++ link_character_of s ∷ [])
+            (get_or more n [] ++ link_character_of s ∷ []) (link_at old n s) (link_at new n s)
+            (ap (λ p. p ++ link_character_of s ∷ []) (sym (old_path n early)))
             (sym (word-old (15 * n + s) (omega arith) other))
             (leads_old n s (link_at old n s) early low other (trie.links n s early low))
         by (inl early) (inl same) =
             let one : n ≡ node = omega arith in let two : s ≡ symbol = omega arith in
-            let here : path ≡ get_or more n [] ++ character_of s ∷ [] =
-            ap (λ k. get_or paths k [] ++ character_of symbol ∷ []) (sym one)
-            ∙ ap (λ p. p ++ character_of symbol ∷ []) (sym (old_path n early))
-            ∙ ap (λ k. get_or more n [] ++ character_of k ∷ []) (sym two) in
-            LeadsTo-at more path (get_or more n [] ++ character_of s ∷ []) (length paths)
+            let here : path ≡ get_or more n [] ++ link_character_of s ∷ [] =
+            ap (λ k. get_or paths k [] ++ link_character_of symbol ∷ []) (sym one)
+            ∙ ap (λ p. p ++ link_character_of symbol ∷ []) (sym (old_path n early))
+            ∙ ap (λ k. get_or more n [] ++ link_character_of k ∷ []) (sym two) in
+            LeadsTo-at more path (get_or more n [] ++ link_character_of s ∷ []) (length paths)
             (link_at new n s) here (sym word-link ∙ ap (λ k. get_or new k 0) (sym same))
             (inr (omega (arith, trie.root.0), At-new paths path))
 

@@ -5,7 +5,7 @@ use Rattle.std.specs.List.{list_all}
 use Rattle.std.proofs.lemmas.Bool.Decides.{nat_tests}
 use Rattle.std.proofs.lemmas.List.Folds.{list_all_at}
 use Rattle.std.proofs.lemmas.Bool.{cond-false, ne_eqb}
-use Rattle.raw_trie.specs.Trie.{IsSomeTrie, Reaches, Links, GrowsTo, character_of, with_path, with_beginnings}
+use Rattle.raw_trie.specs.Trie.{IsSomeTrie, Reaches, Links, GrowsTo, link_character_of, with_path, with_beginnings}
 use Rattle.raw_trie.proofs.Paths.{with_path-there, with_beginnings-push}
 use Rattle.raw_trie.proofs.Growth.{linked}
 
@@ -24,22 +24,24 @@ grows_none words rows paths trie =
 -- one more character
 pub grows_more : (old mid new : List ℕ) (node symbol child : ℕ) (path : List ℕ) → symbol < 11
     → GrowsTo old mid node path → Links mid (15 * node + symbol) new child
-    → GrowsTo old new child (path ++ character_of symbol ∷ [])
+    → GrowsTo old new child (path ++ link_character_of symbol ∷ [])
 grows_more old mid new node symbol child path small grows links rows paths trie =
     let there = grows rows paths trie in
     let known = with_beginnings paths path in
-    let reached : Reaches rows (with_path known (get_or known node [] ++ character_of symbol ∷ []))
-    new child (get_or known node [] ++ character_of symbol ∷ []) =
+    let reached : Reaches rows (with_path known (get_or known node [] ++ link_character_of symbol ∷
+    []))
+    new child (get_or known node [] ++ link_character_of symbol ∷ []) =
     linked rows known mid there.0 node symbol there.1.0 small new child links in
-    let here : Reaches rows (with_path known (path ++ character_of symbol ∷ [])) new child
-    (path ++ character_of symbol ∷ []) =
-    subst (λ p. Reaches rows (with_path known (p ++ character_of symbol ∷ [])) new child
-    (p ++ character_of symbol ∷ [])) there.1.1 reached in
-    subst (λ ps. Reaches rows ps new child (path ++ character_of symbol ∷ []))
-    (sym (with_beginnings-push paths path (character_of symbol))) here
+    let here : Reaches rows (with_path known (path ++ link_character_of symbol ∷ [])) new child
+    (path ++ link_character_of symbol ∷ []) =
+    subst (λ p. Reaches rows (with_path known (p ++ link_character_of symbol ∷ [])) new child
+    (p ++ link_character_of symbol ∷ [])) there.1.1 reached in
+    subst (λ ps. Reaches rows ps new child (path ++ link_character_of symbol ∷ []))
+    (sym (with_beginnings-push paths path (link_character_of symbol))) here
 
 -- the number of a digit stands for the digit
-pub character_of-digit : (digit : ℕ) → 48 ≤ digit → digit < 58 → character_of (digit - 48) ≡ digit
+pub character_of-digit : (digit : ℕ) → 48 ≤ digit → digit < 58 → link_character_of (digit - 48) ≡
+    digit
 character_of-digit digit low high =
     cond-false (eqb (digit - 48) 10) 46 (digit - 48 + 48)
     (ne_eqb (digit - 48) 10 (λ e. absurd (omega arith))) ∙ omega arith

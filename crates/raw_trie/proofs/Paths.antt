@@ -9,7 +9,7 @@ use Rattle.std.proofs.lemmas.List.{get_or_append_left, get_or_push, get_or_defau
 use Rattle.std.proofs.lemmas.List.Folds.{list_any_at, list_any_none}
 use Rattle.std.proofs.lemmas.List.Sums.{fold-append}
 use Rattle.raw_trie.specs.Nodes.{beginnings}
-use Rattle.raw_trie.specs.Trie.{At, with_path, with_beginnings, character_of}
+use Rattle.raw_trie.specs.Trie.{At, with_path, with_beginnings, link_character_of}
 
 -- a node stays when one more is added
 pub At-left : (paths : List (List ℕ)) (q : List ℕ) (node : ℕ) (path : List ℕ) → At paths node path
@@ -74,7 +74,7 @@ with_beginnings-push paths text c =
     ∙ fold-append with_path paths (beginnings text) ((text ++ c ∷ []) ∷ [])
 
 -- different links have different characters
-pub same_symbol : (s t : ℕ) → s < 11 → t < 11 → character_of s ≡ character_of t → s ≡ t
+pub same_symbol : (s t : ℕ) → s < 11 → t < 11 → link_character_of s ≡ link_character_of t → s ≡ t
 same_symbol s t h i e = by (eqb_tells s 10) (eqb_tells t 10)
   where
     by : ((eqb s 10 ≡ true) × (s ≡ 10)) ⊎ ((eqb s 10 ≡ false) × (s ≢ 10))

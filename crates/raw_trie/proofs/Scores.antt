@@ -6,7 +6,7 @@ use Rattle.std.specs.Cmp.Lexicographic.{same_text}
 use Rattle.std.proofs.lemmas.Bool.{and_parts, leb-true, eqb-true, cases_lt}
 use Rattle.std.proofs.lemmas.Bool.Decides.{nat_tests}
 use Rattle.digit_patterns.specs.PatternParts.{PatternParts, IsPattern, least_count, character_count}
-use Rattle.digit_patterns.specs.Pattern.{Matches, has_count, is_above, Outranks}
+use Rattle.digit_patterns.specs.Pattern.{Matches, has_count, is_rank_above, Outranks}
 use Rattle.digit_patterns.specs.Table.{hit_of}
 use Rattle.digit_patterns.specs.declared.tables.Hit.{Hit}
 use Rattle.raw_trie.specs.Trie.{Row}
@@ -87,7 +87,7 @@ outranks_by_score p q h i below =
     one false = omega arith
 
     by : (l m d e s t : ℕ) → d ≤ 32 → e ≤ 32 → s ≤ 1 → t ≤ 1
-        → 66 * m + 2 * e + t < 66 * l + 2 * d + s → is_above (l, d, s) (m, e, t) ≡ true
+        → 66 * m + 2 * e + t < 66 * l + 2 * d + s → is_rank_above (l, d, s) (m, e, t) ≡ true
     by l m d e s t h i j k below = grind (arith, nat_tests)
 
 -- on the counts of a pattern: l literals, d dots, and s, which is 1 if no star ends it

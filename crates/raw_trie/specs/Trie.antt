@@ -11,8 +11,8 @@ abbrev pub Row : Type 0
 Row = PatternParts × ℕ
 
 -- the character of a link: the digit of its number, and the dot for the eleventh
-abbrev pub character_of : ℕ → ℕ
-character_of symbol = if symbol == 10 then 46 else symbol + 48
+abbrev pub link_character_of : ℕ → ℕ
+link_character_of symbol = if symbol == 10 then 46 else symbol + 48
 
 -- where a link of a node leads: a node's number, or 0
 abbrev pub link_at : List ℕ → ℕ → ℕ → ℕ
@@ -54,7 +54,7 @@ pub record IsTrie (rows : List Row) (paths : List (List ℕ)) (words : List ℕ)
   pub closed : (node : ℕ) (path : List ℕ) (c : ℕ) → At paths node (path ++ c ∷ [])
       → (m : ℕ) × At paths m path
   pub links : (node symbol : ℕ) → node < length paths → symbol < 11
-      → LeadsTo paths (slice_index_or paths node [] ++ character_of symbol ∷ [])
+      → LeadsTo paths (slice_index_or paths node [] ++ link_character_of symbol ∷ [])
       (link_at words node symbol)
   pub ends : (node : ℕ) (star : Bool) → node < length paths
       → Tells rows (slice_index_or paths node []) star (end_at words node star)
@@ -107,7 +107,7 @@ Added rows paths row words true =
     × (has_pattern row.0 rows ≡ false)
 Added rows paths row words false = has_pattern row.0 rows ≡ true
 
-abbrev pub Adds : List ℕ → List ℕ → Row → Bool → Type 0
-Adds old new row added =
+abbrev pub AddsRow : List ℕ → List ℕ → Row → Bool → Type 0
+AddsRow old new row added =
     (rows : List Row) (paths : List (List ℕ)) → IsTrie rows paths old
     → Added rows paths row new added

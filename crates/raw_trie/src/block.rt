@@ -20,11 +20,11 @@ impl Model for Block {
 
     ghost Value = { List ℕ };
 
-    ghost use Rattle.raw_trie.specs.Block.{IsWhole};
+    ghost use Rattle.raw_trie.specs.Block.{IsWholeBlock};
 
     ghost view = { λ b. b.words.words };
 
-    ghost invariant = { IsWhole };
+    ghost invariant = { IsWholeBlock };
 }
 
 impl Block {

@@ -3,7 +3,7 @@
 ghost use Rattle.std.specs.Prelude.{◌≡◌, ◌+◌, ◌*◌, ◌/◌, ◌<◌, ◌==◌, ◌++◌, length, replicate, slice_index, IfOk, if◌then◌else◌};
 ghost use Rattle.digit_patterns.specs.PatternParts.{IsPattern};
 ghost use Rattle.raw_trie.specs.Nodes.{path_of};
-ghost use Rattle.raw_trie.specs.Trie.{IsSomeTrie, Links, GrowsTo, Adds, with_end};
+ghost use Rattle.raw_trie.specs.Trie.{IsSomeTrie, Links, GrowsTo, AddsRow, with_end};
 
 use digit_patterns::Pattern;
 use std::alloc::{AllocError, Global};
@@ -42,7 +42,7 @@ impl Draft {
     pub(crate) fn add(&mut self, pattern: &Pattern, value: u32) -> Result<bool, AllocError>
         requires { IsSomeTrie self.old.words.items }
         ensures { IfOk result (λ added.
-            Adds self.old.words.items self.new.words.items (pattern.now, value) added) }
+            AddsRow self.old.words.items self.new.words.items (pattern.now, value) added) }
     {
         let node = self.node_of(pattern)?;
         Ok(self.add_end(node, pattern.has_star(), value))

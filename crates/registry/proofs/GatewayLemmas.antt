@@ -16,8 +16,8 @@ use Rattle.std.proofs.lemmas.Map.{lookup-none}
 use Rattle.std.proofs.lemmas.Map.Entries.{none_below_head}
 use Rattle.std.proofs.lemmas.Map.Keys.{sorted_tail}
 use Rattle.command_reader.specs.declared.commands.Command.{Command}
-use Rattle.compiler.specs.declared.plans.TheConstants.{USUAL_GATEWAY_PRIORITY}
-use Rattle.compiler.specs.Rows.{Row}
+use Rattle.compiler.specs.declared.plans.TheConstants.{DEFAULT_GATEWAY_PRIORITY}
+use Rattle.compiler.specs.Rows.{ZoneRow}
 use Rattle.compiler.specs.Priority.{named_priority, AreNamedFor}
 use Rattle.compiler.proofs.TableLemmas.{priority_by_named}
 use Rattle.registry.specs.Endpoint.{EndpointParts}
@@ -25,7 +25,7 @@ use Rattle.registry.specs.Gateway.{is_candidate, has_greater, gateway_by, gatewa
 use Rattle.registry.specs.Roll.{Numbered, at_number}
 use Rattle.registry.specs.Served.{found_serving}
 use Rattle.registry.specs.Listing.{NoneServes, IsNextServing}
-use Rattle.registry.specs.Chosen.{Named, IsBest}
+use Rattle.registry.specs.Chosen.{Named, IsBestGateway}
 use Rattle.registry.proofs.FindLemmas.{is_some-find}
 use Rattle.registry.proofs.RollLemmas.{distinct_numbers, later, first, each_entry}
 use Rattle.registry.proofs.NamedLemmas.{all_looked_at}
@@ -153,7 +153,7 @@ module _ (entries : Numbered) (sorted : IsStrictlySortedBy nat_cmp (keys_of entr
       let more = parts.1 in
       let never : ⊥ = grind (arith, nat_tests) in never))
 
-  pub best_is_chosen : (best : Option (ℕ × ℕ)) → IsBest entries named able best
+  pub best_is_chosen : (best : Option (ℕ × ℕ)) → IsBestGateway entries named able best
       → gateway_by (named_priority named) (values_of entries) zone prefix ≡ at_best entries best
   best_is_chosen None none =
       find-filter able (λ e. not (beaten e)) (values_of entries)
@@ -203,7 +203,8 @@ module _ (entries : Numbered) (sorted : IsStrictlySortedBy nat_cmp (keys_of entr
 
 -- ---- by the priorities of a row
 -- the gateways that are named for the row choose the gateway of the row
-pub by_row : (commands : List Command) (row : Option (Option Row)) (endpoints : List EndpointParts)
+pub by_row : (commands : List Command) (row : Option (Option ZoneRow)) (endpoints : List
+    EndpointParts)
     (zone prefix : List ℕ) (named : Named) (chosen : Option EndpointParts)
     → chosen ≡ gateway_by (named_priority named) endpoints zone prefix
     → IfSome row (λ used. AreNamedFor commands used named)
@@ -237,6 +238,6 @@ module _ (entries : Numbered) (sorted : IsStrictlySortedBy nat_cmp (keys_of entr
           ≡ at_number entries number
       by None there serves = absurd (both_ways false refl serves)
       by (Some e) there serves =
-          best_is_chosen entries sorted [] zone prefix (Some (USUAL_GATEWAY_PRIORITY, number))
-          (all_looked_at entries [] zone prefix (Some (USUAL_GATEWAY_PRIORITY, number))
+          best_is_chosen entries sorted [] zone prefix (Some (DEFAULT_GATEWAY_PRIORITY, number))
+          (all_looked_at entries [] zone prefix (Some (DEFAULT_GATEWAY_PRIORITY, number))
           (found_unnamed entries [] zone prefix 0 number e next there refl none_before))

@@ -20,7 +20,7 @@ use Rattle.compiler.specs.declared.zones.ZoneView.{ZoneView}
 use Rattle.compiler.specs.Zones.{number_in, view_of, view_of_name, zone_at}
 use Rattle.registry.specs.Endpoint.{EndpointParts}
 use Rattle.registry.specs.Registration.{has_id, kept_zones, without_endpoint}
-use Rattle.registry.specs.Roll.{Numbered, Numbers, RollParts, endpoints_of, at_number, number_of, is_number, found_with_id, IsRoll, IsNumberFor, IsNextFrom, IsSetAt, NoneFrom}
+use Rattle.registry.specs.Roll.{Numbered, Numbers, RollParts, endpoints_of, at_number, number_of_id, is_number, found_with_id, IsRoll, IsNumberFor, IsNextFrom, IsSetAt, NoneFrom}
 use Rattle.registry.proofs.RollLemmas.{distinct_numbers, each_entry, known_number, number_itself, same_number}
 use Rattle.registry.proofs.ServedLemmas.{not_above}
 
@@ -55,12 +55,12 @@ module _ (entries : Numbered) (numbers : Numbers) (next : ℕ)
     (roll : IsRoll entries numbers next) where
   -- the number of an endpoint's ID is its own
   number_known : (n : ℕ) (e : EndpointParts) → at_number entries n ≡ Some e
-      → number_of numbers e.id ≡ Some n
+      → number_of_id numbers e.id ≡ Some n
   number_known n e there =
-      by (number_of numbers e.id) refl
+      by (number_of_id numbers e.id) refl
       (roll.numbered e.id n ∙ ap (found_with_id e.id) there ∙ nat_list_eq_equiv.refl e.id)
     where
-      by : (known : Option ℕ) → number_of numbers e.id ≡ known → is_number n known ≡ true
+      by : (known : Option ℕ) → number_of_id numbers e.id ≡ known → is_number n known ≡ true
           → known ≡ Some n
       by None k h = absurd (both_ways false refl h)
       by (Some m) k h = ap (λ x. Some x) (same_number m n (unsigned_tied m n ∙ h))

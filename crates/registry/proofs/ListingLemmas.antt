@@ -5,7 +5,7 @@ use Rattle.std.specs.Cmp.{unsigned_tied}
 use Rattle.std.proofs.lemmas.Bool.{both_ways}
 use Rattle.registry.specs.Endpoint.{EndpointParts}
 use Rattle.registry.specs.Roll.{Numbered, at_number, IsSetAt}
-use Rattle.registry.specs.Served.{Place, Places, is_among, is_of, found_serving, Enters, MayEnter, Leaves, IsNext}
+use Rattle.registry.specs.Served.{Place, Places, serves_at, is_of, found_serving, Enters, MayEnter, Leaves, IsNext}
 use Rattle.registry.specs.Listing.{AreServed, NoneServes, IsNextServing}
 use Rattle.registry.proofs.RollLemmas.{same_number, number_itself}
 
@@ -23,9 +23,9 @@ pub may_enter : (old new : Places) (n : ℕ) (e : EndpointParts) → Enters old 
 may_enter old new n e enters place = by (is_of n (Some e) place) refl (enters place)
   where
     by : (b : Bool) → is_of n (Some e) place ≡ b
-        → is_among new place ≡ (if b then true else is_among old place)
-        → (is_among new place ≡ is_among old place)
-        ⊎ ((is_among new place ≡ true) × (is_of n (Some e) place ≡ true))
+        → serves_at new place ≡ (if b then true else serves_at old place)
+        → (serves_at new place ≡ serves_at old place)
+        ⊎ ((serves_at new place ≡ true) × (is_of n (Some e) place ≡ true))
     by true known there = inr (there, known)
     by false known there = inl there
 
@@ -39,8 +39,8 @@ taken_back old mid new entries n e served enters leaves place =
     (found_serving (at_number entries n) place.0 place.1) refl (enters place)
   where
     -- the place is of this number
-    here : (f a : Bool) → (is_among mid place ≡ a) ⊎ ((is_among mid place ≡ true) × (f ≡ true))
-        → (if (f && not a) then false else is_among mid place) ≡ a
+    here : (f a : Bool) → (serves_at mid place ≡ a) ⊎ ((serves_at mid place ≡ true) × (f ≡ true))
+        → (if (f && not a) then false else serves_at mid place) ≡ a
     here true true (inl s) = s
     here true true (inr s) = s.0
     here true false s = refl
@@ -52,24 +52,24 @@ taken_back old mid new entries n e served enters leaves place =
     by : (b : Bool) → (n == place.2) ≡ b → (f : Bool)
         → found_serving (Some e) place.0 place.1 ≡ f → (a : Bool)
         → found_serving (at_number entries n) place.0 place.1 ≡ a
-        → (is_among mid place ≡ is_among old place)
-        ⊎ ((is_among mid place ≡ true)
+        → (serves_at mid place ≡ serves_at old place)
+        ⊎ ((serves_at mid place ≡ true)
         × (((n == place.2) && found_serving (Some e) place.0 place.1) ≡ true))
         → (if (((n == place.2) && found_serving (Some e) place.0 place.1)
         && not ((n == place.2) && found_serving (at_number entries n) place.0 place.1)) then false
-        else is_among mid place)
+        else serves_at mid place)
         ≡ found_serving (at_number entries place.2) place.0 place.1
     by false p f q a r (inl same) =
         ap (λ b. if ((b && found_serving (Some e) place.0 place.1)
         && not (b && found_serving (at_number entries n) place.0 place.1)) then false
-        else is_among mid place) p ∙ same ∙ served place
+        else serves_at mid place) p ∙ same ∙ served place
     by false p f q a r (inr more) =
         absurd (both_ways false refl
         (ap (λ b. b && found_serving (Some e) place.0 place.1) (sym p) ∙ more.1))
     by true p f q a r (inl same) =
         ap (λ b. if ((b && found_serving (Some e) place.0 place.1)
         && not (b && found_serving (at_number entries n) place.0 place.1)) then false
-        else is_among mid place) p
+        else serves_at mid place) p
         ∙ here (found_serving (Some e) place.0 place.1)
         (found_serving (at_number entries n) place.0 place.1)
         (inl (same ∙ served place ∙ at_place entries n place p))
@@ -77,7 +77,7 @@ taken_back old mid new entries n e served enters leaves place =
     by true p f q a r (inr more) =
         ap (λ b. if ((b && found_serving (Some e) place.0 place.1)
         && not (b && found_serving (at_number entries n) place.0 place.1)) then false
-        else is_among mid place) p
+        else serves_at mid place) p
         ∙ here (found_serving (Some e) place.0 place.1)
         (found_serving (at_number entries n) place.0 place.1)
         (inr (more.0, ap (λ b. b && found_serving (Some e) place.0 place.1) (sym p) ∙ more.1))
@@ -112,21 +112,23 @@ settled old mid new entries after n e served enters set leaves place =
 
     by : (b : Bool) → (n == place.2) ≡ b
         → (if (is_of n (at_number entries n) place && not (is_of n (Some e) place)) then false
-        else (if is_of n (Some e) place then true else is_among old place))
+        else (if is_of n (Some e) place then true else serves_at old place))
         ≡ found_serving (at_number after place.2) place.0 place.1
     by false p =
         ap (λ b. if ((b && found_serving (at_number entries n) place.0 place.1)
         && not (b && found_serving (Some e) place.0 place.1)) then false
-        else (if (b && found_serving (Some e) place.0 place.1) then true else is_among old place)) p
+        else (if (b && found_serving (Some e) place.0 place.1) then true else serves_at old place))
+        p
         ∙ served place
         ∙ ap (λ f. found_serving f place.0 place.1)
         (sym (set_there entries after n (Some e) set place.2 false p))
     by true p =
         ap (λ b. if ((b && found_serving (at_number entries n) place.0 place.1)
         && not (b && found_serving (Some e) place.0 place.1)) then false
-        else (if (b && found_serving (Some e) place.0 place.1) then true else is_among old place)) p
+        else (if (b && found_serving (Some e) place.0 place.1) then true else serves_at old place))
+        p
         ∙ here (found_serving (Some e) place.0 place.1)
-        (found_serving (at_number entries n) place.0 place.1) (is_among old place)
+        (found_serving (at_number entries n) place.0 place.1) (serves_at old place)
         (served place ∙ at_place entries n place p)
         ∙ ap (λ f. found_serving f place.0 place.1)
         (sym (set_there entries after n (Some e) set place.2 true p))
@@ -144,18 +146,18 @@ left_out old new entries after n served set leaves place =
 
     by : (b : Bool) → (n == place.2) ≡ b
         → (if (is_of n (at_number entries n) place && not (is_of n None place)) then false
-        else is_among old place)
+        else serves_at old place)
         ≡ found_serving (at_number after place.2) place.0 place.1
     by false p =
         ap (λ b. if ((b && found_serving (at_number entries n) place.0 place.1)
-        && not (b && false)) then false else is_among old place) p
+        && not (b && false)) then false else serves_at old place) p
         ∙ served place
         ∙ ap (λ f. found_serving f place.0 place.1)
         (sym (set_there entries after n None set place.2 false p))
     by true p =
         ap (λ b. if ((b && found_serving (at_number entries n) place.0 place.1)
-        && not (b && false)) then false else is_among old place) p
-        ∙ here (found_serving (at_number entries n) place.0 place.1) (is_among old place)
+        && not (b && false)) then false else serves_at old place) p
+        ∙ here (found_serving (at_number entries n) place.0 place.1) (serves_at old place)
         (served place ∙ at_place entries n place p)
         ∙ ap (λ f. found_serving f place.0 place.1)
         (sym (set_there entries after n None set place.2 true p))
@@ -174,7 +176,7 @@ when_err (Err e) h k = h
 pub next_serves : (places : Places) (entries : Numbered) (zone prefix : List ℕ) (from : ℕ)
     → AreServed places entries → (found : Option ℕ)
     → MatchOption found
-    ((number : ℕ) → from ≤ number → is_among places (zone, prefix, number) ≡ false)
+    ((number : ℕ) → from ≤ number → serves_at places (zone, prefix, number) ≡ false)
     (IsNext places zone prefix from)
     → MatchOption found (NoneServes entries zone prefix from)
     (IsNextServing entries zone prefix from)

@@ -12,7 +12,7 @@ use Rattle.registry.specs.Gateway.{serves, is_candidate}
 use Rattle.registry.specs.RegistryIndex.{kept_endpoint_of}
 use Rattle.registry.specs.Roll.{Numbered, at_number, by_id, found_with_id, IsNumberFor}
 use Rattle.registry.specs.Served.{found_serving}
-use Rattle.registry.specs.Chosen.{Named, is_other_than, IsBest, IsBestAt, comes_first, first_of, is_first, is_greater}
+use Rattle.registry.specs.Chosen.{Named, is_other_than, IsBestGateway, IsBestAt, comes_first, first_of, is_first, is_greater}
 use Rattle.registry.proofs.LookUpLemmas.{entry_id}
 use Rattle.registry.proofs.RollLemmas.{not_missed}
 use Rattle.registry.proofs.ShelfLemmas.{Keyed-by_id}
@@ -72,7 +72,8 @@ module _ (entries : Numbered) (named : Named) (zone prefix : List ℕ) where
   -- another test that says the same
   pub retest : (test other : EndpointParts → Bool)
       → ((n : ℕ) (e : EndpointParts) → at_number entries n ≡ Some e → test e ≡ other e)
-      → (best : Option (ℕ × ℕ)) → IsBest entries named test best → IsBest entries named other best
+      → (best : Option (ℕ × ℕ)) → IsBestGateway entries named test best → IsBestGateway entries
+      named other best
   retest test other agree None h = λ n e there. sym (agree n e there) ∙ h n e there
   retest test other agree (Some best) h = record {
     endpoint = h.endpoint;
@@ -83,8 +84,8 @@ module _ (entries : Numbered) (named : Named) (zone prefix : List ℕ) where
   }
 
   -- with no one left, each candidate was looked at
-  pub all_looked_at : (best : Option (ℕ × ℕ)) → IsBest entries named (test_of []) best
-      → IsBest entries named is_able best
+  pub all_looked_at : (best : Option (ℕ × ℕ)) → IsBestGateway entries named (test_of []) best
+      → IsBestGateway entries named is_able best
   all_looked_at best h = retest (test_of []) is_able (λ n e there. by (is_able e)) best h
     where
       by : (b : Bool) → (b && true) ≡ b
@@ -106,7 +107,8 @@ module _ (entries : Numbered) (named : Named) (zone prefix : List ℕ) where
 
   pub drop_unknown : (id : List ℕ) → kept_endpoint_of (by_id entries) id ≡ None
       → (rest : List (List ℕ)) (best : Option (ℕ × ℕ))
-      → IsBest entries named (test_of (id ∷ rest)) best → IsBest entries named (test_of rest) best
+      → IsBestGateway entries named (test_of (id ∷ rest)) best → IsBestGateway entries named
+      (test_of rest) best
   drop_unknown id none rest best h =
       retest (test_of (id ∷ rest)) (test_of rest)
       (λ n e there. others_same id rest e
@@ -178,18 +180,18 @@ module _ (entries : Numbered) (named : Named) (zone prefix : List ℕ) where
             inr (priority_of_own f own ∙ same.0, subst (λ m. b.1 ≤ m) (sym place) same.1)
 
   pub keeps_greater : (id : List ℕ) (rest : List (List ℕ)) (best : Option (ℕ × ℕ))
-      → IsBest entries named (test_of (id ∷ rest)) best
+      → IsBestGateway entries named (test_of (id ∷ rest)) best
       → is_greater best (named_priority named id) ≡ true
-      → IsBest entries named (test_of rest) best
+      → IsBestGateway entries named (test_of rest) best
   keeps_greater id rest None h less = cc
   keeps_greater id rest (Some b) h less = stays_greater id rest b h less
 
   pub keeps_first : (next : ℕ) (id : List ℕ) (number : ℕ)
       → IsNumberFor (record { entries = entries; next = next }) id number
       → (rest : List (List ℕ)) (best : Option (ℕ × ℕ))
-      → IsBest entries named (test_of (id ∷ rest)) best
+      → IsBestGateway entries named (test_of (id ∷ rest)) best
       → is_first best (named_priority named id, number) ≡ true
-      → IsBest entries named (test_of rest) best
+      → IsBestGateway entries named (test_of rest) best
   keeps_first next id number known rest None h first = cc
   keeps_first next id number known rest (Some b) h first =
       stays_before id rest b h next number known first
@@ -197,7 +199,7 @@ module _ (entries : Numbered) (named : Named) (zone prefix : List ℕ) where
   module _ (next : ℕ) (id : List ℕ) (number : ℕ)
       (known : IsNumberFor (record { entries = entries; next = next }) id number)
       (rest : List (List ℕ)) (best : Option (ℕ × ℕ))
-      (h : IsBest entries named (test_of (id ∷ rest)) best) where
+      (h : IsBestGateway entries named (test_of (id ∷ rest)) best) where
     -- who has the ID stands under the number
     under : (n : ℕ) (e : EndpointParts) → at_number entries n ≡ Some e → bytes_eq e.id id ≡ true
         → n ≡ number
@@ -218,7 +220,7 @@ module _ (entries : Numbered) (named : Named) (zone prefix : List ℕ) where
 
     pub drop_failing : (found_serving (at_number entries number) zone prefix
         && nat_lt 0 (named_priority named id)) ≡ false
-        → IsBest entries named (test_of rest) best
+        → IsBestGateway entries named (test_of rest) best
     drop_failing fails =
         retest (test_of (id ∷ rest)) (test_of rest)
         (λ n e there. others_same id rest e (λ own. sym (able n e there own) ∙ fails)) best h
@@ -297,7 +299,8 @@ module _ (entries : Numbered) (named : Named) (zone prefix : List ℕ) where
               (no_better (named_priority named id) a b number first))
           by n f at p false q = old.greatest n f at (as_before f q ∙ p)
 
-      pub take_new : (before : Option (ℕ × ℕ)) → IsBest entries named (test_of (id ∷ rest)) before
+      pub take_new : (before : Option (ℕ × ℕ)) → IsBestGateway entries named (test_of (id ∷ rest))
+          before
           → IsBestAt entries named (test_of rest)
           (first_of before (named_priority named id, number)).0
           (first_of before (named_priority named id, number)).1

@@ -20,7 +20,7 @@ use Rattle.std.proofs.lemmas.Map.Keys.{sorted_tail}
 use Rattle.indexmap.specs.IndexMap.{insert_entry}
 use Rattle.registry.specs.Endpoint.{EndpointParts}
 use Rattle.registry.specs.RegistryIndex.{Entries, kept_endpoint_of}
-use Rattle.registry.specs.Roll.{Numbered, Numbers, at_number, number_of, by_id, is_number, found_with_id, IsRoll, IsNumberFor, IsPut, IsSetAt}
+use Rattle.registry.specs.Roll.{Numbered, Numbers, at_number, number_of_id, by_id, is_number, found_with_id, IsRoll, IsNumberFor, IsPut, IsSetAt}
 use Rattle.registry.proofs.RollLemmas.{same_number, number_itself, each_entry, distinct_numbers, distinct_ids, own_endpoint}
 
 -- ---- a registration, as a list
@@ -151,17 +151,17 @@ module _ (entries : Numbered) (numbers : Numbers) (next : ℕ)
       (new : Numbered) (all : Numbers) (after : ℕ)
       (set : IsSetAt entries new n (Some e))
       (led : (id : List ℕ)
-      → number_of all id ≡ cond (bytes_eq e.id id) (Some n) (number_of numbers id))
+      → number_of_id all id ≡ cond (bytes_eq e.id id) (Some n) (number_of_id numbers id))
     where
       numbered_after : (id : List ℕ) (m : ℕ)
-          → is_number m (number_of all id) ≡ found_with_id id (at_number new m)
+          → is_number m (number_of_id all id) ≡ found_with_id id (at_number new m)
       numbered_after id m =
           ap (is_number m) (led id)
           ∙ by (bytes_eq e.id id) refl (is_at (nat_cmp n) m) refl
           ∙ ap (found_with_id id) (sym (set m))
         where
           by : (a : Bool) → bytes_eq e.id id ≡ a → (b : Bool) → is_at (nat_cmp n) m ≡ b
-              → is_number m (cond a (Some n) (number_of numbers id))
+              → is_number m (cond a (Some n) (number_of_id numbers id))
               ≡ found_with_id id (cond b (Some e) (at_number entries m))
           by true p true q = sym (unsigned_tied n m) ∙ q ∙ sym p
           by true p false q =
@@ -250,7 +250,7 @@ put_by_id entries new numbers all next after e n before h put roll =
 -- ---- the steps of a registration
 module _ (entries new : Numbered) (numbers reserved : Numbers) (next : ℕ)
     (roll : IsRoll entries numbers next)
-    (reordered : (id : List ℕ) → number_of reserved id ≡ number_of numbers id) where
+    (reordered : (id : List ℕ) → number_of_id reserved id ≡ number_of_id numbers id) where
   -- only the room has changed
   pub roll_reordered : new ≡ entries → IsRoll new reserved next
   roll_reordered same = subst (λ es. IsRoll es reserved next) (sym same) (record {
@@ -263,14 +263,14 @@ module _ (entries new : Numbered) (numbers reserved : Numbers) (next : ℕ)
   module _ (all : Numbers) (e : EndpointParts) (id : List ℕ) (n : ℕ) (own : id ≡ e.id)
       (h : IsNumberFor (record { entries = entries; next = next }) e.id n)
       (set : IsSetAt entries new n (Some e))
-      (led : (other : List ℕ) → number_of all other
-      ≡ cond (bytes_eq id other) (Some n) (number_of reserved other))
+      (led : (other : List ℕ) → number_of_id all other
+      ≡ cond (bytes_eq id other) (Some n) (number_of_id reserved other))
       (sorted : IsStrictlySortedBy nat_cmp (keys_of new)) where
     pub roll_put : (after : ℕ) → next ≤ after → n < after → IsRoll new all after
     roll_put after grown within =
         roll_after_put entries numbers next roll e n h new all after set
         (λ other. led other
-        ∙ ap (λ x. cond (bytes_eq x other) (Some n) (number_of reserved other)) own
+        ∙ ap (λ x. cond (bytes_eq x other) (Some n) (number_of_id reserved other)) own
         ∙ ap (cond (bytes_eq e.id other) (Some n)) (reordered other)) sorted grown within
 
     pub put_among : new ≡ tree.insert_entry nat_cmp entries n e

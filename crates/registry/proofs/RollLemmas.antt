@@ -17,7 +17,7 @@ use Rattle.std.proofs.lemmas.Map.Keys.{IsDistinct-from_sorted, IsDistinct-tail}
 use Rattle.registry.specs.Endpoint.{EndpointParts}
 use Rattle.registry.specs.Registration.{has_id}
 use Rattle.registry.specs.RegistryIndex.{kept_endpoint_of}
-use Rattle.registry.specs.Roll.{Numbered, Numbers, at_number, number_of, by_id, is_number, found_with_id, IsRoll, IsNumberFor}
+use Rattle.registry.specs.Roll.{Numbered, Numbers, at_number, number_of_id, by_id, is_number, found_with_id, IsRoll, IsNumberFor}
 
 -- ---- numbers
 same : ℕ → ℕ → Bool
@@ -129,7 +129,7 @@ module _ (entries : Numbered) (numbers : Numbers) (next : ℕ)
   own_endpoint id n own (Some g) at P f = f g at (ap (found_with_id id) (sym at) ∙ own)
 
   -- the endpoint with an ID stands under the number of that ID
-  pub kept_under : (id : List ℕ) (number : ℕ) → number_of numbers id ≡ Some number
+  pub kept_under : (id : List ℕ) (number : ℕ) → number_of_id numbers id ≡ Some number
       → kept_endpoint_of (by_id entries) id ≡ at_number entries number
   kept_under id number known =
       by (at_number entries number) refl (kept_endpoint_of (by_id entries) id) refl
@@ -145,14 +145,14 @@ module _ (entries : Numbered) (numbers : Numbers) (next : ℕ)
           absurd (not_missed entries number id g at (ap (found_with_id id) (sym at) ∙ own) k)
       by (Some g) at (Some f) k =
           let under = stands_under entries (distinct_numbers entries roll.sorted) id f k in
-          let found : is_number under.number (number_of numbers id) ≡ true =
+          let found : is_number under.number (number_of_id numbers id) ≡ true =
           roll.numbered id under.number ∙ ap (found_with_id id) under.there ∙ under.own in
           let one : number ≡ under.number = same_number number under.number
           (unsigned_tied number under.number ∙ ap (is_number under.number) (sym known) ∙ found) in
           sym under.there ∙ ap (at_number entries) (sym one) ∙ at
 
   -- without a number there is no endpoint
-  pub kept_nowhere : (id : List ℕ) → number_of numbers id ≡ None
+  pub kept_nowhere : (id : List ℕ) → number_of_id numbers id ≡ None
       → kept_endpoint_of (by_id entries) id ≡ None
   kept_nowhere id unknown = by (kept_endpoint_of (by_id entries) id) refl
     where
@@ -167,14 +167,14 @@ module _ (entries : Numbered) (numbers : Numbers) (next : ℕ)
 
   -- an ID is that of an endpoint exactly if it has a number
   pub known_is_kept : (id : List ℕ)
-      → is_some (number_of numbers id) ≡ is_some (kept_endpoint_of (by_id entries) id)
-  known_is_kept id = by (number_of numbers id) refl
+      → is_some (number_of_id numbers id) ≡ is_some (kept_endpoint_of (by_id entries) id)
+  known_is_kept id = by (number_of_id numbers id) refl
     where
       there : (at : Option EndpointParts) → found_with_id id at ≡ true → is_some at ≡ true
       there None h = absurd (both_ways false refl h)
       there (Some g) h = refl
 
-      by : (o : Option ℕ) → number_of numbers id ≡ o
+      by : (o : Option ℕ) → number_of_id numbers id ≡ o
           → is_some o ≡ is_some (kept_endpoint_of (by_id entries) id)
       by None h = sym (ap is_some (kept_nowhere id h))
       by (Some n) h =
@@ -184,7 +184,7 @@ module _ (entries : Numbered) (numbers : Numbers) (next : ℕ)
           sym (ap is_some (kept_under id n h) ∙ there (at_number entries n) own)
 
   -- the number for an ID
-  pub known_number : (id : List ℕ) (number : ℕ) → number_of numbers id ≡ Some number
+  pub known_number : (id : List ℕ) (number : ℕ) → number_of_id numbers id ≡ Some number
       → IsNumberFor (record { entries = entries; next = next }) id number
   known_number id number known = record {
     only = λ other own.
@@ -196,7 +196,7 @@ module _ (entries : Numbered) (numbers : Numbers) (next : ℕ)
   }
 
   -- a number is never greater than the next one
-  pub number_within : (id : List ℕ) (number : ℕ) → number_of numbers id ≡ Some number
+  pub number_within : (id : List ℕ) (number : ℕ) → number_of_id numbers id ≡ Some number
       → number < next
   number_within id number known =
       by (at_number entries number) refl
@@ -212,7 +212,7 @@ module _ (entries : Numbered) (numbers : Numbers) (next : ℕ)
   one_number : (n m : ℕ) (f g : EndpointParts) → at_number entries n ≡ Some f
       → at_number entries m ≡ Some g → bytes_eq f.id g.id ≡ true → is_at (nat_cmp n) m ≡ true
   one_number n m f g at_n at_m alike =
-      by (number_of numbers g.id)
+      by (number_of_id numbers g.id)
       (roll.numbered g.id n ∙ ap (found_with_id g.id) at_n ∙ alike)
       (roll.numbered g.id m ∙ ap (found_with_id g.id) at_m ∙ nat_list_eq_equiv.refl g.id)
     where
@@ -254,7 +254,7 @@ distinct_ids entries numbers next roll =
 
 -- what is known of the number of an ID
 pub known_or_not : (entries : Numbered) (numbers : Numbers) (next : ℕ) → IsRoll entries numbers next
-    → (id : List ℕ) (found : Option ℕ) → number_of numbers id ≡ found
+    → (id : List ℕ) (found : Option ℕ) → number_of_id numbers id ≡ found
     → MatchOption found (kept_endpoint_of (by_id entries) id ≡ None)
     (λ number. (IsNumberFor (record { entries = entries; next = next }) id number)
     × (kept_endpoint_of (by_id entries) id ≡ at_number entries number))

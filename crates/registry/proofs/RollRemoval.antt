@@ -14,7 +14,7 @@ use Rattle.std.proofs.lemmas.Option.{none-some}
 use Rattle.std.proofs.lemmas.Map.{lookup-remove_entry}
 use Rattle.registry.specs.Endpoint.{EndpointParts}
 use Rattle.registry.specs.RegistryIndex.{Entries, kept_endpoint_of}
-use Rattle.registry.specs.Roll.{Numbered, Numbers, at_number, number_of, by_id, is_number, found_with_id, IsRoll, IsTakenOut, IsSetAt}
+use Rattle.registry.specs.Roll.{Numbered, Numbers, at_number, number_of_id, by_id, is_number, found_with_id, IsRoll, IsTakenOut, IsSetAt}
 use Rattle.registry.proofs.RollLemmas.{each_entry, distinct_numbers, distinct_ids, own_endpoint}
 
 removed : (n : ℕ) (id : List ℕ) (entries : Numbered)
@@ -64,10 +64,10 @@ none_taken_out entries numbers next roll id none =
     (sym (none_removed id (by_id entries) none))
 
 module _ (entries new : Numbered) (numbers left : Numbers) (next : ℕ) (n : ℕ) (id : List ℕ)
-    (roll : IsRoll entries numbers next) (known : number_of numbers id ≡ Some n)
+    (roll : IsRoll entries numbers next) (known : number_of_id numbers id ≡ Some n)
     (set : IsSetAt entries new n None)
-    (led : (other : List ℕ) → number_of left other
-    ≡ cond (bytes_eq id other) None (number_of numbers other)) where
+    (led : (other : List ℕ) → number_of_id left other
+    ≡ cond (bytes_eq id other) None (number_of_id numbers other)) where
   -- the number is that of the ID
   tied : (m : ℕ) → found_with_id id (at_number entries m) ≡ is_at (nat_cmp n) m
   tied m = sym (roll.numbered id m) ∙ ap (is_number m) known ∙ sym (unsigned_tied n m)
@@ -80,14 +80,14 @@ module _ (entries new : Numbered) (numbers left : Numbers) (next : ℕ) (n : ℕ
       by false at = roll.below m f at
 
   numbered_left : (other : List ℕ) (m : ℕ)
-      → is_number m (number_of left other) ≡ found_with_id other (at_number new m)
+      → is_number m (number_of_id left other) ≡ found_with_id other (at_number new m)
   numbered_left other m =
       ap (is_number m) (led other)
       ∙ by (bytes_eq id other) refl (is_at (nat_cmp n) m) refl
       ∙ ap (found_with_id other) (sym (set m))
     where
       by : (a : Bool) → bytes_eq id other ≡ a → (b : Bool) → is_at (nat_cmp n) m ≡ b
-          → is_number m (cond a None (number_of numbers other))
+          → is_number m (cond a None (number_of_id numbers other))
           ≡ found_with_id other (cond b None (at_number entries m))
       by true p true q = refl
       by true p false q =

@@ -14,7 +14,7 @@ use Rattle.std.proofs.lemmas.List.{take-append-drop}
 use Rattle.registry.specs.Endpoint.{EndpointParts, has_technology}
 use Rattle.registry.specs.declared.endpoints.EndpointKind.TheVariants.{Gateway, Terminal}
 use Rattle.registry.specs.Gateway.{is_gateway}
-use Rattle.registry.specs.Served.{HasNoEmpty, KeepsOthers, Place, Places, PutsNumber, Service, found_empty, found_number, has_number, is_empty, numbers_at, same_place, same_service, is_among, Puts, found_serving, is_of, is_partly_of, Adds, MayAdd, Enters, MayEnter}
+use Rattle.registry.specs.Served.{HasNoEmpty, KeepsOthers, Place, Places, PutsNumber, Service, found_empty, found_number, has_gateway_number, numbers_at, same_place, same_service, serves_at, Puts, found_serving, is_of, is_partly_of, AddsPlaces, MayAddPlaces, Enters, MayEnter, lists_none}
 
 -- ---- the numbers of gateways
 pub not_above : (a b : ℕ) → a ≤ b → is_gt (nat_cmp a b) ≡ false
@@ -67,22 +67,22 @@ module _ (old new : Places) (service : Service) (after : Option (List ℕ))
 
 -- what a number was added to is not empty
 pub added_some : (old new : List ℕ) (number : ℕ) → PutsNumber old new number true
-    → is_empty new ≡ false
+    → lists_none new ≡ false
 added_some old new number puts =
     by new (puts number
-    ∙ ap (λ b. if b then true else has_number old number)
+    ∙ ap (λ b. if b then true else has_gateway_number old number)
     (sym (unsigned_tied number number) ∙ ap is_eq (tied_itself nat_cmp_total number)))
   where
-    by : (numbers : List ℕ) → has_number numbers number ≡ true → is_empty numbers ≡ false
+    by : (numbers : List ℕ) → has_gateway_number numbers number ≡ true → lists_none numbers ≡ false
     by [] has = absurd (both_ways false refl has)
     by (first ∷ rest) has = refl
 
 -- what a number may have been added to is not empty
 pub some_stay : {T E : Type 0} → (old new : List ℕ) (number : ℕ) (r : Result T E)
-    → OnOk r (PutsNumber old new number true) → OnErr r (new ≡ old) → is_empty old ≡ false
-    → is_empty new ≡ false
+    → OnOk r (PutsNumber old new number true) → OnErr r (new ≡ old) → lists_none old ≡ false
+    → lists_none new ≡ false
 some_stay old new number (Ok x) puts same some = added_some old new number puts
-some_stay old new number (Err e) puts same some = ap is_empty same ∙ some
+some_stay old new number (Err e) puts same some = ap lists_none same ∙ some
 
 -- the last number at a zone and a prefix was taken out, and then their entry
 module _ (old mid new : Places) (service : Service)
@@ -98,7 +98,7 @@ module _ (old mid new : Places) (service : Service)
       by false apart = ap found_empty (others other apart) ∙ whole other
 
   pub none_left : found_empty (numbers_at mid service) ≡ true → (place : Place)
-      → is_among new place ≡ is_among mid place
+      → serves_at new place ≡ serves_at mid place
   none_left empty place =
       ap (λ o. found_number o place.2) (changes (place.0, place.1))
       ∙ by (same_service service (place.0, place.1)) refl
@@ -110,7 +110,7 @@ module _ (old mid new : Places) (service : Service)
 
       by : (b : Bool) → same_service service (place.0, place.1) ≡ b
           → found_number (cond b None (numbers_at mid (place.0, place.1))) place.2
-          ≡ is_among mid place
+          ≡ serves_at mid place
       by true same =
           none (numbers_at mid service) empty place.2
           ∙ ap (λ o. found_number o place.2)
@@ -132,19 +132,19 @@ more_prefixes prefixes i next place within there =
 pub entered_more : (old mid new : Places) (number : ℕ) (zone : List ℕ)
     (prefixes : List (List ℕ)) (i : ℕ) (next : List ℕ)
     → i < length prefixes → next ≡ get_or prefixes i next
-    → ((place : Place) → is_among mid place
-    ≡ (if is_partly_of number zone (take i prefixes) place then true else is_among old place))
+    → ((place : Place) → serves_at mid place
+    ≡ (if is_partly_of number zone (take i prefixes) place then true else serves_at old place))
     → Puts mid new (zone, next, number) true
-    → (place : Place) → is_among new place
+    → (place : Place) → serves_at new place
     ≡ (if is_partly_of number zone (take (i + 1) prefixes) place then true
-    else is_among old place)
+    else serves_at old place)
 entered_more old mid new number zone prefixes i next within there before puts place =
     puts place
     ∙ ap (λ b. if same_place (zone, next, number) place then true else b) (before place)
     ∙ by (bytes_eq zone place.0) (bytes_eq next place.1) (number == place.2)
-    (list_any (bytes_eq place.1) (take i prefixes)) (is_among old place)
+    (list_any (bytes_eq place.1) (take i prefixes)) (serves_at old place)
     ∙ ap (λ l. if (number == place.2) && (bytes_eq zone place.0 && l) then true
-    else is_among old place)
+    else serves_at old place)
     (sym (more_prefixes prefixes i next place within there))
   where
     by : (z p n l o : Bool)
@@ -166,20 +166,20 @@ module _ (old mid new : Places) (number : ℕ) (zone : List ℕ) (kept : Option 
   abbrev left_of : ℕ → Place → Bool
   left_of j place =
       if is_partly_of number zone (take j prefixes) place && not (is_of number kept place)
-      then false else is_among old place
+      then false else serves_at old place
 
   module _ (within : i < length prefixes) (there : next ≡ get_or prefixes i next)
-      (before : (place : Place) → is_among mid place ≡ left_of i place) where
+      (before : (place : Place) → serves_at mid place ≡ left_of i place) where
     abbrev by_tests : (z p n l k o : Bool) → Bool
     by_tests z p n l k o = if (n && (z && (l || p))) && not (n && k) then false else o
 
     joined : (place : Place)
         → by_tests (bytes_eq zone place.0) (bytes_eq next place.1) (number == place.2)
         (list_any (bytes_eq place.1) (take i prefixes)) (found_serving kept place.0 place.1)
-        (is_among old place) ≡ left_of (i + 1) place
+        (serves_at old place) ≡ left_of (i + 1) place
     joined place =
         ap (λ l. if ((number == place.2) && (bytes_eq zone place.0 && l))
-        && not (is_of number kept place) then false else is_among old place)
+        && not (is_of number kept place) then false else serves_at old place)
         (sym (more_prefixes prefixes i next place within there))
 
     -- the tests of this very place
@@ -190,13 +190,13 @@ module _ (old mid new : Places) (number : ℕ) (zone : List ℕ) (kept : Option 
         ∙ ap (found_serving kept zone) (sym (same_text next place.1 (sym p)))
 
     pub left_more : found_serving kept zone next ≡ false → Puts mid new (zone, next, number) false
-        → (place : Place) → is_among new place ≡ left_of (i + 1) place
+        → (place : Place) → serves_at new place ≡ left_of (i + 1) place
     left_more absent puts place =
         puts place
         ∙ ap (λ b. if same_place (zone, next, number) place then false else b) (before place)
         ∙ by (bytes_eq zone place.0) (bytes_eq next place.1) (number == place.2)
         (list_any (bytes_eq place.1) (take i prefixes)) (found_serving kept place.0 place.1)
-        (is_among old place) (λ z p. here place z p ∙ absent)
+        (serves_at old place) (λ z p. here place z p ∙ absent)
         ∙ joined place
       where
         by : (z p n l k o : Bool) → (z ≡ true → p ≡ true → k ≡ false)
@@ -217,12 +217,12 @@ module _ (old mid new : Places) (number : ℕ) (zone : List ℕ) (kept : Option 
         by true true true l true o f = absurd (both_ways true (f refl refl) refl)
 
     pub kept_more : found_serving kept zone next ≡ true
-        → (place : Place) → is_among mid place ≡ left_of (i + 1) place
+        → (place : Place) → serves_at mid place ≡ left_of (i + 1) place
     kept_more present place =
         before place
         ∙ by (bytes_eq zone place.0) (bytes_eq next place.1) (number == place.2)
         (list_any (bytes_eq place.1) (take i prefixes)) (found_serving kept place.0 place.1)
-        (is_among old place) (λ z p. here place z p ∙ present)
+        (serves_at old place) (λ z p. here place z p ∙ present)
         ∙ joined place
       where
         by : (z p n l k o : Bool) → (z ≡ true → p ≡ true → k ≡ true)
@@ -256,38 +256,39 @@ terminal_places e number kind place =
     by false = refl
 
 pub gateway_enters : (e : EndpointParts) (number : ℕ) (old new : Places) → e.kind ≡ Gateway
-    → Adds old new number e.zone e.technologies → Enters old new number e
+    → AddsPlaces old new number e.zone e.technologies → Enters old new number e
 gateway_enters e number old new kind adds place =
     adds place
-    ∙ ap (λ b. if b then true else is_among old place) (gateway_places e number kind place)
+    ∙ ap (λ b. if b then true else serves_at old place) (gateway_places e number kind place)
 
 pub gateway_may_enter : (e : EndpointParts) (number : ℕ) (old new : Places) → e.kind ≡ Gateway
-    → MayAdd old new number e.zone e.technologies → MayEnter old new number e
+    → MayAddPlaces old new number e.zone e.technologies → MayEnter old new number e
 gateway_may_enter e number old new kind adds place = by (adds place)
   where
-    by : (is_among new place ≡ is_among old place)
-        ⊎ ((is_among new place ≡ true)
+    by : (serves_at new place ≡ serves_at old place)
+        ⊎ ((serves_at new place ≡ true)
         × (is_partly_of number e.zone e.technologies place ≡ true))
-        → (is_among new place ≡ is_among old place)
-        ⊎ ((is_among new place ≡ true) × (is_of number (Some e) place ≡ true))
+        → (serves_at new place ≡ serves_at old place)
+        ⊎ ((serves_at new place ≡ true) × (is_of number (Some e) place ≡ true))
     by (inl same) = inl same
     by (inr more) = inr (more.0, sym (gateway_places e number kind place) ∙ more.1)
 
 pub terminal_enters : (e : EndpointParts) (number : ℕ) (old : Places) → e.kind ≡ Terminal
     → Enters old old number e
 terminal_enters e number old kind place =
-    ap (λ b. if b then true else is_among old place) (sym (terminal_places e number kind place))
+    ap (λ b. if b then true else serves_at old place) (sym (terminal_places e number kind place))
 
 -- some prefixes of a list
 pub part_added : (old new : Places) (number : ℕ) (zone : List ℕ) (prefixes : List (List ℕ))
-    (i : ℕ) → Adds old new number zone (take i prefixes) → MayAdd old new number zone prefixes
+    (i : ℕ) → AddsPlaces old new number zone (take i prefixes) → MayAddPlaces old new number zone
+    prefixes
 part_added old new number zone prefixes i adds place =
     by (is_partly_of number zone (take i prefixes) place) refl (adds place)
   where
     by : (b : Bool) → is_partly_of number zone (take i prefixes) place ≡ b
-        → is_among new place ≡ (if b then true else is_among old place)
-        → (is_among new place ≡ is_among old place)
-        ⊎ ((is_among new place ≡ true) × (is_partly_of number zone prefixes place ≡ true))
+        → serves_at new place ≡ (if b then true else serves_at old place)
+        → (serves_at new place ≡ serves_at old place)
+        ⊎ ((serves_at new place ≡ true) × (is_partly_of number zone prefixes place ≡ true))
     by false known there = inl there
     by true known there =
         let parts = all (number == place.2) (bytes_eq zone place.0)

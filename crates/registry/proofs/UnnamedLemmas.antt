@@ -1,4 +1,4 @@
--- The first gateway that is not named, and the usual priority that it has.
+-- The first gateway that is not named, and the default priority that it has.
 use Rattle.std.proofs.Common.{◌≡◌, inr, ℕ, ◌+◌, ◌<◌, ◌≤◌, ◌==◌, Bool, true, false, not, cond, ◌&&◌, ◌||◌, nat_lt, List, [], ◌∷◌, refl, sym, ap, ◌∙◌, arith}
 use Rattle.std.specs.Prelude.{Option, Some, None, is_some, unwrap_or, bytes_eq}
 use Rattle.std.specs.List.{list_any}
@@ -6,14 +6,14 @@ use Rattle.std.specs.Map.{keys_of, lookup}
 use Rattle.std.proofs.lemmas.Bool.{both_ways, and_parts}
 use Rattle.std.proofs.lemmas.Bool.Decides.{nat_tests}
 use Rattle.std.proofs.lemmas.Option.{same_Some}
-use Rattle.compiler.specs.declared.plans.TheConstants.{USUAL_GATEWAY_PRIORITY}
+use Rattle.compiler.specs.declared.plans.TheConstants.{DEFAULT_GATEWAY_PRIORITY}
 use Rattle.compiler.specs.Priority.{named_priority}
 use Rattle.registry.specs.Endpoint.{EndpointParts}
 use Rattle.registry.specs.Gateway.{serves, is_candidate}
 use Rattle.registry.specs.Roll.{Numbered, at_number}
 use Rattle.registry.specs.Served.{found_serving}
 use Rattle.registry.specs.Listing.{NoneServes, IsNextServing}
-use Rattle.registry.specs.Chosen.{Named, is_other_than, IsBest, IsBestAt}
+use Rattle.registry.specs.Chosen.{Named, is_other_than, IsBestGateway, IsBestAt}
 
 -- whether an ID is named
 pub is_named : (id : List ℕ) (named : Named)
@@ -27,14 +27,14 @@ is_named id (e ∷ es) = by (bytes_eq id e.0) (is_named id es)
     by true rest = refl
     by false rest = rest
 
--- who is not named has the usual priority
-pub usual_priority : (id : List ℕ) (named : Named)
+-- who is not named has the default priority
+pub default_priority : (id : List ℕ) (named : Named)
     → list_any (bytes_eq id) (keys_of named) ≡ false
-    → named_priority named id ≡ USUAL_GATEWAY_PRIORITY
-usual_priority id named h = by (lookup (bytes_eq id) named) (is_named id named ∙ h)
+    → named_priority named id ≡ DEFAULT_GATEWAY_PRIORITY
+default_priority id named h = by (lookup (bytes_eq id) named) (is_named id named ∙ h)
   where
     by : (found : Option ℕ) → is_some found ≡ false
-        → unwrap_or found USUAL_GATEWAY_PRIORITY ≡ USUAL_GATEWAY_PRIORITY
+        → unwrap_or found DEFAULT_GATEWAY_PRIORITY ≡ DEFAULT_GATEWAY_PRIORITY
     by None k = refl
     by (Some p) k = absurd (both_ways true k refl)
 
@@ -92,7 +92,7 @@ module _ (entries : Numbered) (named : Named) (zone prefix : List ℕ) where
 
   -- none is left
   pub none_unnamed : (from : ℕ) → NoneServes entries zone prefix from → AllNamedBefore from
-      → IsBest entries named (test_of (keys_of named)) None
+      → IsBestGateway entries named (test_of (keys_of named)) None
   none_unnamed from none before n e there = by (nat_lt n from) refl
     where
       by : (b : Bool) → nat_lt n from ≡ b → test_of (keys_of named) e ≡ false
@@ -106,10 +106,10 @@ module _ (entries : Numbered) (named : Named) (zone prefix : List ℕ) where
   pub found_unnamed : (from number : ℕ) (e : EndpointParts)
       → IsNextServing entries zone prefix from number → at_number entries number ≡ Some e
       → is_some (lookup (bytes_eq e.id) named) ≡ false → AllNamedBefore from
-      → IsBestAt entries named (test_of (keys_of named)) USUAL_GATEWAY_PRIORITY number
+      → IsBestAt entries named (test_of (keys_of named)) DEFAULT_GATEWAY_PRIORITY number
   found_unnamed from number e next there unnamed before =
       let absent = sym (is_named e.id named) ∙ unnamed in
-      let its = usual_priority e.id named absent in
+      let its = default_priority e.id named absent in
       record {
         endpoint = e;
         there = there;
@@ -122,7 +122,7 @@ module _ (entries : Numbered) (named : Named) (zone prefix : List ℕ) where
         greatest = λ n f at p.
             let both = and_parts (is_able f) (not (list_any (bytes_eq f.id) (keys_of named))) p in
             inr (
-              usual_priority f.id named (off (list_any (bytes_eq f.id) (keys_of named)) both.1),
+              default_priority f.id named (off (list_any (bytes_eq f.id) (keys_of named)) both.1),
               low n f at p (nat_lt n number) refl,
             );
       }

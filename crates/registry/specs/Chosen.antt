@@ -29,10 +29,10 @@ pub record IsBestAt (entries : Numbered) (named : Named) (test : EndpointParts �
       ⊎ ((named_priority named e.id ≡ priority) × (number ≤ other))
 
 -- the same, or no endpoint passes the test
-abbrev pub IsBest : Numbered → Named → (EndpointParts → Bool) → Option (ℕ × ℕ) → Type 0
-IsBest entries named test None =
+abbrev pub IsBestGateway : Numbered → Named → (EndpointParts → Bool) → Option (ℕ × ℕ) → Type 0
+IsBestGateway entries named test None =
     (number : ℕ) (e : EndpointParts) → at_number entries number ≡ Some e → test e ≡ false
-IsBest entries named test (Some best) = IsBestAt entries named test best.0 best.1
+IsBestGateway entries named test (Some best) = IsBestAt entries named test best.0 best.1
 
 -- whether a priority and a number come before another: a greater priority, or the same and no
 -- greater number

@@ -28,7 +28,7 @@ abbrev pub share_alias : EndpointParts → EndpointParts → Bool
 share_alias f e = list_any (has_alias f) e.aliases
 
 -- at most 16 aliases and 8 technology prefixes, none twice
-pub record IsWithinLimits (e : EndpointParts) : Type 0 where
+pub record KeepsCounts (e : EndpointParts) : Type 0 where
   pub aliases : length e.aliases ≤ MOST_ALIASES
   pub technologies : length e.technologies ≤ MOST_TECHNOLOGIES
   pub different_aliases : IsDistinct bytes_eq e.aliases

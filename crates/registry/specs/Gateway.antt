@@ -3,7 +3,7 @@
 use Rattle.std.specs.Prelude.{◌≡◌, ◌<◌, ◌≤◌, ℕ, Bool, true, false, ◌&&◌, nat_lt, IsTrue, List, filter, slice_get, Option, Some, bytes_eq}
 use Rattle.gk_terms.specs.Choice.{first_unbeaten}
 use Rattle.command_reader.specs.declared.commands.Command.{Command}
-use Rattle.compiler.specs.Rows.{Row}
+use Rattle.compiler.specs.Rows.{ZoneRow}
 use Rattle.compiler.specs.Priority.{priority_of}
 use Rattle.registry.specs.declared.endpoints.EndpointKind.{EndpointKind}
 use Rattle.registry.specs.declared.endpoints.EndpointKind.TheVariants.{Gateway, Terminal}
@@ -45,12 +45,12 @@ module _ (priority : List ℕ → ℕ) where
       first_unbeaten has_greater (filter (is_candidate zone prefix) endpoints)
 
 -- ---- by the priorities that the commands give for a row
-abbrev pub IsChosen : List Command → List EndpointParts → List ℕ → List ℕ → Option Row
+abbrev pub IsChosen : List Command → List EndpointParts → List ℕ → List ℕ → Option ZoneRow
     → EndpointParts → Type 0
 IsChosen commands endpoints zone prefix row chosen =
     IsChosenBy (priority_of commands row) endpoints zone prefix chosen
 
-abbrev pub gateway_of : List Command → List EndpointParts → List ℕ → List ℕ → Option Row
+abbrev pub gateway_of : List Command → List EndpointParts → List ℕ → List ℕ → Option ZoneRow
     → Option EndpointParts
 gateway_of commands endpoints zone prefix row =
     gateway_by (priority_of commands row) endpoints zone prefix

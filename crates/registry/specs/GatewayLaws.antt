@@ -1,13 +1,13 @@
 -- The gateway that is computed is the one that the relation names.
 use Rattle.std.specs.Prelude.{◌≡◌, ℕ, false, List, slice_get, Option, Some, None}
 use Rattle.command_reader.specs.declared.commands.Command.{Command}
-use Rattle.compiler.specs.Rows.{Row}
+use Rattle.compiler.specs.Rows.{ZoneRow}
 use Rattle.compiler.specs.Priority.{priority_of}
 use Rattle.registry.specs.Endpoint.{EndpointParts}
 use Rattle.registry.specs.Gateway.{IsChosen, gateway_of, is_candidate}
 
 -- no endpoint is a candidate
-abbrev pub HasNoCandidate : List Command → List EndpointParts → List ℕ → List ℕ → Option Row
+abbrev pub HasNoCandidate : List Command → List EndpointParts → List ℕ → List ℕ → Option ZoneRow
     → Type 0
 HasNoCandidate commands endpoints zone prefix row =
     (place : ℕ) (e : EndpointParts) → slice_get endpoints place ≡ Some e
@@ -17,7 +17,7 @@ HasNoCandidate commands endpoints zone prefix row =
 abbrev pub ComputedIsChosen : Type 0
 ComputedIsChosen =
     (commands : List Command) (endpoints : List EndpointParts) (zone prefix : List ℕ)
-    (row : Option Row) (e : EndpointParts)
+    (row : Option ZoneRow) (e : EndpointParts)
     → gateway_of commands endpoints zone prefix row ≡ Some e
     → IsChosen commands endpoints zone prefix row e
 
@@ -25,7 +25,7 @@ ComputedIsChosen =
 abbrev pub ChosenIsComputed : Type 0
 ChosenIsComputed =
     (commands : List Command) (endpoints : List EndpointParts) (zone prefix : List ℕ)
-    (row : Option Row) (e : EndpointParts)
+    (row : Option ZoneRow) (e : EndpointParts)
     → IsChosen commands endpoints zone prefix row e
     → gateway_of commands endpoints zone prefix row ≡ Some e
 
@@ -33,7 +33,7 @@ ChosenIsComputed =
 abbrev pub NoneWithoutCandidate : Type 0
 NoneWithoutCandidate =
     (commands : List Command) (endpoints : List EndpointParts) (zone prefix : List ℕ)
-    (row : Option Row)
+    (row : Option ZoneRow)
     → (gateway_of commands endpoints zone prefix row ≡ None
     → HasNoCandidate commands endpoints zone prefix row)
     × (HasNoCandidate commands endpoints zone prefix row

@@ -1,13 +1,13 @@
 -- Endpoints by number, and the places that their gateways serve.
 use Rattle.std.specs.Prelude.{◌≡◌, ◌<◌, ◌≤◌, ℕ, true, false, List}
-use Rattle.registry.specs.Served.{Place, Places, is_among, found_serving}
+use Rattle.registry.specs.Served.{Place, Places, serves_at, found_serving}
 use Rattle.registry.specs.Roll.{Numbered, at_number}
 
 -- a place is among the places exactly if the endpoint of its number serves there
 abbrev pub AreServed : Places → Numbered → Type 0
 AreServed places entries =
     (place : Place)
-    → is_among places place ≡ found_serving (at_number entries place.2) place.0 place.1
+    → serves_at places place ≡ found_serving (at_number entries place.2) place.0 place.1
 
 -- from this number on, no gateway serves the zone with the prefix
 abbrev pub NoneServes : Numbered → List ℕ → List ℕ → ℕ → Type 0

@@ -32,8 +32,8 @@ abbrev pub at_number : Numbered → ℕ → Option EndpointParts
 at_number entries number = lookup (is_at (nat_cmp number)) entries
 
 -- the number of an ID
-abbrev pub number_of : Numbers → List ℕ → Option ℕ
-number_of numbers id = lookup (bytes_eq id) numbers
+abbrev pub number_of_id : Numbers → List ℕ → Option ℕ
+number_of_id numbers id = lookup (bytes_eq id) numbers
 
 -- the same endpoints by ID
 abbrev pub by_id : Numbered → Entries
@@ -53,7 +53,7 @@ found_with_id id (Some e) = has_id id e
 abbrev pub AreNumbersOf : Numbers → Numbered → Type 0
 AreNumbersOf numbers entries =
     (id : List ℕ) (number : ℕ)
-    → is_number number (number_of numbers id) ≡ found_with_id id (at_number entries number)
+    → is_number number (number_of_id numbers id) ≡ found_with_id id (at_number entries number)
 
 -- the numbers ascend, each is less than the next one, and an ID leads to its endpoint
 pub record IsRoll (entries : Numbered) (numbers : Numbers) (next : ℕ) : Type 0 where

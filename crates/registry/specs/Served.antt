@@ -9,17 +9,19 @@ use Rattle.registry.specs.Gateway.{serves}
 
 -- ---- the numbers of gateways
 -- whether a number is one of these
-abbrev pub has_number : List ℕ → ℕ → Bool
-has_number numbers number = list_any (is_at (nat_cmp number)) numbers
+abbrev pub has_gateway_number : List ℕ → ℕ → Bool
+has_gateway_number numbers number = list_any (is_at (nat_cmp number)) numbers
 
-abbrev pub is_empty : List ℕ → Bool
-is_empty [] = true
-is_empty (number ∷ rest) = false
+-- whether no number is listed
+abbrev pub lists_none : List ℕ → Bool
+lists_none [] = true
+lists_none (number ∷ rest) = false
 
 -- new has `there` for that number, and for each other number what old has
 abbrev pub PutsNumber : List ℕ → List ℕ → ℕ → Bool → Type 0
 PutsNumber old new number there =
-    (other : ℕ) → has_number new other ≡ (if number == other then there else has_number old other)
+    (other : ℕ) → has_gateway_number new other ≡ (if number == other then there else
+    has_gateway_number old other)
 
 -- no number from here on passes the test
 abbrev pub HasNoneFrom : (ℕ → Bool) → ℕ → Type 0
@@ -49,12 +51,12 @@ numbers_at places service = lookup (same_service service) places
 -- whether numbers were found, and this is one of them
 abbrev pub found_number : Option (List ℕ) → ℕ → Bool
 found_number None number = false
-found_number (Some numbers) number = has_number numbers number
+found_number (Some numbers) number = has_gateway_number numbers number
 
 -- whether numbers were found, and there are none
 abbrev pub found_empty : Option (List ℕ) → Bool
 found_empty None = false
-found_empty (Some numbers) = is_empty numbers
+found_empty (Some numbers) = lists_none numbers
 
 -- a zone and a prefix that no gateway serves have no entry
 abbrev pub HasNoEmpty : Places → Type 0
@@ -75,14 +77,14 @@ abbrev pub same_place : Place → Place → Bool
 same_place x y = same_service (x.0, x.1) (y.0, y.1) && (x.2 == y.2)
 
 -- whether the gateway of a place's number serves there
-abbrev pub is_among : Places → Place → Bool
-is_among places place = found_number (numbers_at places (place.0, place.1)) place.2
+abbrev pub serves_at : Places → Place → Bool
+serves_at places place = found_number (numbers_at places (place.0, place.1)) place.2
 
 -- new has `there` for that place, and for each other place what old has
 abbrev pub Puts : Places → Places → Place → Bool → Type 0
 Puts old new place there =
     (other : Place)
-    → is_among new other ≡ (if same_place place other then there else is_among old other)
+    → serves_at new other ≡ (if same_place place other then there else serves_at old other)
 
 -- whether an endpoint was found, and it serves
 abbrev pub found_serving : Option EndpointParts → List ℕ → List ℕ → Bool
@@ -99,45 +101,45 @@ is_partly_of number zone prefixes place =
     (number == place.2) && (bytes_eq zone place.0 && list_any (bytes_eq place.1) prefixes)
 
 -- new has these places too
-abbrev pub Adds : Places → Places → ℕ → List ℕ → List (List ℕ) → Type 0
-Adds old new number zone prefixes =
-    (place : Place) → is_among new place
-    ≡ (if is_partly_of number zone prefixes place then true else is_among old place)
+abbrev pub AddsPlaces : Places → Places → ℕ → List ℕ → List (List ℕ) → Type 0
+AddsPlaces old new number zone prefixes =
+    (place : Place) → serves_at new place
+    ≡ (if is_partly_of number zone prefixes place then true else serves_at old place)
 
 -- new may have some of these places too
-abbrev pub MayAdd : Places → Places → ℕ → List ℕ → List (List ℕ) → Type 0
-MayAdd old new number zone prefixes =
-    (place : Place) → (is_among new place ≡ is_among old place)
-    ⊎ ((is_among new place ≡ true) × (is_partly_of number zone prefixes place ≡ true))
+abbrev pub MayAddPlaces : Places → Places → ℕ → List ℕ → List (List ℕ) → Type 0
+MayAddPlaces old new number zone prefixes =
+    (place : Place) → (serves_at new place ≡ serves_at old place)
+    ⊎ ((serves_at new place ≡ true) × (is_partly_of number zone prefixes place ≡ true))
 
 -- new lacks those of these places that the endpoint does not have
 abbrev pub TakesOut : Places → Places → ℕ → List ℕ → List (List ℕ)
     → Option EndpointParts → Type 0
 TakesOut old new number zone prefixes kept =
-    (place : Place) → is_among new place
+    (place : Place) → serves_at new place
     ≡ (if is_partly_of number zone prefixes place && not (is_of number kept place) then false
-    else is_among old place)
+    else serves_at old place)
 
 -- new has the places of the endpoint too
 abbrev pub Enters : Places → Places → ℕ → EndpointParts → Type 0
 Enters old new number e =
     (place : Place)
-    → is_among new place ≡ (if is_of number (Some e) place then true else is_among old place)
+    → serves_at new place ≡ (if is_of number (Some e) place then true else serves_at old place)
 
 -- new may have some places of the endpoint too
 abbrev pub MayEnter : Places → Places → ℕ → EndpointParts → Type 0
 MayEnter old new number e =
-    (place : Place) → (is_among new place ≡ is_among old place)
-    ⊎ ((is_among new place ≡ true) × (is_of number (Some e) place ≡ true))
+    (place : Place) → (serves_at new place ≡ serves_at old place)
+    ⊎ ((serves_at new place ≡ true) × (is_of number (Some e) place ≡ true))
 
 -- new lacks the places of one endpoint that the other does not have
 abbrev pub Leaves : Places → Places → ℕ → Option EndpointParts → Option EndpointParts
     → Type 0
 Leaves old new number gone kept =
-    (place : Place) → is_among new place
+    (place : Place) → serves_at new place
     ≡ (if is_of number gone place && not (is_of number kept place) then false
-    else is_among old place)
+    else serves_at old place)
 
 -- the least number from here on under which a gateway serves the zone with the prefix
 abbrev pub IsNext : Places → List ℕ → List ℕ → ℕ → ℕ → Type 0
-IsNext places zone prefix = IsLeastFrom (λ number. is_among places (zone, prefix, number))
+IsNext places zone prefix = IsLeastFrom (λ number. serves_at places (zone, prefix, number))

@@ -22,7 +22,7 @@ pub struct BriefEndpoint {
 }
 
 impl Model for BriefEndpoint {
-    ghost use Rattle.registry.specs.Endpoint.{EndpointParts, IsWithinLimits};
+    ghost use Rattle.registry.specs.Endpoint.{EndpointParts, KeepsCounts};
 
     ghost Value = { EndpointParts };
 
@@ -35,7 +35,7 @@ impl Model for BriefEndpoint {
       technologies = e.technologies.items;
     } };
 
-    ghost invariant = { λ e. IsWithinLimits (record {
+    ghost invariant = { λ e. KeepsCounts (record {
       kind = e.kind;
       id = e.id;
       zone = e.zone;

@@ -9,12 +9,12 @@ ghost use Rattle.std.specs.Map.{keys_of};
 ghost use Rattle.compiler.specs.Priority.{named_priority};
 ghost use Rattle.registry.specs.Roll.{endpoints_of};
 ghost use Rattle.registry.specs.Gateway.{gateway_by, is_candidate};
-ghost use Rattle.registry.specs.Chosen.{IsBest, comes_first, first_of, is_first, is_greater, is_other_than};
+ghost use Rattle.registry.specs.Chosen.{IsBestGateway, comes_first, first_of, is_first, is_greater, is_other_than};
 
 use crate::endpoints::Endpoint;
 use crate::listing::Listing;
 use crate::served::serves;
-use compiler::plans::USUAL_GATEWAY_PRIORITY;
+use compiler::plans::DEFAULT_GATEWAY_PRIORITY;
 use gk_terms::{Name, TechPrefix};
 use indexmap::IndexMap;
 
@@ -34,8 +34,8 @@ pub fn chosen<'a>(
     if named.is_empty() {
         return first_serving(listing, zone, prefix);
     }
-    let usual = first_unnamed(listing, zone, prefix, named);
-    let (_, number) = best_named(listing, zone, prefix, named, usual)?;
+    let unnamed = first_unnamed(listing, zone, prefix, named);
+    let (_, number) = best_named(listing, zone, prefix, named, unnamed)?;
     listing.at_number(number)
 }
 
@@ -57,7 +57,7 @@ fn first_unnamed(
     prefix: &TechPrefix,
     named: &IndexMap<Name, u8>,
 ) -> Option<(u8, u32)>
-    ensures best { IsBest listing.now.entries named.now.entries
+    ensures best { IsBestGateway listing.now.entries named.now.entries
         (is_other_than named.now.entries zone.now prefix.now (keys_of named.now.entries)) result }
     ensures sorted { IsStrictlySortedBy nat_cmp (keys_of listing.now.entries) }
 {
@@ -66,7 +66,7 @@ fn first_unnamed(
     while let Some(number) = listing.next_serving(zone, prefix, from) {
         let endpoint = listing.at_number(number)?;
         if !named.contains_key(endpoint.id()) {
-            return Some((USUAL_GATEWAY_PRIORITY, number));
+            return Some((DEFAULT_GATEWAY_PRIORITY, number));
         }
         prove!(number < end);
         from = number + 1;
@@ -80,14 +80,14 @@ fn best_named(
     zone: &Name,
     prefix: &TechPrefix,
     named: &IndexMap<Name, u8>,
-    usual: Option<(u8, u32)>,
+    unnamed: Option<(u8, u32)>,
 ) -> Option<(u8, u32)>
-    requires usual { IsBest listing.now.entries named.now.entries
-        (is_other_than named.now.entries zone.now prefix.now (keys_of named.now.entries)) usual }
-    ensures { IsBest listing.now.entries named.now.entries
+    requires unnamed { IsBestGateway listing.now.entries named.now.entries
+        (is_other_than named.now.entries zone.now prefix.now (keys_of named.now.entries)) unnamed }
+    ensures { IsBestGateway listing.now.entries named.now.entries
         (is_candidate (named_priority named.now.entries) zone.now prefix.now) result }
 {
-    let mut best = usual;
+    let mut best = unnamed;
     for id in named.keys() {
         best = with_named(listing, zone, prefix, named, id, best);
     }
@@ -104,9 +104,9 @@ fn with_named(
     best: Option<(u8, u32)>,
 ) -> Option<(u8, u32)>
     ensures { (rest : List (List ℕ)) → IsDistinct bytes_eq (id.now ∷ rest)
-        → IsBest listing.now.entries named.now.entries
+        → IsBestGateway listing.now.entries named.now.entries
         (is_other_than named.now.entries zone.now prefix.now (id.now ∷ rest)) best
-        → IsBest listing.now.entries named.now.entries
+        → IsBestGateway listing.now.entries named.now.entries
         (is_other_than named.now.entries zone.now prefix.now rest) result }
 {
     let priority = priority_of(named, id);
@@ -132,7 +132,7 @@ fn priority_of(named: &IndexMap<Name, u8>, gateway: &Name) -> u8
 {
     match named.get(gateway) {
         Some(priority) => *priority,
-        None => USUAL_GATEWAY_PRIORITY,
+        None => DEFAULT_GATEWAY_PRIORITY,
     }
 }
 

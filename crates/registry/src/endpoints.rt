@@ -22,8 +22,8 @@ pub enum EndpointKind {
 
 /// A registered endpoint: its kind, ID, zone, address, at most 16 different E.164 aliases and at
 /// most 8 different technology prefixes. What a call asks of its caller, which is the zone, stands
-/// near the beginning, in one cache line with the kind and the address. A contract sees it as
-/// `EndpointParts`.
+/// near the beginning, usually in one cache line with the kind and the address. A contract sees it
+/// as `EndpointParts`.
 #[derive(Drop)]
 pub struct Endpoint {
     pub(crate) kind: EndpointKind,
@@ -35,7 +35,7 @@ pub struct Endpoint {
 }
 
 impl Model for Endpoint {
-    ghost use Rattle.registry.specs.Endpoint.{EndpointParts, IsWithinLimits};
+    ghost use Rattle.registry.specs.Endpoint.{EndpointParts, KeepsCounts};
 
     ghost Value = { EndpointParts };
 
@@ -48,7 +48,7 @@ impl Model for Endpoint {
       technologies = e.technologies.items;
     } };
 
-    ghost invariant = { λ e. IsWithinLimits (record {
+    ghost invariant = { λ e. KeepsCounts (record {
       kind = e.kind;
       id = e.id;
       zone = e.zone;

@@ -1,7 +1,7 @@
 //! The numbers of gateways, in order.
 
 ghost use Rattle.std.specs.Prelude.{◌≡◌, [], true, false, IfOk, OnOk, OnErr, MatchOption};
-ghost use Rattle.registry.specs.Served.{HasNoneFrom, IsLeastFrom, PutsNumber, has_number, is_empty};
+ghost use Rattle.registry.specs.Served.{HasNoneFrom, IsLeastFrom, PutsNumber, has_gateway_number, lists_none};
 
 use crate::endpoint_number::EndpointNumber;
 use std::alloc::{AllocError, Global};
@@ -36,8 +36,8 @@ impl GatewayNumbers {
 
     /// The least number from this one on.
     pub fn next_from(&self, from: u32) -> Option<u32>
-        ensures { MatchOption result (HasNoneFrom (has_number self.now) from)
-            (IsLeastFrom (has_number self.now) from) }
+        ensures { MatchOption result (HasNoneFrom (has_gateway_number self.now) from)
+            (IsLeastFrom (has_gateway_number self.now) from) }
     {
         let from = EndpointNumber { number: from };
         let next = self.numbers.range(from..).next()?;
@@ -46,7 +46,7 @@ impl GatewayNumbers {
 
     /// Whether there is no number.
     pub fn is_empty(&self) -> bool
-        ensures { result ≡ is_empty self.now }
+        ensures { result ≡ lists_none self.now }
     {
         self.numbers.is_empty()
     }

@@ -2,7 +2,7 @@
 
 ghost use Rattle.std.specs.Prelude.{◌≡◌, ◌≤◌, [], true, false, Some, OnOk, OnErr, MatchOption};
 ghost use Rattle.std.specs.Option.{option_copied};
-ghost use Rattle.registry.specs.Served.{Puts, Adds, MayAdd, TakesOut, Enters, MayEnter, KeepsOthers, Leaves, IsNext, is_among, found_empty, found_serving, numbers_at};
+ghost use Rattle.registry.specs.Served.{Puts, AddsPlaces, MayAddPlaces, TakesOut, Enters, MayEnter, KeepsOthers, Leaves, IsNext, serves_at, found_empty, found_serving, numbers_at};
 
 use crate::endpoints::{Endpoint, EndpointKind};
 use crate::gateway_numbers::GatewayNumbers;
@@ -46,7 +46,7 @@ impl Served {
     pub fn next_from(&self, zone: &Name, prefix: &TechPrefix, from: u32) -> Option<u32>
         ensures { MatchOption result
             ((number : _) → from ≤ number
-            → is_among self.now (zone.now, prefix.now, number) ≡ false)
+            → serves_at self.now (zone.now, prefix.now, number) ≡ false)
             (IsNext self.now zone.now prefix.now from) }
     {
         match self.numbers.get(&(*zone, *prefix)) {
@@ -89,8 +89,8 @@ impl Served {
         prefixes: &[TechPrefix],
         number: u32,
     ) -> Result<(), AllocError>
-        ensures ok { OnOk result (Adds self.old self.new number zone prefixes.now) }
-        ensures err { OnErr result (MayAdd self.old self.new number zone prefixes.now) }
+        ensures ok { OnOk result (AddsPlaces self.old self.new number zone prefixes.now) }
+        ensures err { OnErr result (MayAddPlaces self.old self.new number zone prefixes.now) }
     {
         for prefix in prefixes {
             self.add(zone, *prefix, number)?;

@@ -2,6 +2,4 @@
 #![tactic(auto)]
 
 #[cfg(test)]
-mod endpoint_tests;
-#[cfg(test)]
 mod registry_tests;

@@ -1,73 +1,108 @@
-//! A registry: each of its calls once.
+//! A registry: each of its calls once; and how large an endpoint is in few bytes.
 
-use crate::endpoint_tests::endpoint_of;
 use command_reader::read;
 use compiler::Tables;
-use gk_terms::{Dialled, Name, TechPrefix};
+use gk_terms::{Address, Dialled, Name, TechPrefix};
+use registry::BriefEndpoint;
 use registry::endpoints::{Endpoint, EndpointKind};
-use registry::faults::RegistryFault;
+use registry::faults::{Duplicate, RegistryFault};
 use registry::registry::Registry;
 use std::alloc::Global;
+use std::mem::size_of;
 use std::process::Abort;
+use std::sync::Arc;
 use std::test::Fail;
 
-/// The tables of two local zones.
-fn tables_of(rt: &impl Abort, alloc: Global) -> Result<Tables, Fail> {
-    let Ok(commands) = read(alloc, b"zone local a d\nzone local b d\n") else {
-        panic!(rt; "refused");
-    };
-    Ok(Tables::compile(alloc, commands)?)
+#[test]
+fn a_brief_endpoint_takes_96_bytes(rt: HostRuntime) {
+    let bytes = size_of::<BriefEndpoint>();
+    assert!(rt; bytes <= 96, "{bytes}");
 }
 
-/// A gateway of this zone with the alias 7 and the prefix 1#.
-fn gateway(alloc: Global, zone: &str) -> Result<Endpoint, Fail> {
-    let mut endpoint = endpoint_of(alloc, EndpointKind::Gateway, "ga", zone, 1)?;
-    endpoint.add_alias(Dialled::read(b"7")?)?;
-    endpoint.add_technology(TechPrefix::read(b"1#")?)?;
-    Ok(endpoint)
+/// A gateway and what finds it: its ID, its zone, its alias and its technology prefix.
+#[derive(Clone, Copy)]
+struct Sought {
+    id: Name,
+    zone: Name,
+    alias: Dialled,
+    prefix: TechPrefix,
+}
+
+/// The gateway, registering in the first local zone.
+fn gateway(rt: &impl Abort, alloc: Global, sought: &Sought) -> Endpoint {
+    let Ok(zone) = Name::read(b"-") else {
+        panic!(rt; "no name");
+    };
+    let address = Address::new([10, 0, 1, 1], 1720);
+    let mut endpoint = Endpoint::new(alloc, EndpointKind::Gateway, sought.id, zone, address);
+    assert!(rt; takes_both(&mut endpoint, sought));
+    endpoint
+}
+
+/// Whether the endpoint takes the alias and the technology prefix.
+fn takes_both(endpoint: &mut Endpoint, sought: &Sought) -> bool {
+    endpoint.add_alias(sought.alias).is_ok() && endpoint.add_technology(sought.prefix).is_ok()
+}
+
+/// Whether the gateway is found by its place, its ID, its alias and its prefix.
+fn is_found(registry: &Registry, tables: &Tables, sought: &Sought) -> bool {
+    let gateway = registry.gateway(tables, &sought.zone, &sought.prefix, None);
+    registry.at(0).is_some()
+        && registry.endpoint(&sought.id).is_some()
+        && registry.is_registered(&sought.id)
+        && registry.by_alias(&sought.zone, &sought.alias).is_some()
+        && gateway.is_some()
+}
+
+/// Whether the gateway is found in a copy.
+fn is_found_in_copy(registry: &Registry, tables: &Tables, sought: &Sought) -> bool {
+    match registry.copy() {
+        Ok(copy) => is_found(&copy, tables, sought),
+        Err(_) => false,
+    }
+}
+
+/// The tables of two local zones.
+fn tables_of(alloc: Global) -> Result<Arc<Tables>, Fail> {
+    let commands = read(alloc, b"zone local a d\nzone local b d\n")?;
+    let tables = Tables::compile(alloc, commands)?;
+    Ok(Arc::new(alloc, tables)?)
 }
 
 #[test]
 fn registers_finds_and_unregisters(rt: HostRuntime) -> Result<(), Fail> {
-    let alloc = rt.alloc();
-    let tables = tables_of(&rt, alloc)?;
-    assert_calls(&rt, &mut Registry::new(alloc, 1), &tables, alloc)
+    let sought = Sought {
+        id: Name::read(b"ga")?,
+        zone: Name::read(b"a")?,
+        alias: Dialled::read(b"7")?,
+        prefix: TechPrefix::read(b"1#")?,
+    };
+    let tables = tables_of(rt.alloc())?;
+    let mut registry = Registry::new(rt.alloc(), 1);
+    assert_calls(&rt, &mut registry, &tables, rt.alloc(), &sought)
 }
 
-/// Registers a gateway in the first local zone, and then another terminal, for which there is no
-/// room; and unregisters the gateway.
+/// Registers the gateway, finds it, and unregisters it; another one with its alias is refused.
 fn assert_calls(
     rt: &impl Abort,
     registry: &mut Registry,
     tables: &Tables,
     alloc: Global,
+    sought: &Sought,
 ) -> Result<(), Fail> {
-    let zone = Name::read(b"a")?;
-    let newcomer = gateway(alloc, "-")?;
-    assert_eq!(rt; registry.placement(&newcomer, tables), Ok(zone));
+    let second = Sought {
+        id: Name::read(b"gb")?,
+        ..*sought
+    };
+    let newcomer = gateway(rt, alloc, sought);
+    assert!(rt; registry.placement(&newcomer, tables) == Ok(sought.zone));
     registry.register(newcomer, tables)?;
-    let other = endpoint_of(alloc, EndpointKind::Terminal, "tb", "b", 2)?;
-    assert_eq!(rt;
-        registry.register(other, tables),
-        Err(RegistryFault::TooMany)
-    );
+    let refused = registry.register(gateway(rt, alloc, &second), tables);
+    assert!(rt; refused == Err(RegistryFault::DuplicateAlias(Duplicate::E164)));
     registry.keep_zones(tables);
-    assert_found(rt, registry, tables)?;
-    assert_found(rt, &registry.copy()?, tables)?;
-    let gone = registry.unregister(&Name::read(b"ga")?)?;
-    assert_eq!(rt; gone.aliases().len(), 1);
-    assert_eq!(rt; registry.len(), 0);
-    Ok(())
-}
-
-/// The gateway is found by its place, its ID, its alias and its prefix.
-fn assert_found(rt: &impl Abort, registry: &Registry, tables: &Tables) -> Result<(), Fail> {
-    let (id, zone) = (Name::read(b"ga")?, Name::read(b"a")?);
-    assert!(rt; registry.at(0).is_some());
-    assert!(rt; registry.endpoint(&id).is_some());
-    assert!(rt; registry.is_registered(&id));
-    assert!(rt; registry.by_alias(&zone, &Dialled::read(b"7")?).is_some());
-    let prefix = TechPrefix::read(b"1#")?;
-    assert!(rt; registry.gateway(tables, &zone, &prefix, None).is_some());
+    assert!(rt; is_found(registry, tables, sought));
+    assert!(rt; is_found_in_copy(registry, tables, sought));
+    let gone = registry.unregister(&sought.id)?;
+    assert!(rt; gone.has_alias(&sought.alias) && registry.len() == 0);
     Ok(())
 }

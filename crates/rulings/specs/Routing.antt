@@ -2,7 +2,7 @@
 -- project's profile, after Cisco's flow for an admission request.
 use Rattle.std.specs.Prelude.{ℕ, List, Option, Some, None}
 use Rattle.command_reader.specs.declared.commands.Command.{Command}
-use Rattle.compiler.specs.Rows.{Row}
+use Rattle.compiler.specs.Rows.{ZoneRow}
 use Rattle.compiler.specs.Technology.{default_technology_of}
 use Rattle.compiler.specs.Plan.{Target, RemoteZone, LocalZone, CallersZone, UnknownPrefix, plan_of}
 use Rattle.registry.specs.declared.endpoints.EndpointKind.{EndpointKind}
@@ -27,21 +27,21 @@ to_gateway None = Refused refusals.NoGateway
 to_gateway (Some e) = To (destination_of e.kind e)
 
 -- a gateway of the zone for the default technology, if one is set
-abbrev pub by_default : List Command → List EndpointParts → List ℕ → Option Row
+abbrev pub by_default : List Command → List EndpointParts → List ℕ → Option ZoneRow
     → Option (List ℕ) → Route
 by_default commands endpoints zone row None = Refused refusals.NoDefault
 by_default commands endpoints zone row (Some prefix) =
     to_gateway (gateway_of commands endpoints zone prefix row)
 
 -- the endpoint of the zone that has the digits as an alias; without one, by the default technology
-abbrev pub by_alias_or_default : List Command → List EndpointParts → List ℕ → Option Row
+abbrev pub by_alias_or_default : List Command → List EndpointParts → List ℕ → Option ZoneRow
     → Option EndpointParts → Route
 by_alias_or_default commands endpoints zone row None =
     by_default commands endpoints zone row (default_technology_of commands)
 by_alias_or_default commands endpoints zone row (Some e) = To (destination_of e.kind e)
 
 -- in a local zone: a gateway for the technology prefix that was found; without one, by alias
-abbrev pub in_local_zone : List Command → List EndpointParts → List ℕ → Option Row → List ℕ
+abbrev pub in_local_zone : List Command → List EndpointParts → List ℕ → Option ZoneRow → List ℕ
     → Option (List ℕ) → Route
 in_local_zone commands endpoints zone row digits None =
     by_alias_or_default commands endpoints zone row (by_alias endpoints zone digits)

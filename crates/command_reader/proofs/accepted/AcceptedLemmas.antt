@@ -14,7 +14,7 @@ use Rattle.command_reader.specs.declared.faults.FaultKind.{FaultKind}
 use Rattle.command_reader.specs.declared.faults.FaultKind.TheVariants.{TooMany}
 use Rattle.command_reader.specs.declared.commands.Command.{Command}
 use Rattle.command_reader.specs.declared.zones.ZoneKind.{ZoneKind}
-use Rattle.command_reader.specs.Line.{line_of}
+use Rattle.command_reader.specs.Line.{command_of}
 use Rattle.command_reader.specs.Progress.{NumberedCommand, Progress, line_count, commands_in}
 use Rattle.command_reader.specs.Zones.{declared_by, zones_of, is_declared, named_by, first_local_of}
 use Rattle.command_reader.specs.Reading.{fault_of_name, zone_fault, command_fault, with_command, with_passed, unless_fault, said_after, line_after, line_then, lines_after, nothing_read, names_unknown}
@@ -117,10 +117,10 @@ line_apart : (before read : Progress) (line : List ℕ)
 unfolding line_after
 line_apart before read line a h = by (nat_le MOST_LINES (line_count before)) h
   where
-    by : (b : Bool) → cond b (Err TooMany) (said_after before (line_of line)) ≡ Ok read
+    by : (b : Bool) → cond b (Err TooMany) (said_after before (command_of line)) ≡ Ok read
         → AreApart (commands_in read)
     by true f = absurd (let no : ⊥ = cc in no)
-    by false f = said_apart before read (line_of line) a f
+    by false f = said_apart before read (command_of line) a f
 
 lines_apart : (lines : List (List ℕ)) (before read : Progress)
     → AreApart (commands_in before) → lines_after before lines ≡ Ok read

@@ -10,22 +10,22 @@ use Rattle.command_reader.specs.declared.faults.FaultKind.TheVariants.{TooMany, 
 use Rattle.command_reader.specs.declared.kept.Kept.{Kept}
 use Rattle.command_reader.specs.Index.{AreDeclared}
 use Rattle.command_reader.specs.Kept.{AddsCommand, KeepsAll, AddsSaid, Adds, RefusesCommand}
-use Rattle.command_reader.specs.Line.{line_of}
+use Rattle.command_reader.specs.Line.{command_of}
 use Rattle.command_reader.specs.Progress.{Progress, line_count, commands_in}
 use Rattle.command_reader.specs.Reading.{said_after, line_after, with_command, with_passed, LacksMemoryFor}
 use Rattle.command_reader.proofs.one_by_one.IndexLemmas.{faulty_line, ok_line}
 
 -- with room for one more line it counts what the line says
 after_said : (before : Progress) (line : List ℕ) → line_count before < MOST_LINES → line_after
-    before line ≡ said_after before (line_of line)
+    before line ≡ said_after before (command_of line)
 unfolding line_after
 after_said before line room = ap (λ full. cond full (Err TooMany)
-    (said_after before (line_of line))) (lt-leb MOST_LINES (line_count before) room)
+    (said_after before (command_of line))) (lt-leb MOST_LINES (line_count before) room)
 
 -- the command of a line was added
 pub record IsKept (old new : Kept) (before : Progress) (line : List ℕ) : Type 0 where
   pub command : Command
-  pub said : line_of line ≡ Ok (Some command)
+  pub said : command_of line ≡ Ok (Some command)
   pub added : AddsCommand old new command
   pub after : line_after before line ≡ Ok (with_command before command)
 
@@ -41,7 +41,8 @@ one_more old new command a = ap length a.commands ∙ length-append old.commands
 -- if there are more commands than before, one was added
 pub line_kept : (old new : Kept) (before : Progress) (line : List ℕ) → line_count before <
     MOST_LINES → AreDeclared (keys old.declared) (commands_in before)
-    → Adds old new (line_of line) → length old.commands.items < length new.commands.items → IsKept
+    → Adds old new (command_of line) → length old.commands.items < length new.commands.items →
+    IsKept
     old new before line
 line_kept old new before line room declared a more = by a.what refl a.added
   where
@@ -49,7 +50,7 @@ line_kept old new before line room declared a more = by a.what refl a.added
         line
     by None e same = absurd (omega (arith, more, ap length same.commands))
     by (Some command) e added =
-        let said : line_of line ≡ Ok (Some command) = a.said_is ∙ ap (λ what. Ok what) e in
+        let said : command_of line ≡ Ok (Some command) = a.said_is ∙ ap (λ what. Ok what) e in
         record {
           command = command;
           said = said;
@@ -61,7 +62,7 @@ line_kept old new before line room declared a more = by a.what refl a.added
 -- if there are not, the line was passed over
 pub line_passed : (old new : Kept) (before : Progress) (line : List ℕ) → line_count before <
     MOST_LINES
-    → Adds old new (line_of line) → ¬ (length old.commands.items < length new.commands.items) →
+    → Adds old new (command_of line) → ¬ (length old.commands.items < length new.commands.items) →
     IsPassed old new before line
 line_passed old new before line room a none = by a.what refl a.added
   where
@@ -77,7 +78,7 @@ line_passed old new before line room a none = by a.what refl a.added
 -- a line that is refused has that fault, or a command for which memory ran out
 pub line_refused : (old : Kept) (before : Progress) (line : List ℕ) (kind : FaultKind) → line_count
     before < MOST_LINES → AreDeclared (keys old.declared) (commands_in before)
-    → (line_of line ≡ Err kind) ⊎ RefusesCommand old (line_of line) kind →
+    → (command_of line ≡ Err kind) ⊎ RefusesCommand old (command_of line) kind →
     (line_after before line ≡ Err kind) ⊎ LacksMemoryFor before line kind
 line_refused old before line kind room declared (inl fault) = inl
     (after_said before line room ∙ ap (said_after before) fault)

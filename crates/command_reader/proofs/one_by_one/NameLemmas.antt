@@ -15,7 +15,7 @@ use Rattle.command_reader.proofs.one_by_one.HeldLemmas.{held_more}
 abbrev pub in_front : List (List ℕ) → List (List ℕ) → Result (List (List ℕ)) FaultKind
 in_front front names = Ok (front ++ names)
 
--- the words before those left are names, and they are held
+-- the words before those that are left are names, and they are held
 pub record AreNames (all left : List (List ℕ)) (held : Result (List (List ℕ)) AllocError) : Type 0
   where
     pub front : List (List ℕ)

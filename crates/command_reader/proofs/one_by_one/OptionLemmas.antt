@@ -1,4 +1,4 @@
--- Options read word by word from the words that are left.
+-- Options that are read one word after another.
 use Rattle.std.proofs.Common.{◌≡◌, ℕ, Bool, true, false, cond, List, [], ◌∷◌, ◌++◌, append_assoc, Some, None, refl, sym, ap, subst, ◌∙◌, inl, inr}
 use Rattle.std.specs.Prelude.{◌||◌, Result, Ok, Err, codes, bytes_eq}
 use Rattle.std.specs.Option.{ok_or}
@@ -22,20 +22,21 @@ use Rattle.command_reader.specs.Memory.{MayRefuse, Any, DeclaresNone, HoldsNames
 use Rattle.command_reader.proofs.one_by_one.HeldLemmas.{held_more}
 
 -- ---- one word, by what may come next
--- what the words left say, by what may come next
+-- what the words that are left mean, if this is what may come next
 abbrev pub said_from : Expected → List (List ℕ) → Result TechnologyOptions FaultKind
 said_from AnOption words = options_at false words
 said_from AName words = hopoff_at words
 said_from OptionOrName words = options_at true words
 
--- with an option before what the words after it say
-abbrev with_option : TechnologyOption → Result TechnologyOptions FaultKind
+-- an option, together with what the words after it mean
+abbrev option_before : TechnologyOption → Result TechnologyOptions FaultKind
     → Result TechnologyOptions FaultKind
-with_option option rest = rest >>= λ more. Ok (record {
+option_before option rest = rest >>= λ more. Ok (record {
   hopoffs = names_of option ++ more.hopoffs;
   is_default = is_default_option option || more.is_default;
 })
 
+-- an option that adds nothing leaves what the words after it mean as it is
 nothing_added : (rest : Result TechnologyOptions FaultKind)
     → rest ≡ (rest >>= λ more. Ok (record {
       hopoffs = more.hopoffs;
@@ -44,23 +45,26 @@ nothing_added : (rest : Result TechnologyOptions FaultKind)
 nothing_added (Ok more) = refl
 nothing_added (Err kind) = refl
 
--- what an option and the words after it say
+-- what an option means together with the words after it, or the fault found in place of the option
 abbrev option_then : List (List ℕ) → Result TechnologyOption FaultKind
     → Result TechnologyOptions FaultKind
 option_then words option =
-    option >>= λ (o : TechnologyOption). with_option o (said_from (expected_after o) words)
+    option >>= λ (o : TechnologyOption). option_before o (said_from (expected_after o) words)
 
+-- a name of a hopoff, together with the words after it
 name_first : (word : List ℕ) (words : List (List ℕ))
     → with_hopoff word (options_at true words) ≡ option_then words (hopoff_name_of word)
 name_first word words = by (ok_or (name_of word) BadName)
   where
     by : (name : Result (List ℕ) FaultKind)
-        → (name >>= λ n. with_option (HopoffName n) (options_at true words))
+        → (name >>= λ n. option_before (HopoffName n) (options_at true words))
         ≡ option_then words (name >>= λ n. Ok (HopoffName n))
     by (Ok name) = refl
     by (Err kind) = refl
 
--- the choice by a word is that of the option that it is, or of what it is if it is not one
+-- Four tests of a word choose what it means together with the words after it. The same tests choose
+-- the option that it is, and that option and the words after it mean the same. For a word that
+-- passes none of the tests, `last` is what it means, and `other` is what it is read as.
 choice_first : (hopoff hunt technology gw : Bool) (words : List (List ℕ))
     (other : Result TechnologyOption FaultKind) (last : Result TechnologyOptions FaultKind)
     → last ≡ option_then words other
@@ -75,7 +79,8 @@ choice_first false false true gw words other last h = refl
 choice_first false false false true words other last h = refl
 choice_first false false false false words other last h = h
 
--- what words mean is their first word, as it is read, and what is meant by those after it
+-- the words that are left mean the same as what their first word is read as, and then the words
+-- after it
 word_first : (expected : Expected) (word : List ℕ) (words : List (List ℕ))
     → said_from expected (word ∷ words) ≡ option_then words (option_at expected word)
 word_first AName word words = name_first word words
@@ -104,10 +109,10 @@ or_moved true false c = refl
 or_moved false true c = refl
 or_moved false false c = refl
 
--- an option goes to those before it
+-- an option may be counted among those before it
 joined_option : (option : TechnologyOption) (front : List (List ℕ)) (is_default : Bool)
     (rest : Result TechnologyOptions FaultKind)
-    → joined front is_default (with_option option rest) ≡ joined (front ++ names_of option)
+    → joined front is_default (option_before option rest) ≡ joined (front ++ names_of option)
     (is_default_option option || is_default) rest
 joined_option option front is_default (Err kind) = refl
 joined_option option front is_default (Ok more) =
@@ -117,7 +122,7 @@ joined_option option front is_default (Ok more) =
     ∙ ap (λ (d : Bool). Ok ((front ++ names_of option) ++ more.hopoffs, d))
     (or_moved is_default (is_default_option option) more.is_default)
 
--- the words before those left are options, and they are held
+-- the words before those that are left are options, and they are held
 pub record AreOptions (all left : List (List ℕ)) (held : OpenOptions) : Type 0 where
   pub front : List (List ℕ)
   pub same : hopoffs_and_default (options_at false all) ≡ joined front held.is_default
@@ -147,8 +152,8 @@ step left front is_default option = joined front is_default (option_then left op
 -- with one more word that has no fault
 pub more_options : (all left : List (List ℕ)) (word : List ℕ) (before after : OpenOptions)
     (option : TechnologyOption)
-    → AreOptions all (word ∷ left) before → option_at before.expected word ≡ Ok option → AddsOption
-    before option after → AreOptions all left after
+    → AreOptions all (word ∷ left) before → option_at before.expected word ≡ Ok option
+    → AddsOption before option after → AreOptions all left after
 more_options all left word before after option o h a =
     let front = o.front ++ names_of option in
     record {

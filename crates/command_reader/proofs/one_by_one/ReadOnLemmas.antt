@@ -7,9 +7,9 @@ use Rattle.command_reader.specs.declared.faults.FaultKind.{FaultKind}
 use Rattle.command_reader.specs.declared.faults.FaultKind.TheVariants.{NoMemory, TooLong}
 use Rattle.command_reader.specs.declared.faults.LineFault.{LineFault}
 use Rattle.command_reader.specs.Configuration.{Configuration}
-use Rattle.command_reader.specs.Line.{line_of, command_at}
+use Rattle.command_reader.specs.Line.{command_of, command_at}
 use Rattle.command_reader.specs.Progress.{Progress, line_count}
-use Rattle.command_reader.specs.Reading.{nothing_read, line_after, lines_after, line_then, with_command, fault_at, finished, whole_of, reading_in, MayReadLine, MayReadOn, MayRead}
+use Rattle.command_reader.specs.Reading.{nothing_read, line_after, lines_after, line_then, with_command, fault_at, finished, finished_of, reading_in, MayReadLine, MayReadOn, MayRead}
 
 -- ---- one line, and then others
 read_on : (before read : Progress) (line : List ℕ) (lines : List (List ℕ)) → line_after before line
@@ -68,25 +68,27 @@ answered lines (Err fault) said = inl said
 -- what was read of all lines, and what is made of it
 pub finishes : (lines : List (List ℕ)) (read : Progress) → MayReadOn nothing_read lines (Ok read) →
     MayRead lines (finished read)
-finishes lines read said = answered lines (finished read) (ap whole_of said)
+finishes lines read said = answered lines (finished read) (ap finished_of said)
 
 pub refuses : (lines : List (List ℕ)) (fault : LineFault) → MayReadOn nothing_read lines (Err fault)
     → MayRead lines (Err fault)
-refuses lines fault (inl faulty) = inl (ap whole_of faulty)
+refuses lines fault (inl faulty) = inl (ap finished_of faulty)
 refuses lines fault (inr lacks) = inr lacks
 
 -- ---- lines that say the same
-pub long_says : (line : List ℕ) → is_too_long line ≡ true → line_of line ≡ Err TooLong
-unfolding line_of
+pub long_says : (line : List ℕ) → is_too_long line ≡ true → command_of line ≡ Err TooLong
+unfolding command_of
 long_says line long = ap (λ t. cond t (Err TooLong) (command_at (words_of line))) long
 
-same_after : (before : Progress) (line other : List ℕ) → line_of line ≡ line_of other → line_after
+same_after : (before : Progress) (line other : List ℕ) → command_of line ≡ command_of other →
+    line_after
     before line ≡ line_after before other
 unfolding line_after
 same_after before line other e = rw e refl
 
 pub same_line : (before : Progress) (line other : List ℕ) (after : Result Progress LineFault) →
-    line_of line ≡ line_of other → MayReadLine before line after → MayReadLine before other after
+    command_of line ≡ command_of other → MayReadLine before line after → MayReadLine before other
+    after
 same_line before line other (Ok read) e said = sym (same_after before line other e) ∙ said
 same_line before line other (Err fault) e (named, said) = (
   named,

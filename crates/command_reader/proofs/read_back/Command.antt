@@ -4,7 +4,7 @@ use Rattle.std.proofs.lemmas.Bool.{le-ltb, ltb-false}
 use Rattle.gk_terms.specs.Text.{words_of, is_too_long, spaced}
 use Rattle.command_reader.specs.declared.faults.FaultKind.TheVariants.{TooLong}
 use Rattle.command_reader.specs.declared.commands.Command.{Command}
-use Rattle.command_reader.specs.Line.{command_at, line_of}
+use Rattle.command_reader.specs.Line.{command_at, command_of}
 use Rattle.command_reader.specs.Accepted.{PrintsBack}
 use Rattle.command_reader.specs.Printing.{command_words}
 use Rattle.command_reader.proofs.read_back.Words.{AreWords, words_back}
@@ -35,7 +35,7 @@ short_line (word ∷ words) h = omega (arith, length_spaced_some word words, h)
 
 -- the canonical line of such a command says it
 pub prints_back : (command : Command) → IsSaidAgain command → PrintsBack command
-unfolding line_of
+unfolding command_of
 prints_back command back =
     let line : List ℕ = spaced (command_words command) in
     let fits : length line ≤ 512 = short_line (command_words command) back.fits in
@@ -52,9 +52,10 @@ pub record IsSaid (line : List ℕ) (command : Command) : Type 0 where
   pub fits : cost (words_of line) ≤ 513
   pub said : command_at (words_of line) ≡ Ok (Some command)
 
-pub line_said : (line : List ℕ) (command : Command) → line_of line ≡ Ok (Some command) → IsSaid line
+pub line_said : (line : List ℕ) (command : Command) → command_of line ≡ Ok (Some command) → IsSaid
+    line
     command
-unfolding line_of
+unfolding command_of
 line_said line command h = by (is_too_long line) refl h
   where
     by : (b : Bool) → is_too_long line ≡ b → cond b (Err TooLong) (command_at (words_of line)) ≡ Ok

@@ -12,10 +12,10 @@ use Rattle.command_reader.specs.declared.faults.FaultKind.TheVariants.{UnknownZo
 use Rattle.command_reader.specs.declared.faults.LineFault.{LineFault}
 use Rattle.command_reader.specs.declared.commands.Command.{Command}
 use Rattle.command_reader.specs.Configuration.{Configuration}
-use Rattle.command_reader.specs.Line.{line_of}
+use Rattle.command_reader.specs.Line.{command_of}
 use Rattle.command_reader.specs.Progress.{NumberedCommand, Progress, line_count, commands_in}
 use Rattle.command_reader.specs.Zones.{first_local_of}
-use Rattle.command_reader.specs.Reading.{command_fault, with_command, unless_fault, said_after, line_after, line_then, lines_after, names_unknown, fault_at, unknown_zone, local_zone_checked, zones_checked, finished, whole_of, nothing_read, reading_in, reading_of}
+use Rattle.command_reader.specs.Reading.{command_fault, with_command, unless_fault, said_after, line_after, line_then, lines_after, names_unknown, fault_at, unknown_zone, local_zone_checked, zones_checked, finished, finished_of, nothing_read, reading_in, reading_of}
 use Rattle.command_reader.specs.Printing.{command_words, text_of}
 use Rattle.command_reader.specs.Accepted.{is_word, canonical_line, PrintsBack, LinesSay, IsPrintable, IsAccepted}
 use Rattle.command_reader.proofs.read_back.Words.{lines_back}
@@ -37,12 +37,12 @@ lines_after-append (x ∷ xs) ys before read h = by (λ p g. lines_after-append 
 
 -- a line that says a command without a fault
 line_kept : (before : Progress) (line : List ℕ) (command : Command) → line_count before < MOST_LINES
-    → line_of line ≡ Ok (Some command)
+    → command_of line ≡ Ok (Some command)
     → command_fault (commands_in before) command ≡ None → line_after before line ≡ Ok
     (with_command before command)
 unfolding line_after
 line_kept before line command room said free =
-    ap (λ b. cond b (Err TooMany) (said_after before (line_of line)))
+    ap (λ b. cond b (Err TooMany) (said_after before (command_of line)))
     (lt-leb MOST_LINES (line_count before) room)
     ∙ ap (said_after before) said
     ∙ ap (λ fault. unless_fault fault (with_command before command)) free
@@ -67,7 +67,7 @@ none_said = record { read = nothing_read; whole = refl; same = refl; none_passed
 -- one more line, and its command
 pub one_more_said : (lines : List (List ℕ)) (line : List ℕ) (commands : List Command)
     (command : Command)
-    → LinesSay lines commands → length commands < MOST_LINES → line_of line ≡ Ok (Some command)
+    → LinesSay lines commands → length commands < MOST_LINES → command_of line ≡ Ok (Some command)
     → command_fault commands command ≡ None → LinesSay (lines ++ line ∷ [])
     (commands ++ command ∷ [])
 one_more_said lines line commands command says room said free =
@@ -215,7 +215,7 @@ said_again lines commands a says =
     (λ cs. is_some (first_local_of cs)) says.same ∙ a.has_local in
     let configuration : Configuration = record { commands = commands_in read; passed = read.passed }
     in
-    ap whole_of says.whole
+    ap finished_of says.whole
     ∙ ap (zones_checked read) (none_found (names_unknown (commands_in read)) read.kept
     (λ n. fault_at n.line UnknownZone) declared)
     ∙ ap (λ b. cond b (Ok configuration) (Err (fault_at (line_count read + 1) NoLocalZone)))
@@ -228,5 +228,5 @@ pub file_back : (commands : List Command) → IsAccepted commands → reading_of
     (record { commands = commands; passed = 0 })
 unfolding reading_of
 file_back commands a =
-    ap (λ ls. whole_of (lines_after nothing_read ls)) (lines_printed commands a.printable)
+    ap (λ ls. finished_of (lines_after nothing_read ls)) (lines_printed commands a.printable)
     ∙ said_again (map canonical_line commands) commands a a.printable.again

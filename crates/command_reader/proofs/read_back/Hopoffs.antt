@@ -1,15 +1,14 @@
 -- The options of a `gw-type-prefix` line that was read: their canonical words are no longer.
-use Rattle.std.proofs.Common.{◌≡◌, ℕ, ◌+◌, ◌≤◌, Bool, true, false, cond, List, [], ◌∷◌, ◌++◌, length, Ok, Err, refl, sym, ap, subst, ◌∙◌, arith}
-use Rattle.std.specs.Prelude.{◌||◌, Result, codes, bytes_eq, flat_map}
+use Rattle.std.proofs.Common.{◌≡◌, ℕ, ◌+◌, ◌≤◌, Bool, true, false, cond, List, [], ◌∷◌, ◌++◌, length, Ok, Err, sym, ap, subst, ◌∙◌, arith}
+use Rattle.std.specs.Prelude.{Result, codes, bytes_eq, flat_map}
 use Rattle.std.specs.Option.{ok_or}
-use Rattle.std.proofs.lemmas.Bool.{or_parts, or_from}
 use Rattle.gk_terms.specs.Name.{name_of}
 use Rattle.command_reader.specs.declared.faults.FaultKind.{FaultKind}
 use Rattle.command_reader.specs.declared.faults.FaultKind.TheVariants.{BadName, Extra}
 use Rattle.command_reader.specs.Fields.{is_one_of}
 use Rattle.command_reader.specs.ZoneLine.{hunt_words}
-use Rattle.command_reader.specs.TechnologyLine.{TechnologyOptions, no_options, with_hopoff, options_at, hopoff_at}
-use Rattle.command_reader.specs.Printing.{option_words, further_words, hopoff_words, default_words}
+use Rattle.command_reader.specs.TechnologyLine.{TechnologyOptions, is_option_word, no_options, with_hopoff, options_at, hopoff_at}
+use Rattle.command_reader.specs.Printing.{further_words, hopoff_words, default_words}
 use Rattle.command_reader.proofs.read_back.Fields.{bound, chosen, same_word, ok_or-some, name_read, IsNamed}
 use Rattle.command_reader.proofs.read_back.Lengths.{cost, cost-append}
 
@@ -20,14 +19,13 @@ AreNamed (name ∷ names) = IsNamed name × AreNamed names
 
 -- what a further name of a hopoff costs
 cost_further : (word : List ℕ) → cost (further_words word) ≤ 8 + length word
-cost_further word = by (is_one_of option_words word)
+cost_further word = by (is_option_word word)
   where
     by : (b : Bool) → cost (cond b (codes "hopoff" ∷ word ∷ []) (word ∷ [])) ≤ 8 + length word
     by true = omega arith
     by false = omega arith
 
-further_plain : (word : List ℕ) → is_one_of option_words word ≡ false → further_words word ≡ word ∷
-    []
+further_plain : (word : List ℕ) → is_option_word word ≡ false → further_words word ≡ word ∷ []
 further_plain word h = ap (λ b. cond b (codes "hopoff" ∷ word ∷ []) (word ∷ [])) h
 
 -- as further names, names take no more than with the word `hopoff` before them
@@ -41,16 +39,18 @@ fewer_words (name ∷ names) = omega (
   cost_further name,
 )
 
--- a word is not an option word if each test of the options denies it
+-- a word for which no test of an option holds is not an option word
 not_option : (word : List ℕ) → bytes_eq word (codes "hopoff") ≡ false
     → is_one_of hunt_words word ≡ false → bytes_eq word (codes "default-technology") ≡ false
-    → bytes_eq word (codes "gw") ≡ false → is_one_of option_words word ≡ false
+    → bytes_eq word (codes "gw") ≡ false → is_option_word word ≡ false
 not_option word e f g h =
-    let seq_blast = or_parts (bytes_eq word (codes "seq"))
-    (bytes_eq word (codes "blast") || false) f in
-    let blast = or_parts (bytes_eq word (codes "blast")) false seq_blast.1 in
-    or_from _ _ e (or_from _ _ seq_blast.0 (or_from _ _ blast.0
-    (or_from _ _ g (or_from _ _ h refl))))
+    let hunt : Bool = is_one_of hunt_words word in
+    let technology : Bool = bytes_eq word (codes "default-technology") in
+    let gw : Bool = bytes_eq word (codes "gw") in
+    ap (λ b. cond b true (cond hunt true (cond technology true (cond gw true false)))) e
+    ∙ ap (λ b. cond b true (cond technology true (cond gw true false))) f
+    ∙ ap (λ b. cond b true (cond gw true false)) g
+    ∙ ap (λ b. cond b true false) h
 
 -- ---- what was read
 -- a name in front of other options
@@ -97,7 +97,8 @@ none_within true options h = subst (AreWithin true 0) h (record { names = tt; fi
 none_within false options h =
     subst (AreWithin false 0) h (record { names = tt; fits = omega arith })
 
--- options in whose place no further name comes, also if one might
+-- If options fit into `least` bytes with the word `hopoff` before their first name, they fit into
+-- `most` bytes with or without that word, as long as `most` is not less than `least`.
 either_within : (further : Bool) (least most : ℕ) (options : TechnologyOptions)
     → AreWithin false least options → least ≤ most → AreWithin further most options
 either_within true least most options w h =
@@ -105,7 +106,7 @@ either_within true least most options w h =
 either_within false least most options w h =
     record { names = w.names; fits = omega (arith, w.fits, h) }
 
--- a name right after `hopoff`
+-- the name right after `hopoff`, and the options after it
 hopoff_name_within : (word : List ℕ) (words : List (List ℕ)) (options : TechnologyOptions)
     (n : IsNamedFirst word (options_at true words) options)
     → AreWithin true (cost words) n.others → AreWithin false (7 + cost (word ∷ words)) options
@@ -113,9 +114,9 @@ hopoff_name_within word words options n w =
     subst (AreWithin false (7 + cost (word ∷ words))) n.whole
     (record { names = (n.is, w.names); fits = omega (arith, w.fits) })
 
--- a further name
+-- a further name, and the options after it
 further_name_within : (word : List ℕ) (words : List (List ℕ)) (options : TechnologyOptions)
-    (n : IsNamedFirst word (options_at true words) options) → is_one_of option_words word ≡ false
+    (n : IsNamedFirst word (options_at true words) options) → is_option_word word ≡ false
     → AreWithin true (cost words) n.others → AreWithin true (cost (word ∷ words)) options
 further_name_within word words options n plain w =
     let alone : cost (further_words word) ≡ cost (word ∷ []) = ap cost (further_plain word plain) in
@@ -131,9 +132,9 @@ default_within words rest options h w =
     subst (AreWithin false (19 + cost words)) h
     (record { names = w.names; fits = omega (arith, w.fits) })
 
--- a word that is not an option word
+-- a word that is not an option word, and the options after it
 last_within : (further : Bool) (word : List ℕ) (words : List (List ℕ)) (options : TechnologyOptions)
-    → is_one_of option_words word ≡ false
+    → is_option_word word ≡ false
     → ((rest : TechnologyOptions) → options_at true words ≡ Ok rest
     → AreWithin true (cost words) rest)
     → cond further (with_hopoff word (options_at true words)) (Err Extra) ≡ Ok options
@@ -145,7 +146,7 @@ last_within false word words options plain within h =
     absurd (let impossible : ⊥ = cc in impossible)
 
 mutual
-  -- all options
+  -- the options that words say: their canonical words take no more bytes than the words
   options_within : (further : Bool) (words : List (List ℕ)) (options : TechnologyOptions)
       → options_at further words ≡ Ok options → AreWithin further (cost words) options
   options_within further [] options h = none_within further options cc
@@ -171,7 +172,8 @@ mutual
       (not_option word not_hopoff not_hunt not_default not_gw)
       (λ rest g. options_within true words rest g) l))))
 
-  -- right after `hopoff`, whose word is among the canonical ones
+  -- the options after the word `hopoff`: with that word before their first name they take no more
+  -- bytes than the words after it, and 7 for `hopoff` itself
   hopoff_within : (words : List (List ℕ)) (options : TechnologyOptions)
       → hopoff_at words ≡ Ok options → AreWithin false (7 + cost words) options
   hopoff_within [] options h = absurd (let impossible : ⊥ = cc in impossible)
@@ -180,12 +182,12 @@ mutual
       hopoff_name_within word words options n (options_within true words n.others n.read)
 
 -- the options of a line: names, whose canonical words take no more than the words read
-pub record AreOptions (words : List (List ℕ)) (options : TechnologyOptions) : Type 0 where
+pub record OptionsFit (words : List (List ℕ)) (options : TechnologyOptions) : Type 0 where
   pub names : AreNamed options.hopoffs
   pub fits : cost (hopoff_words options.hopoffs ++ default_words options.is_default) ≤ cost words
 
 pub options_read : (words : List (List ℕ)) (options : TechnologyOptions)
-    → options_at false words ≡ Ok options → AreOptions words options
+    → options_at false words ≡ Ok options → OptionsFit words options
 options_read words options h =
     let w = options_within false words options h in
     record {

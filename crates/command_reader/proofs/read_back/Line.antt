@@ -6,10 +6,10 @@ use Rattle.command_reader.specs.declared.faults.FaultKind.{FaultKind}
 use Rattle.command_reader.specs.declared.commands.Command.{Command}
 use Rattle.command_reader.specs.declared.commands.Command.TheVariants.{RejectUnknownPrefix}
 use Rattle.command_reader.specs.Fields.{is_one_of}
-use Rattle.command_reader.specs.ZoneLine.{left_out_of_zone, zone_at}
+use Rattle.command_reader.specs.ZoneLine.{left_out_of_zone, zone_line_at}
 use Rattle.command_reader.specs.TechnologyLine.{gw_type_prefix_at}
 use Rattle.command_reader.specs.BandwidthLine.{bandwidth_at}
-use Rattle.command_reader.specs.Line.{arq_at, no_at, kept_command_of, is_remark, passed_alone, passed_whole, left_out_commands, passed_at, named_command_at, command_at, line_of}
+use Rattle.command_reader.specs.Line.{arq_at, no_at, kept_command_of, is_remark, passed_alone, passed_whole, left_out_commands, passed_at, named_command_at, command_at, command_of}
 use Rattle.command_reader.specs.Accepted.{PrintsBack}
 use Rattle.command_reader.specs.Printing.{command_words}
 use Rattle.command_reader.proofs.read_back.Words.{AreWords}
@@ -28,7 +28,7 @@ kept_some (Ok c) command h = cc
 kept_some (Err kind) command h = absurd (let no : ⊥ = cc in no)
 
 -- ---- zone
-zone_back : (words : List (List ℕ)) (command : Command) → zone_at words ≡ Ok command → cost
+zone_back : (words : List (List ℕ)) (command : Command) → zone_line_at words ≡ Ok command → cost
     (codes "zone" ∷ words) ≤ 513 → IsSaidAgain command
 zone_back [] command h fits = absurd (let no : ⊥ = cc in no)
 zone_back (word ∷ words) command h fits =
@@ -90,7 +90,7 @@ opened_back : (word : List ℕ) (words : List (List ℕ)) (command : Command) �
     words ≡ Ok (Some command) → cost (word ∷ words) ≤ 513 → IsSaidAgain command
 opened_back word words command h fits =
     chosen (bytes_eq word (codes "zone")) _ _ (Ok (Some command)) h
-    (λ is f. zone_back words command (kept_some (zone_at words) command f)
+    (λ is f. zone_back words command (kept_some (zone_line_at words) command f)
     (subst (λ w. cost (w ∷ words) ≤ 513) (same_word word _ is) fits))
     (λ _ g. chosen (bytes_eq word (codes "gw-type-prefix")) _ _ (Ok (Some command)) g
     (λ is f.
@@ -117,13 +117,14 @@ said_back (word ∷ words) command h fits =
     (λ _ f. opened_back word words command f fits)
 
 -- the command of a line prints back
-pub command_back : (line : List ℕ) (command : Command) → line_of line ≡ Ok (Some command) →
+pub command_back : (line : List ℕ) (command : Command) → command_of line ≡ Ok (Some command) →
     PrintsBack command
 command_back line command h =
     let said = line_said line command h in
     prints_back command (said_back (words_of line) command said.said said.fits)
 
 -- its canonical line says it
-pub line_back : (line : List ℕ) (command : Command) → line_of line ≡ Ok (Some command) → line_of
+pub line_back : (line : List ℕ) (command : Command) → command_of line ≡ Ok (Some command) →
+    command_of
     (spaced (command_words command)) ≡ Ok (Some command)
 line_back line command h = (command_back line command h).said

@@ -2,40 +2,36 @@
 use Rattle.std.proofs.Common.{◌≡◌, ℕ, Bool, true, false, cond, List, [], ◌∷◌, ◌++◌, Ok, refl, ap, ◌∙◌, append_assoc}
 use Rattle.std.specs.Prelude.{Option, Result, codes, bytes_eq, flat_map}
 use Rattle.std.specs.Option.{ok_or}
-use Rattle.std.proofs.lemmas.Bool.{and_from, or_parts, or_from}
+use Rattle.std.proofs.lemmas.Bool.{and_from}
 use Rattle.std.proofs.lemmas.List.Folds.{list_all-append}
 use Rattle.gk_terms.specs.Fields.{◌>>=◌}
 use Rattle.command_reader.specs.declared.faults.FaultKind.{FaultKind}
 use Rattle.command_reader.specs.declared.faults.FaultKind.TheVariants.{BadName}
 use Rattle.command_reader.specs.Fields.{is_one_of}
 use Rattle.command_reader.specs.ZoneLine.{hunt_words}
-use Rattle.command_reader.specs.TechnologyLine.{TechnologyOptions, with_hopoff, options_at}
-use Rattle.command_reader.specs.Printing.{option_words, further_words, hopoff_words, default_words}
+use Rattle.command_reader.specs.TechnologyLine.{TechnologyOptions, is_option_word, with_hopoff, options_at}
+use Rattle.command_reader.specs.Printing.{further_words, hopoff_words, default_words}
 use Rattle.command_reader.specs.Accepted.{is_word}
 use Rattle.command_reader.proofs.read_back.Words.{AreWords}
 use Rattle.command_reader.proofs.read_back.Fields.{IsNamed}
 use Rattle.command_reader.proofs.read_back.Hopoffs.{AreNamed}
 
 -- the last of five, if none of the tests before it holds
-last_of : {X : Type 0} (a b c d : Bool) (p q r s t : X) → a ≡ false → b ≡ false → c ≡ false
-    → d ≡ false → cond a p (cond b q (cond c r (cond d s t))) ≡ t
-last_of a b c d p q r s t e f g h =
-    ap (λ x. cond x p (cond b q (cond c r (cond d s t)))) e
-    ∙ ap (λ x. cond x q (cond c r (cond d s t))) f
-    ∙ ap (λ x. cond x r (cond d s t)) g
-    ∙ ap (λ x. cond x s t) h
+last_of : {X : Type 0} (a b c d : Bool) (p q r s t : X)
+    → cond a true (cond b true (cond c true (cond d true false))) ≡ false
+    → cond a p (cond b q (cond c r (cond d s t))) ≡ t
+last_of true b c d p q r s t h = absurd (let impossible : ⊥ = cc in impossible)
+last_of false true c d p q r s t h = absurd (let impossible : ⊥ = cc in impossible)
+last_of false false true d p q r s t h = absurd (let impossible : ⊥ = cc in impossible)
+last_of false false false true p q r s t h = absurd (let impossible : ⊥ = cc in impossible)
+last_of false false false false p q r s t h = refl
 
 -- a word that is not an option word is one more name
-plain_name : (word : List ℕ) (words : List (List ℕ)) → is_one_of option_words word ≡ false
+plain_name : (word : List ℕ) (words : List (List ℕ)) → is_option_word word ≡ false
     → options_at true (word ∷ words) ≡ with_hopoff word (options_at true words)
 plain_name word words h =
-    let hopoff = or_parts (bytes_eq word (codes "hopoff")) _ h in
-    let seq = or_parts (bytes_eq word (codes "seq")) _ hopoff.1 in
-    let blast = or_parts (bytes_eq word (codes "blast")) _ seq.1 in
-    let technology = or_parts (bytes_eq word (codes "default-technology")) _ blast.1 in
-    let gw = or_parts (bytes_eq word (codes "gw")) false technology.1 in
-    let hunt : is_one_of hunt_words word ≡ false = or_from _ _ seq.0 (or_from _ _ blast.0 refl) in
-    last_of _ _ _ _ _ _ _ _ _ hopoff.0 hunt technology.0 gw.0
+    last_of (bytes_eq word (codes "hopoff")) (is_one_of hunt_words word)
+    (bytes_eq word (codes "default-technology")) (bytes_eq word (codes "gw")) _ _ _ _ _ h
 
 -- ---- the options, read again
 abbrev options_of : List (List ℕ) → Bool → Result TechnologyOptions FaultKind
@@ -54,9 +50,9 @@ name_again name names is_default rest is h =
 further_name : (name : List ℕ) (names rest : List (List ℕ)) (is_default : Bool) → IsNamed name
     → options_at true rest ≡ options_of names is_default
     → options_at true (further_words name ++ rest) ≡ options_of (name ∷ names) is_default
-further_name name names rest is_default is h = by (is_one_of option_words name) refl
+further_name name names rest is_default is h = by (is_option_word name) refl
   where
-    by : (b : Bool) → is_one_of option_words name ≡ b
+    by : (b : Bool) → is_option_word name ≡ b
         → options_at true (cond b (codes "hopoff" ∷ name ∷ []) (name ∷ []) ++ rest)
         ≡ options_of (name ∷ names) is_default
     by true e = name_again name names is_default (options_at true rest) is h
@@ -92,7 +88,7 @@ further_solid : (names : List (List ℕ)) → AreNamed names → AreWords (flat_
 further_solid [] are = refl
 further_solid (name ∷ names) are =
     list_all-append is_word (further_words name) (flat_map further_words names) ∙ and_from _ _
-    (by (is_one_of option_words name)) (further_solid names are.1)
+    (by (is_option_word name)) (further_solid names are.1)
   where
     by : (b : Bool) → AreWords (cond b (codes "hopoff" ∷ name ∷ []) (name ∷ []))
     by true = and_from _ _ are.0.solid refl

@@ -5,7 +5,8 @@ use Rattle.command_reader.specs.Progress.{Progress}
 use Rattle.command_reader.specs.Reading.{nothing_read, MayReadOn}
 use Rattle.command_reader.proofs.reading.lines_in.Given as goal
 
--- whatever may be answered of the lines that are left, after those read, may be answered of all lines
+-- whatever may be answered of the lines that are left, after those read, may be answered of all
+-- lines
 abbrev pub invariant-loop-line : goal.invariant-loop-line
 invariant-loop-line l =
     (end : Result Progress LineFault) → MayReadOn l.draft (lines_of l.line-iterator) end → MayReadOn

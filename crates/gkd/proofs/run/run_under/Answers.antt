@@ -8,7 +8,7 @@ use Rattle.gkd.proofs.run.run_under.Goals as goal
 pub returns-clause-written : goal.returns-clause-written
 returns-clause-written g c =
     under_serves MayAnswer _ _ _ _ _ _ _ c.in_ok-replies.replies c.in_ok-core.ensures.opened
-    c.in_ok-replies.ensures.written
+    (rw c.in_ok-replies.was at c.session-result.ensures.written)
 
 pub returns-in_err-replies-clause-written : goal.returns-in_err-replies-clause-written
 returns-in_err-replies-clause-written g c =
@@ -16,7 +16,7 @@ returns-in_err-replies-clause-written g c =
     c.from_residual-in_err-replies.ensures.1 in
     rw (p.1, p.2)
     (under_fails MayAnswer _ _ _ _ _ _ _ _ c.in_ok-core.ensures.opened
-    c.in_err-replies.ensures.written)
+    (rw c.in_err-replies.was at c.session-result.ensures.written))
 
 pub returns-in_err-replies-clause-reader_noted : goal.returns-in_err-replies-clause-reader_noted
 returns-in_err-replies-clause-reader_noted g c =

@@ -2,7 +2,7 @@ use Rattle.std.proofs.Common.{sym, subst, ◌∙◌}
 use Rattle.std.specs.Prelude.{bytes_eq}
 use Rattle.std.specs.List.{IsDistinct}
 use Rattle.std.proofs.lemmas.Map.Keys.{IsDistinct-tail}
-use Rattle.registry.specs.Chosen.{IsBest, is_other_than}
+use Rattle.registry.specs.Chosen.{IsBestGateway, is_other_than}
 use Rattle.registry.proofs.NamedLemmas.{all_looked_at}
 use Rattle.registry.proofs.choosing.best_named.Goals as goal
 
@@ -13,9 +13,9 @@ loop-id-init c =
     let ids = c.into_iter-id-iterator.ensures.into_iter_gives ∙ c.keys-id-items.ensures.rest in
     record {
       different = subst (IsDistinct bytes_eq) (sym ids) c.keys-id-items.ensures.unique;
-      best = subst (λ left. IsBest entries named
-          (is_other_than named c.args.zone.now c.args.prefix.now left) c.args.usual) (sym ids)
-          c.requires.usual;
+      best = subst (λ left. IsBestGateway entries named
+          (is_other_than named c.args.zone.now c.args.prefix.now left) c.args.unnamed) (sym ids)
+          c.requires.unnamed;
     }
 
 pub loop-id-preserved : goal.loop-id-preserved
@@ -29,7 +29,7 @@ loop-id-preserved c =
     record {
       different = IsDistinct-tail bytes_eq id rest different;
       best = c.with_named-best.ensures rest different
-          (subst (λ ids. IsBest entries named
+          (subst (λ ids. IsBestGateway entries named
           (is_other_than named c.args.zone.now c.args.prefix.now ids) c.loop-id.best) left
           c.loop-id.invariant.best);
     }
@@ -39,6 +39,6 @@ returns c =
     let entries = c.args.listing.now.entries in
     let named = c.args.named.now.entries in
     all_looked_at entries named c.args.zone.now c.args.prefix.now c.loop-id.best
-    (subst (λ ids. IsBest entries named
+    (subst (λ ids. IsBestGateway entries named
     (is_other_than named c.args.zone.now c.args.prefix.now ids) c.loop-id.best)
     c.in-None.ensures.steps.0 c.loop-id.invariant.best)

@@ -8,10 +8,10 @@ pub invariant_of-self : goal.invariant_of-self
 invariant_of-self c =
     subst EndsALine (sym c.in-Ok.ensures)
     (still_ends c.self.inside.bytes.items c.args.line.now c.self.invariant
-    (c.reads_back.ensures c.if-not-reads_back.false))
+    (c.reads_as_line.ensures c.if-not-reads_as_line.false))
 
 pub returns-in-Ok : goal.returns-in-Ok
 returns-in-Ok c =
     ap lines_of c.in-Ok.ensures ∙ one_more_line c.self.inside.bytes.items c.args.line.now
-    c.self.invariant (c.reads_back.ensures c.if-not-reads_back.false)
+    c.self.invariant (c.reads_as_line.ensures c.if-not-reads_as_line.false)
     ∙ ap (λ lines. lines ++ c.args.line.now ∷ []) c.self.view_is

@@ -1,6 +1,6 @@
 use Rattle.std.proofs.Common.{rules, [], ◌∷◌, length, ap, sym, ◌∙◌, arith, length-append}
 use Rattle.std.proofs.lemmas.List.{append-nil}
-use Rattle.publisher.specs.History.{generations}
+use Rattle.publisher.specs.History.{generations_in}
 use Rattle.publisher.proofs.Prefixes.{prefix_trans}
 use Rattle.publisher.proofs.publishers.Publisher.publish.Goals as goal
 
@@ -19,9 +19,10 @@ pub invariant_of-self-2 : goal.invariant_of-self-2
 invariant_of-self-2 g c =
     let before = c.self.invariant in
     let told = c.put_in_force-told.result in
-    let one = length-append (generations c.in-Some.drafted) (c.of-about.result.value.commands ∷ [])
+    let one = length-append (generations_in c.in-Some.drafted) (c.of-about.result.value.commands ∷
+    [])
     in (
-      ap generations c.again.ensures,
+      ap generations_in c.again.ensures,
       search rules,
       omega (
         arith,

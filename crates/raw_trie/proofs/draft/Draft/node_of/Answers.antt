@@ -2,7 +2,7 @@ use Rattle.std.proofs.Common.{◌≡◌, ℕ, ◌+◌, ◌-◌, ◌*◌, ◌<◌
 use Rattle.std.specs.Char.{is_ascii_digit}
 use Rattle.std.specs.List.{list_all}
 use Rattle.std.proofs.lemmas.List.{append-nil, append_assoc, take_more, take_all, replicate_more}
-use Rattle.raw_trie.specs.Trie.{Links, GrowsTo, IsSomeTrie, character_of}
+use Rattle.raw_trie.specs.Trie.{Links, GrowsTo, IsSomeTrie, link_character_of}
 use Rattle.raw_trie.proofs.Same.{digits_of}
 use Rattle.raw_trie.proofs.Insertion.{within_words, grows_none, grows_more, character_of-digit, is_digit_at, digit_range}
 use Rattle.raw_trie.proofs.draft.Draft.node_of.Goals as goal
@@ -29,10 +29,11 @@ digit_more : (old mid new : List ℕ) (node child : ℕ) (digits : List ℕ) (i 
 digit_more old mid new node child digits i all within grows links =
     let digit = get_or digits i 0 in
     let range = digit_range digit (is_digit_at digits i all within) in
-    let path : take i digits ++ character_of (digit - 48) ∷ [] ≡ take (i + 1) digits =
+    let path : take i digits ++ link_character_of (digit - 48) ∷ [] ≡ take (i + 1) digits =
     ap (λ c. take i digits ++ c ∷ []) (character_of-digit digit range.0 range.1)
     ∙ sym (take_more digits i 0 within) in
-    renamed old new child (take i digits ++ character_of (digit - 48) ∷ []) (take (i + 1) digits)
+    renamed old new child (take i digits ++ link_character_of (digit - 48) ∷ []) (take (i + 1)
+    digits)
     path (grows_more old mid new node (digit - 48) child (take i digits) (omega arith) grows links)
 
 dot_more : (old mid new : List ℕ) (node child : ℕ) (literals : List ℕ) (i : ℕ)

@@ -3,14 +3,14 @@ use Rattle.std.proofs.lemmas.List.{take_more, take_all}
 use Rattle.digit_patterns.specs.Duplicate.{has_pattern}
 use Rattle.digit_patterns.proofs.Duplicates.{duplicate_after-new, duplicate_after-found}
 use Rattle.raw_trie.specs.Nodes.{node_count, patterns_of}
-use Rattle.raw_trie.specs.Trie.{Row, IsTrie, Added, Adds, paths_of}
+use Rattle.raw_trie.specs.Trie.{Row, IsTrie, Added, AddsRow, paths_of}
 use Rattle.raw_trie.proofs.Counting.{paths_of-push, node_count_of, duplicate_after-all, empty_trie}
 use Rattle.raw_trie.proofs.NodeBound.{node_count-rows}
 use Rattle.raw_trie.proofs.trie.RawTrie.build.Goals as goal
 
 -- what was said of a row that was added, or not
 added_as : (rows : List Row) (old new : List ℕ) (row : Row) (b t : Bool)
-    → IsTrie rows (paths_of rows) old → Adds old new row b → b ≡ t
+    → IsTrie rows (paths_of rows) old → AddsRow old new row b → b ≡ t
     → Added rows (paths_of rows) row new t
 added_as rows old new row b t trie adds e =
     subst (Added rows (paths_of rows) row new) e (adds rows (paths_of rows) trie)

@@ -1,5 +1,5 @@
 use Rattle.std.proofs.Common.{sym, subst}
-use Rattle.registry.specs.Served.{Adds, MayAdd}
+use Rattle.registry.specs.Served.{AddsPlaces, MayAddPlaces}
 use Rattle.registry.proofs.ServedLemmas.{gateway_enters, gateway_may_enter, terminal_enters, at_ok, at_err}
 use Rattle.registry.proofs.served.Served.enter.Goals as goal
 
@@ -9,8 +9,8 @@ returns-in-Gateway-clause-ok c =
     let old = c.args.self.now in
     let new = c.add_each.new.self in
     at_ok (λ adds. gateway_enters e c.args.number old new (sym c.in-Gateway.ensures)
-    (subst (λ zone. Adds old new c.args.number zone e.technologies) c.zone.ensures
-    (subst (Adds old new c.args.number c.zone.result.now) c.technologies.ensures.value adds)))
+    (subst (λ zone. AddsPlaces old new c.args.number zone e.technologies) c.zone.ensures
+    (subst (AddsPlaces old new c.args.number c.zone.result.now) c.technologies.ensures.value adds)))
     c.add_each.result c.add_each.ensures.ok
 
 pub returns-in-Gateway-clause-err : goal.returns-in-Gateway-clause-err
@@ -19,8 +19,9 @@ returns-in-Gateway-clause-err c =
     let old = c.args.self.now in
     let new = c.add_each.new.self in
     at_err (λ adds. gateway_may_enter e c.args.number old new (sym c.in-Gateway.ensures)
-    (subst (λ zone. MayAdd old new c.args.number zone e.technologies) c.zone.ensures
-    (subst (MayAdd old new c.args.number c.zone.result.now) c.technologies.ensures.value adds)))
+    (subst (λ zone. MayAddPlaces old new c.args.number zone e.technologies) c.zone.ensures
+    (subst (MayAddPlaces old new c.args.number c.zone.result.now) c.technologies.ensures.value
+    adds)))
     c.add_each.result c.add_each.ensures.err
 
 pub returns-in-Terminal-clause-ok : goal.returns-in-Terminal-clause-ok

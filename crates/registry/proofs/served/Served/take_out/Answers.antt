@@ -1,6 +1,6 @@
 use Rattle.std.proofs.Common.{false, sym, ap, ◌∙◌}
 use Rattle.std.specs.Prelude.{if◌then◌else◌}
-use Rattle.registry.specs.Served.{Service, is_among, same_place}
+use Rattle.registry.specs.Served.{Service, serves_at, same_place}
 use Rattle.registry.proofs.ServedLemmas.{no_empty_left, none_left}
 use Rattle.registry.proofs.served.Served.take_out.Goals as goal
 
@@ -19,4 +19,4 @@ returns-then-is_last_taken c other =
     (sym c.is_last_taken.ensures.empty ∙ c.if-is_last_taken.true) other
     ∙ c.is_last_taken.ensures.puts other
     ∙ ap (λ places. if same_place (c.args.zone, c.args.prefix, c.args.number) other then false
-    else is_among places other) c.self.view_is
+    else serves_at places other) c.self.view_is

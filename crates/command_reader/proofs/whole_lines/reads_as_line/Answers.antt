@@ -2,7 +2,7 @@ use Rattle.std.proofs.Common.{sym, ◌∙◌, arith}
 use Rattle.std.proofs.lemmas.Bool.{not-true}
 use Rattle.gk_lines.proofs.LinesRead.{HasNoFeed-whole}
 use Rattle.command_reader.proofs.read_back.Words.{line_first}
-use Rattle.command_reader.proofs.whole_lines.reads_back.Goals as goal
+use Rattle.command_reader.proofs.whole_lines.reads_as_line.Goals as goal
 
 pub returns-then-bytes_before_feed-line : goal.returns-then-bytes_before_feed-line
 returns-then-bytes_before_feed-line c = λ other rest.

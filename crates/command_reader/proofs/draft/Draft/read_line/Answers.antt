@@ -1,6 +1,5 @@
 use Rattle.std.proofs.Common.{◌≡◌, ◌+◌, ◌<◌, length, length-append, Ok, sym, ap, subst, ◌∙◌, arith}
 use Rattle.std.specs.HashSet.{keys}
-use Rattle.std.proofs.lemmas.Result.{err_from_is_err_and}
 use Rattle.gk_terms.specs.declared.limits.TheConstants.{MOST_LINES}
 use Rattle.command_reader.specs.declared.kept.Kept.{Kept}
 use Rattle.command_reader.specs.Index.{AreDeclared}
@@ -12,28 +11,22 @@ use Rattle.command_reader.proofs.one_by_one.KeptLemmas.{line_kept, line_passed, 
 use Rattle.command_reader.proofs.one_by_one.NumberLemmas.{held_commands, held_count, held_more}
 use Rattle.command_reader.specs.WholeLines.{KeepsLine}
 use Rattle.command_reader.proofs.WholeLinesLemmas.{one_more_kept}
-use Rattle.command_reader.proofs.draft.Draft.read_text.Goals as goal
+use Rattle.command_reader.proofs.draft.Draft.read_line.Goals as goal
 
-pub returns-in_err-add_line : goal.returns-in_err-add_line
-returns-in_err-add_line c =
-    let p = err_from_is_err_and c.from_residual.result c.from_residual.ensures.1 in
+pub returns-in-Err : goal.returns-in-Err
+returns-in-Err c =
     let room : line_count c.args.self.now < MOST_LINES = omega
     (arith, c.if-before-ge-MOST_LINES.false, c.line_count-before.ensures.count) in
     let same = held_commands c.self.inside.kept.numbers.items _ _ _ c.self.invariant.0
     c.self.view_is in
     let declared = subst (AreDeclared (keys c.self.inside.kept.declared)) (sym same)
     c.self.invariant.2 in
-    let old : Kept = record {
-      commands = c.self.inside.kept.commands;
-      numbers =
-          c.self.inside.kept.numbers;
-      declared = c.self.inside.kept.declared;
-      line =
-          c.line_count-before.result + 1;
-    } in
-    rw (p.1, p.2) (
-      line_refused old c.args.self.now c.args.line.now _ room declared c.in_err-add_line.ensures.0,
-      rw (c.in_err-add_line.ensures.1.commands, c.in_err-add_line.ensures.1.numbers) c.self.view_is,
+    let old : Kept = record c.self.inside.kept { line = c.line_count-before.result + 1 } in (
+      rw (c.fault_at-in-Err.ensures) (
+        ap (λ n. n + 1) c.line_count-before.ensures.count,
+        line_refused old c.args.self.now c.args.line.now _ room declared c.in-Err.ensures.0,
+      ),
+      rw (c.in-Err.ensures.1.commands, c.in-Err.ensures.1.numbers) c.self.view_is,
     )
 
 pub invariant_of-self-then-len-commands_before : goal.invariant_of-self-then-len-commands_before
@@ -45,18 +38,11 @@ invariant_of-self-then-len-commands_before c =
     let same = held_commands numbers _ _ _ c.self.invariant.0 c.self.view_is in
     let declared = subst (AreDeclared (keys c.self.inside.kept.declared)) (sym same)
     c.self.invariant.2 in
-    let old : Kept = record {
-      commands = c.self.inside.kept.commands;
-      numbers =
-          c.self.inside.kept.numbers;
-      declared = c.self.inside.kept.declared;
-      line =
-          c.line_count-before.result + 1;
-    } in
+    let old : Kept = record c.self.inside.kept { line = c.line_count-before.result + 1 } in
     let more : length commands < length c.add_line.new.kept.commands.items = omega
     (arith, c.if-len-commands_before.true, c.len.ensures, c.len-commands_before.ensures) in
     let kept = line_kept old c.add_line.new.kept c.args.self.now c.args.line.now room declared
-    c.in_ok-add_line.ensures more in
+    c.in_default.ensures more in
     let count = held_count numbers _ _ _ c.self.invariant.0 c.self.view_is in
     let one_command : length c.add_line.new.kept.commands.items ≡ length commands + 1 = ap length
     kept.added.commands ∙ length-append commands _ in
@@ -84,19 +70,12 @@ returns-then-len-commands_before c =
     let same = held_commands numbers _ _ _ c.self.invariant.0 c.self.view_is in
     let declared = subst (AreDeclared (keys c.self.inside.kept.declared)) (sym same)
     c.self.invariant.2 in
-    let old : Kept = record {
-      commands = c.self.inside.kept.commands;
-      numbers =
-          c.self.inside.kept.numbers;
-      declared = c.self.inside.kept.declared;
-      line =
-          c.line_count-before.result + 1;
-    } in
+    let old : Kept = record c.self.inside.kept { line = c.line_count-before.result + 1 } in
     let more : length c.self.inside.kept.commands.items < length c.add_line.new.kept.commands.items
     = omega (arith, c.if-len-commands_before.true, c.len.ensures, c.len-commands_before.ensures)
     in
     let kept = line_kept old c.add_line.new.kept c.args.self.now c.args.line.now room declared
-    c.in_ok-add_line.ensures more in
+    c.in_default.ensures more in
     let added =
     held_more numbers c.add_line.new.kept.numbers.items c.self.inside.kept.commands.items
     c.add_line.new.kept.commands.items _ c.line_count-before.result c.args.self.now kept.command
@@ -110,16 +89,9 @@ invariant_of-self-2 c =
     (arith, c.if-before-ge-MOST_LINES.false, c.line_count-before.ensures.count) in
     let count = held_count c.self.inside.kept.numbers.items _ _ _ c.self.invariant.0 c.self.view_is
     in
-    let old : Kept = record {
-      commands = c.self.inside.kept.commands;
-      numbers =
-          c.self.inside.kept.numbers;
-      declared = c.self.inside.kept.declared;
-      line =
-          c.line_count-before.result + 1;
-    } in
+    let old : Kept = record c.self.inside.kept { line = c.line_count-before.result + 1 } in
     let passed = line_passed old c.add_line.new.kept c.args.self.now c.args.line.now room
-    c.in_ok-add_line.ensures
+    c.in_default.ensures
     (λ more. absurd (omega (
       arith,
       c.if-len-commands_before.false,
