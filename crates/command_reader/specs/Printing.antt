@@ -34,8 +34,8 @@ gateway_words None = []
 gateway_words (Some g) = codes "gw-priority" ∷ decimal g.priority ∷ g.gateways
 
 -- ---- technology prefixes
--- a further name of a hopoff: one that would be read as an option comes after the word `hopoff`
--- again
+-- a further name of a hopoff: one that would not be read as a further name comes after the word
+-- `hopoff` again
 abbrev pub further_words : List ℕ → List (List ℕ)
 further_words name = if is_option_word name then codes "hopoff" ∷ name ∷ [] else name ∷ []
 

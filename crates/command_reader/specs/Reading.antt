@@ -98,7 +98,7 @@ zones_checked read None = local_zone_checked read
 abbrev pub finished : Progress → Result Configuration LineFault
 finished read = zones_checked read (unknown_zone read)
 
--- the configuration of what was read, or the fault of a line
+-- the configuration of what was read, or its first fault
 abbrev pub finished_of : Result Progress LineFault → Result Configuration LineFault
 finished_of (Err fault) = Err fault
 finished_of (Ok read) = finished read

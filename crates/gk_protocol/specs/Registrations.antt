@@ -128,8 +128,8 @@ registering_by_word [] = None
 registering_by_word (word ∷ words) =
     if bytes_eq word (codes "RRQ") then registering_at words else None
 
--- the sequence number and the ID of a registration, all of which could be read up to and including
--- its first option
+-- the sequence number and the ID of a registration that could be read up to and including its first
+-- option
 unfoldable pub registering_of : List ℕ → Option (ℕ × List ℕ)
 registering_of line = if is_too_long line then None else registering_by_word (words_of line)
 
