@@ -1,14 +1,15 @@
 //! A short text that is held in place: what names, dialled digits and technology prefixes are made
 //! of.
 
-ghost use Rattle.std.specs.Prelude.{◌≡◌, ℕ, ◌-◌, ◌<◌, ◌≤◌, List, length, take, nat_eq, refl, Some};
+ghost use Rattle.std.specs.Prelude.{◌≡◌, ℕ, ◌-◌, ◌<◌, ◌≤◌, List, [], ◌∷◌, length, take, nat_eq, refl, Some};
 ghost use Rattle.std.specs.List.{list_all};
 ghost use Rattle.std.specs.Cmp.Lexicographic.{pointwise, slice_cmp};
 ghost use Rattle.std.specs.Cmp.Rules.{comparing, hashing};
 ghost use Rattle.std.specs.Cmp.{partial_order_from_own_ties};
 ghost use Rattle.std.specs.Ordering.{nat_cmp, as_partial_cmp};
-ghost use Rattle.std.specs.Hash as fed;
+ghost use Rattle.std.specs.Hash.{same_Alike};
 ghost use Rattle.std.proofs.Common.{rules};
+ghost use Rattle.std.proofs.lemmas.Slice.Eq.{bytes_eq-Decides};
 ghost use Rattle.gk_terms.specs.Spelling.{IsVisible, is_visible, padded};
 
 use std::cmp::Ordering;
@@ -157,13 +158,15 @@ impl<const MOST: usize> Ord for Spelling<MOST> {
     }
 }
 
+/// The text is fed to a hasher as a whole, and not byte by byte as a slice is, which takes a step of
+/// the hasher for each.
 impl<const MOST: usize> Hash for Spelling<MOST> {
-    ghost hash_input = { fed.slice fed.u8 };
+    ghost hash_input = { λ text. text ∷ [] };
 
-    ghost respects_eq = { Prim.search (hashing, rules) };
+    ghost respects_eq = { (same_Alike (λ text. text ∷ []) bytes_eq-Decides).fed };
 
     fn hash<H: Hasher>(&self, state: &mut H) {
-        self.as_bytes().hash(state);
+        state.write(self.as_bytes());
     }
 }
 

@@ -49,11 +49,12 @@ impl From<AllocError> for TrieFault {
 /// look-up takes no memory.
 ///
 /// A node has the numbers of the nodes that the ten digits and a dot lead to, and beside them the
-/// values of the patterns that end at it without and with a star: a step of a look-up reads a link,
-/// the dot's link and the ends at known places of one node, which lies in one or two cache lines. A
-/// node of 16 bytes, with the set of its links and the number of the first of the nodes they lead
-/// to, which lie together, takes less memory and is about as fast to read, but has to be built from
-/// sorted beginnings, which takes many times as long.
+/// values of the patterns that end at it without and with a star, all at known places. A look-up
+/// reads one link of each node on its way down, and the dot's link and the ends of a node on its
+/// way back up, which lies in one or two cache lines. A node of 16 bytes, with the set of its links
+/// and the number of the first of the nodes they lead to, which lie together, takes less memory and
+/// is about as fast to read, but has to be built from sorted beginnings, which takes many times as
+/// long.
 #[derive(Drop)]
 pub struct RawTrie {
     block: Block,
@@ -121,24 +122,30 @@ impl RawTrie {
         longest(self, &dialled.as_bytes()[from..])
     }
 
-    /// Looks at a node, and counts that. No other function reads a node.
-    pub(crate) fn look_at(&self, node: u32, digit: Option<u8>, looks: &mut u32) -> Seen
+    /// Looks at a node, and counts that: where the link of the digit leads, or 0.
+    pub(crate) fn look_at(&self, node: u32, digit: Option<u8>, looks: &mut u32) -> u32
         requires node { node < length (paths_of self.now) }
         requires digit { IfSome digit (λ d. d < 10) }
         requires few { looks.old < 2000 }
-        ensures shown { Shows self.now (slice_index_or (paths_of self.now) node []) result }
-        ensures next { LeadsOn self.now (slice_index_or (paths_of self.now) node []) digit
-            result.next }
+        ensures next { LeadsOn self.now (slice_index_or (paths_of self.now) node []) digit result }
         ensures counted { looks.new ≡ looks.old + 1 }
     {
         *looks += 1;
-        let first = NODE_WORDS * node as usize;
-        let next = match digit {
-            Some(digit) => self.block.word(first + digit as usize),
+        match digit {
+            Some(digit) => self.block.word(NODE_WORDS * node as usize + digit as usize),
             None => 0,
-        };
+        }
+    }
+
+    /// What a node that was looked at tells beside that. No other function reads a node. A walk
+    /// goes down by the digits first and asks for this on its way back up, so that most nodes that
+    /// it passes are read at one place alone.
+    pub(crate) fn seen_at(&self, node: u32) -> Seen
+        requires { node < length (paths_of self.now) }
+        ensures { Shows self.now (slice_index_or (paths_of self.now) node []) result }
+    {
+        let first = NODE_WORDS * node as usize;
         Seen {
-            next,
             dot: self.block.word(first + DOT),
             plain: self.block.end(first + PLAIN),
             starred: self.block.end(first + STARRED),

@@ -14,11 +14,9 @@ ghost use Rattle.raw_trie.specs.Walk.{Shows, most_looks, digit_of};
 use crate::trie::RawTrie;
 use digit_patterns::Hit;
 
-/// What a look at a node tells.
+/// What a node tells, the links of its digits aside.
 #[derive(Clone, Copy)]
 pub(crate) struct Seen {
-    /// Where the link of the digit that was asked for leads, or 0.
-    pub(crate) next: u32,
     /// Where the dot's link leads, or 0.
     pub(crate) dot: u32,
     /// The value of the pattern that ends here without a star.
@@ -56,14 +54,14 @@ fn longest_from(
     ensures once { duplicate_of trie.now ≡ None }
     ensures looks { looks.new ≤ looks.old + most_looks (length text.now - literals) }
 {
-    let seen = trie.look_at(node, digit_at(text, literals), looks);
-    if seen.next != 0 {
-        let longer = longest_from(trie, seen.next, text, literals + 1, looks);
+    let next = trie.look_at(node, digit_at(text, literals), looks);
+    if next != 0 {
+        let longer = longest_from(trie, next, text, literals + 1, looks);
         if longer.is_some() {
             return longer;
         }
     }
-    longest_dots(trie, seen, text, literals, looks)
+    longest_dots(trie, trie.seen_at(node), text, literals, looks)
 }
 
 /// The digit at a place of the text, if there is one.
@@ -101,7 +99,8 @@ fn longest_dots(
         if seen.dot == 0 {
             return best;
         }
-        seen = trie.look_at(seen.dot, None, looks);
+        let _ = trie.look_at(seen.dot, None, looks);
+        seen = trie.seen_at(seen.dot);
         dots += 1;
     }
     best = with_hit(seen.starred, literals, dots, true, best);

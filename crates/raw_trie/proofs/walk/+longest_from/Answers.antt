@@ -3,20 +3,20 @@ use Rattle.raw_trie.specs.Walk.{LeadsOn}
 use Rattle.raw_trie.proofs.Best.{top_of_found, below_if_none}
 use Rattle.raw_trie.proofs.Steps.{goes_on, digits_more, no_more_literals, looks_on, looks_end}
 use Rattle.raw_trie.proofs.walk.+longest_from.Goals as goal
-use Rattle.raw_trie.proofs.walk.+longest_from.Goals.{then-seen-ne0+else-is_some, else-seen-ne0}
+use Rattle.raw_trie.proofs.walk.+longest_from.Goals.{then-next-ne0+else-is_some, else-next-ne0}
 
 pub longest_from-longer-requires : goal.longest_from-longer-requires
 longest_from-longer-requires t c =
     let rows = c.args.trie.now in let text = c.args.text.now in let k = c.args.literals in
-    let leads : LeadsOn rows (take k text) c.digit_at.result c.look_at-seen.result.next =
-    subst (λ p. LeadsOn rows p c.digit_at.result c.look_at-seen.result.next) c.requires.at.1
-    c.look_at-seen.ensures.next in
+    let leads : LeadsOn rows (take k text) c.digit_at.result c.look_at-next.result =
+    subst (λ p. LeadsOn rows p c.digit_at.result c.look_at-next.result) c.requires.at.1
+    c.look_at-next.ensures.next in
     let goes =
-    goes_on rows text k c.look_at-seen.result.next c.digit_at.result c.digit_at.ensures leads
-    c.if-seen-ne0.true in
+    goes_on rows text k c.look_at-next.result c.digit_at.result c.digit_at.ensures leads
+    c.if-next-ne0.true in
     let more =
-    looks_on (length text) k c.look_at-seen.new.looks goes.early c.args.looks.now
-    c.look_at-seen.ensures.counted in (
+    looks_on (length text) k c.look_at-next.new.looks goes.early c.args.looks.now
+    c.look_at-next.ensures.counted in (
       omega (arith, goes.early, c.decreases),
       (
         omega (arith, goes.early),
@@ -33,36 +33,36 @@ longest_from-longer-requires t c =
 pub returns-then-is_some-clause-looks : goal.returns-then-is_some-clause-looks
 returns-then-is_some-clause-looks t c =
     let rows = c.args.trie.now in let text = c.args.text.now in let k = c.args.literals in
-    let leads : LeadsOn rows (take k text) c.digit_at.result c.look_at-seen.result.next =
-    subst (λ p. LeadsOn rows p c.digit_at.result c.look_at-seen.result.next) c.requires.at.1
-    c.look_at-seen.ensures.next in
+    let leads : LeadsOn rows (take k text) c.digit_at.result c.look_at-next.result =
+    subst (λ p. LeadsOn rows p c.digit_at.result c.look_at-next.result) c.requires.at.1
+    c.look_at-next.ensures.next in
     let goes =
-    goes_on rows text k c.look_at-seen.result.next c.digit_at.result c.digit_at.ensures leads
-    c.if-seen-ne0.true in
+    goes_on rows text k c.look_at-next.result c.digit_at.result c.digit_at.ensures leads
+    c.if-next-ne0.true in
     let more =
-    looks_on (length text) k c.look_at-seen.new.looks goes.early c.args.looks.now
-    c.look_at-seen.ensures.counted in
+    looks_on (length text) k c.look_at-next.new.looks goes.early c.args.looks.now
+    c.look_at-next.ensures.counted in
     omega (arith, more, c.longest_from-longer.ensures.looks)
 
 pub longest_dots-requires-clause-few : goal.longest_dots-requires-clause-few
 longest_dots-requires-clause-few t c =
     let rows = c.args.trie.now in let text = c.args.text.now in let k = c.args.literals in
-    let leads : LeadsOn rows (take k text) c.digit_at.result c.look_at-seen.result.next =
-    subst (λ p. LeadsOn rows p c.digit_at.result c.look_at-seen.result.next) c.requires.at.1
-    c.look_at-seen.ensures.next in
-    elim c.if-seen-ne0.branch [
-      | then-seen-ne0+else-is_some w ↦
+    let leads : LeadsOn rows (take k text) c.digit_at.result c.look_at-next.result =
+    subst (λ p. LeadsOn rows p c.digit_at.result c.look_at-next.result) c.requires.at.1
+    c.look_at-next.ensures.next in
+    elim c.if-next-ne0.branch [
+      | then-next-ne0+else-is_some w ↦
           let goes =
-          goes_on rows text k c.look_at-seen.result.next c.digit_at.result c.digit_at.ensures leads
-          w.if-seen-ne0.true in
+          goes_on rows text k c.look_at-next.result c.digit_at.result c.digit_at.ensures leads
+          w.if-next-ne0.true in
           let more =
-          looks_on (length text) k c.look_at-seen.new.looks goes.early c.args.looks.now
-          c.look_at-seen.ensures.counted in
+          looks_on (length text) k c.look_at-next.new.looks goes.early c.args.looks.now
+          c.look_at-next.ensures.counted in
           omega (arith, more, w.longest_from-longer.ensures.looks, w.looks-is, c.requires.few)
-      | else-seen-ne0 w ↦ omega (
+      | else-next-ne0 w ↦ omega (
         arith,
-        looks_end (length text) k c.look_at-seen.new.looks c.args.looks.now
-            c.look_at-seen.ensures.counted,
+        looks_end (length text) k c.look_at-next.new.looks c.args.looks.now
+            c.look_at-next.ensures.counted,
         w.looks-is,
         c.requires.few,
       )
@@ -71,37 +71,37 @@ longest_dots-requires-clause-few t c =
 pub returns-clause-top : goal.returns-clause-top
 returns-clause-top t c =
     let rows = c.args.trie.now in let text = c.args.text.now in let k = c.args.literals in
-    let shown = c.look_at-seen.ensures.shown in
-    let leads : LeadsOn rows (take k text) c.digit_at.result c.look_at-seen.result.next =
-    subst (λ p. LeadsOn rows p c.digit_at.result c.look_at-seen.result.next) c.requires.at.1
-    c.look_at-seen.ensures.next in
-    elim c.if-seen-ne0.branch [
-      | then-seen-ne0+else-is_some w ↦
+    let shown = c.seen_at.ensures in
+    let leads : LeadsOn rows (take k text) c.digit_at.result c.look_at-next.result =
+    subst (λ p. LeadsOn rows p c.digit_at.result c.look_at-next.result) c.requires.at.1
+    c.look_at-next.ensures.next in
+    elim c.if-next-ne0.branch [
+      | then-next-ne0+else-is_some w ↦
           top_of_found rows text (66 * k) (66 * (k + 1)) c.longest_dots.result
           c.longest_dots.ensures.found
           (below_if_none rows text (66 * (k + 1)) w.longest_from-longer.result
           (sym w.is_some.ensures ∙ w.if-is_some.false) w.longest_from-longer.ensures.top)
-      | else-seen-ne0 w ↦
+      | else-next-ne0 w ↦
           top_of_found rows text (66 * k) (66 * (k + 1)) c.longest_dots.result
           c.longest_dots.ensures.found
-          (no_more_literals rows shown.words text k c.look_at-seen.result.next c.digit_at.result
-          shown.represents.trie c.digit_at.ensures leads w.if-seen-ne0.false)
+          (no_more_literals rows shown.words text k c.look_at-next.result c.digit_at.result
+          shown.represents.trie c.digit_at.ensures leads w.if-next-ne0.false)
     ]
 
 pub returns-clause-looks : goal.returns-clause-looks
 returns-clause-looks t c =
     let rows = c.args.trie.now in let text = c.args.text.now in let k = c.args.literals in
-    let leads : LeadsOn rows (take k text) c.digit_at.result c.look_at-seen.result.next =
-    subst (λ p. LeadsOn rows p c.digit_at.result c.look_at-seen.result.next) c.requires.at.1
-    c.look_at-seen.ensures.next in
-    elim c.if-seen-ne0.branch [
-      | then-seen-ne0+else-is_some w ↦
+    let leads : LeadsOn rows (take k text) c.digit_at.result c.look_at-next.result =
+    subst (λ p. LeadsOn rows p c.digit_at.result c.look_at-next.result) c.requires.at.1
+    c.look_at-next.ensures.next in
+    elim c.if-next-ne0.branch [
+      | then-next-ne0+else-is_some w ↦
           let goes =
-          goes_on rows text k c.look_at-seen.result.next c.digit_at.result c.digit_at.ensures leads
-          w.if-seen-ne0.true in
+          goes_on rows text k c.look_at-next.result c.digit_at.result c.digit_at.ensures leads
+          w.if-next-ne0.true in
           let more =
-          looks_on (length text) k c.look_at-seen.new.looks goes.early c.args.looks.now
-          c.look_at-seen.ensures.counted in
+          looks_on (length text) k c.look_at-next.new.looks goes.early c.args.looks.now
+          c.look_at-next.ensures.counted in
           omega (
             arith,
             more,
@@ -109,10 +109,10 @@ returns-clause-looks t c =
             w.looks-is,
             c.longest_dots.ensures.looks,
           )
-      | else-seen-ne0 w ↦ omega (
+      | else-next-ne0 w ↦ omega (
         arith,
-        looks_end (length text) k c.look_at-seen.new.looks c.args.looks.now
-            c.look_at-seen.ensures.counted,
+        looks_end (length text) k c.look_at-next.new.looks c.args.looks.now
+            c.look_at-next.ensures.counted,
         w.looks-is,
         c.longest_dots.ensures.looks,
       )

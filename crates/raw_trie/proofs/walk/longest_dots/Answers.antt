@@ -22,11 +22,11 @@ loop-dots-preserved c =
     let on =
     dot_on rows text c.requires.short k j inside c.requires.digits seen shown c.if-seen-eq0.false in
     record {
-      shown = subst (λ p. Shows rows p c.look_at-seen.result) on.1 c.look_at-seen.ensures.shown;
+      shown = subst (λ p. Shows rows p c.seen_at-seen.result) on.1 c.seen_at-seen.ensures;
       found = subst (IsFound rows text (66 * k) (66 * k + 2 * (j + 1)))
           (sym c.with_hit-best.ensures) next;
       within = omega arith;
-      counted = omega (arith, c.look_at-seen.ensures.counted, c.loop-dots.invariant.counted);
+      counted = omega (arith, c.look_at.ensures.counted, c.loop-dots.invariant.counted);
     }
 
 pub returns-then-seen-eq0-clause-found : goal.returns-then-seen-eq0-clause-found
