@@ -119,13 +119,15 @@ fn filled<const SIZE: usize>(text: &[u8]) -> [u8; SIZE]
     bytes
 }
 
+/// The texts are compared as strings, of which several bytes are compared at a time; those of a slice
+/// are compared one by one.
 impl<const MOST: usize> PartialEq for Spelling<MOST> {
     ghost eq = { pointwise nat_eq };
 
     ghost laws = { Prim.search (comparing, rules) };
 
     fn eq(&self, other: &Self) -> bool {
-        self.as_bytes() == other.as_bytes()
+        self.as_str() == other.as_str()
     }
 }
 
@@ -154,7 +156,7 @@ impl<const MOST: usize> Ord for Spelling<MOST> {
     ghost matches_eq = { Prim.search (comparing, rules) };
 
     fn cmp(&self, other: &Self) -> Ordering {
-        self.as_bytes().cmp(other.as_bytes())
+        self.as_str().cmp(other.as_str())
     }
 }
 

@@ -46,7 +46,7 @@ impl ShortName {
     pub fn is(&self, name: &Name) -> bool
         ensures { (result ≡ true) ↔ (self.now ≡ name.now) }
     {
-        self.spelling.as_bytes() == name.as_bytes()
+        self.spelling.as_str() == name.as_str()
     }
 
     /// The name.
