@@ -1,5 +1,7 @@
 pub mod Digits
 pub mod FeedLemmas
+pub mod LaneLemmas
+pub mod BlockLemmas
 pub mod Visible
 pub mod WordsLemmas
 pub mod LinesLemmas

@@ -5,11 +5,13 @@ ghost use Rattle.std.specs.Option.{ok_or};
 ghost use Rattle.std.specs.List.{list_all};
 ghost use Rattle.gk_terms.specs.Dialled.{IsDialled, is_dialled, is_dialled_byte, dialled_of};
 
+use crate::byte_kinds::{ByteKind, are_all};
 use crate::faults::TermFault;
 use crate::limits::MOST_DIALLED;
 use crate::spelling::Spelling;
 use std::fmt;
 use std::marker::Model;
+use std::simd::prelude::*;
 
 /// Dialled digits: 1 to 32 of `0` to `9`, `#` and `*`, held in place.
 /// The character set is that of H.225.0's dialedDigits without the comma.
@@ -70,11 +72,31 @@ fn is_dialled_byte(byte: u8) -> bool
     byte.is_ascii_digit() || byte == b'#' || byte == b'*'
 }
 
+/// The kind of the bytes that may.
+struct DialledBytes;
+
+impl ByteKind for DialledBytes {
+    ghost is_of_kind = { is_dialled_byte };
+
+    fn has(byte: u8) -> bool {
+        is_dialled_byte(byte)
+    }
+
+    #[inline(always)]
+    fn has_first_eight(text: &[u8]) -> bool {
+        let bytes = u8x8::from_slice(text);
+        let digit = bytes.simd_ge(u8x8::splat(b'0')) & bytes.simd_le(u8x8::splat(b'9'));
+        let hash_sign = bytes.simd_eq(u8x8::splat(b'#'));
+        let star = bytes.simd_eq(u8x8::splat(b'*'));
+        (digit | hash_sign | star).all()
+    }
+}
+
 /// Whether all bytes may.
 fn are_dialled(text: &[u8]) -> bool
     ensures { result ≡ list_all is_dialled_byte text.now }
 {
-    text.iter().all(|byte| is_dialled_byte(*byte))
+    are_all::<DialledBytes>(text)
 }
 
 /// Whether the text is dialled digits.

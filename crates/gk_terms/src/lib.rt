@@ -3,6 +3,7 @@
 #![tactic(auto)]
 
 pub mod addresses;
+mod byte_kinds;
 pub mod dialled_digits;
 pub mod faults;
 pub mod fields;

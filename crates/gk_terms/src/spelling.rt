@@ -12,9 +12,11 @@ ghost use Rattle.std.proofs.Common.{rules};
 ghost use Rattle.std.proofs.lemmas.Slice.Eq.{bytes_eq-Decides};
 ghost use Rattle.gk_terms.specs.Spelling.{IsVisible, is_visible, padded};
 
+use crate::byte_kinds::{ByteKind, are_all};
 use std::cmp::Ordering;
 use std::hash::{Hash, Hasher};
 use std::marker::Model;
+use std::simd::prelude::*;
 use std::{fmt, str};
 
 /// A text of at most `MOST` visible ASCII characters. The length comes before the characters, so
@@ -102,11 +104,28 @@ pub fn is_visible(byte: u8) -> bool
     0x21 <= byte && byte <= 0x7E
 }
 
+/// The kind of the visible bytes.
+struct Visible;
+
+impl ByteKind for Visible {
+    ghost is_of_kind = { is_visible };
+
+    fn has(byte: u8) -> bool {
+        is_visible(byte)
+    }
+
+    #[inline(always)]
+    fn has_first_eight(text: &[u8]) -> bool {
+        let bytes = u8x8::from_slice(text);
+        (bytes.simd_ge(u8x8::splat(0x21)) & bytes.simd_le(u8x8::splat(0x7E))).all()
+    }
+}
+
 /// Whether each byte of the text is visible.
 pub fn are_visible(text: &[u8]) -> bool
     ensures { result ≡ list_all is_visible text.now }
 {
-    text.iter().all(|byte| is_visible(*byte))
+    are_all::<Visible>(text)
 }
 
 /// The text, and zeros after it.

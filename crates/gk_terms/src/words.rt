@@ -1,11 +1,13 @@
 //! The words of a line.
 
-ghost use Rattle.std.specs.Prelude.{◌≡◌, ℕ, ◌<◌, List, [], ◌∷◌, length};
+ghost use Rattle.std.specs.Prelude.{◌≡◌, ℕ, ◌<◌, ◌≤◌, List, [], ◌∷◌, length, take, map};
 ghost use Rattle.std.specs.List.{prefix_len, position_or_len};
+ghost use Rattle.std.specs.Simd.Lanes.{mask_l};
 ghost use Rattle.std.specs.Iterator.{YieldsFirstBy, item_count};
 ghost use Rattle.gk_terms.specs.Text.{is_blank, words_of};
 
 use std::marker::Model;
+use std::simd::prelude::*;
 
 /// The words of a line, from the left: its parts between spaces and tabs. A contract sees the bytes
 /// that are left.
@@ -73,8 +75,35 @@ fn blanks_in_front(line: &[u8]) -> usize
     line.iter().take_while(|byte| is_blank(**byte)).count()
 }
 
-/// How many bytes come before the first blank.
+/// How many bytes come before the first blank. Sixteen are looked at together: one at a time takes
+/// some nine instructions for each, and the end of that loop is mispredicted, since words vary in
+/// length.
 fn length_of_word(line: &[u8]) -> usize
+    ensures { result ≡ position_or_len is_blank line.now }
+{
+    let mut at = 0;
+    while line.len() - at >= 16 {
+        let blanks = blanks_in_sixteen(&line[at..]);
+        if blanks != 0 {
+            return at + blanks.trailing_zeros() as usize;
+        }
+        at += 16;
+    }
+    at + bytes_before_blank(&line[at..])
+}
+
+/// Which of the first 16 bytes are blanks: bit k stands for byte k.
+#[inline(always)]
+fn blanks_in_sixteen(line: &[u8]) -> u64
+    requires { 16 ≤ length line.now }
+    ensures { result ≡ mask_l (map is_blank (take 16 line.now)) }
+{
+    let bytes = u8x16::from_slice(line);
+    (bytes.simd_eq(u8x16::splat(b' ')) | bytes.simd_eq(u8x16::splat(b'\t'))).to_bitmask()
+}
+
+/// How many bytes come before the first blank, looked at one by one.
+fn bytes_before_blank(line: &[u8]) -> usize
     ensures { result ≡ position_or_len is_blank line.now }
 {
     line.iter().take_while(|byte| !is_blank(**byte)).count()

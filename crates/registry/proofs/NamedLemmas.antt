@@ -1,11 +1,16 @@
 -- The best of the named gateways, with one more of them looked at in each step.
 use Rattle.std.proofs.Common.{◌≡◌, inl, inr, ℕ, ◌<◌, ◌≤◌, ◌==◌, Bool, true, false, not, ◌&&◌, ◌||◌, nat_lt, nat_le, List, [], ◌∷◌, refl, sym, ap, subst, ◌∙◌, arith}
-use Rattle.std.specs.Prelude.{Option, Some, None, ◌⊎◌, bytes_eq, if◌then◌else◌}
+use Rattle.std.specs.Prelude.{Option, Some, None, ◌⊎◌, bytes_eq, unwrap_or, if◌then◌else◌}
 use Rattle.std.specs.List.{AllByRecursion, IsDistinct, list_any}
+use Rattle.std.specs.Map.{keys_of}
 use Rattle.std.specs.Cmp.Lexicographic.{same_text}
 use Rattle.std.proofs.lemmas.Bool.{both_ways}
 use Rattle.std.proofs.lemmas.Bool.Decides.{nat_tests}
+use Rattle.std.proofs.lemmas.Cmp.{nat_list_eq_equiv}
+use Rattle.std.proofs.lemmas.List.Elements.{All-contains_itself, recursion_from_All}
 use Rattle.std.proofs.lemmas.Map.Keys.{IsDistinct-head}
+use Rattle.std.proofs.lemmas.Map.Views.{lookup-from_Contains}
+use Rattle.compiler.specs.declared.plans.TheConstants.{DEFAULT_GATEWAY_PRIORITY}
 use Rattle.compiler.specs.Priority.{named_priority}
 use Rattle.registry.specs.Endpoint.{EndpointParts}
 use Rattle.registry.specs.Gateway.{serves, is_candidate}
@@ -55,6 +60,16 @@ no_better p a b n h = by (nat_lt p a) refl (a == p) refl (nat_le b n) refl h
         inr (level, low)
     by false q true s false t h = absurd (both_ways false refl h)
     by false q false s z t h = absurd (both_ways false refl h)
+
+-- ---- priorities
+-- each gateway that is named has the priority beside it
+pub all_ranked : (named : Named) → IsDistinct bytes_eq (keys_of named)
+    → AllByRecursion (λ e. e.1 ≡ named_priority named e.0) named
+all_ranked named distinct =
+    recursion_from_All (λ e. e.1 ≡ named_priority named e.0) named (λ k d within.
+    sym (ap (λ found. unwrap_or found DEFAULT_GATEWAY_PRIORITY)
+    (lookup-from_Contains nat_list_eq_equiv _ _ named distinct
+    (All-contains_itself named k d within))))
 
 -- ---- tests
 none_listed : (id : List ℕ) (ids : List (List ℕ))

@@ -12,6 +12,7 @@ use Rattle.std.specs.List.{AllByRecursion}
 use Rattle.std.specs.List.Sorted.{IsStrictlySortedBy}
 use Rattle.std.specs.Map.{keys_of}
 use Rattle.std.proofs.lemmas.Bool.{both_ways, false_from_ne_true}
+use Rattle.std.proofs.lemmas.Bool.Decides.{nat_tests}
 use Rattle.std.proofs.lemmas.Cmp.{nat_list_eq_equiv, nat_cmp_total}
 use Rattle.std.proofs.lemmas.Option.{none-some, same_Some}
 use Rattle.std.proofs.lemmas.Map.{lookup-none}
@@ -258,6 +259,29 @@ module _ (entries new : Numbered) (numbers reserved : Numbers) (next : ℕ)
     below = roll.below;
     numbered = λ id number. ap (is_number number) (reordered id) ∙ roll.numbered id number;
   })
+
+  -- an ID that has a number leads to it as if it had just been entered
+  pub led_before : (id : List ℕ) (n : ℕ)
+      → IsNumberFor (record { entries = entries; next = next }) id n → (n ≡ next → ⊥)
+      → (other : List ℕ) → number_of_id reserved other
+      ≡ cond (bytes_eq id other) (Some n) (number_of_id reserved other)
+  led_before id n h old other = by (bytes_eq id other) refl
+    where
+      only : (o : Option ℕ) → is_number n o ≡ true → o ≡ Some n
+      only None p = absurd (both_ways false refl p)
+      only (Some found) p = let same : found ≡ n = grind (arith, nat_tests) in ap Some same
+
+      there : (found_with_id id (at_number entries n) ≡ true) ⊎ (n ≡ next)
+          → number_of_id numbers id ≡ Some n
+      there (inl own) = only (number_of_id numbers id) (roll.numbered id n ∙ own)
+      there (inr fresh) = absurd (old fresh)
+
+      by : (b : Bool) → bytes_eq id other ≡ b → number_of_id reserved other
+          ≡ cond b (Some n) (number_of_id reserved other)
+      by true p =
+          ap (number_of_id reserved) (sym (same_text id other (sym p))) ∙ reordered id
+          ∙ there h.which
+      by false p = refl
 
   -- an endpoint was put in
   module _ (all : Numbers) (e : EndpointParts) (id : List ℕ) (n : ℕ) (own : id ≡ e.id)

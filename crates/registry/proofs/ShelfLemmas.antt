@@ -1,9 +1,8 @@
 -- Endpoints by number, as the index of IDs and aliases sees them.
-use Rattle.std.proofs.Common.{◌≡◌, ℕ, false, cond, List, [], ◌∷◌, refl, sym, ap, subst, ◌∙◌}
-use Rattle.std.specs.Prelude.{Some, bytes_eq}
+use Rattle.std.proofs.Common.{◌≡◌, ℕ, false, List, [], ◌∷◌, refl, sym, ap, ◌∙◌}
+use Rattle.std.specs.Prelude.{bytes_eq}
 use Rattle.std.specs.List.{IsDistinct}
 use Rattle.std.specs.Map.{keys_of, values_of}
-use Rattle.std.proofs.lemmas.Cmp.{nat_list_eq_equiv}
 use Rattle.registry.specs.Endpoint.{EndpointParts}
 use Rattle.registry.specs.Registration.{alias_is_taken, with_endpoint, without_endpoint}
 use Rattle.registry.specs.RegistryIndex.{Owners, IsIndexed, Forgets, LeadTo, aliases_of, kept_endpoint_of}
@@ -35,18 +34,13 @@ module _ (old new : Numbered) (e : EndpointParts) (put : IsPut (by_id old) (by_i
   pub index_put : (owners rest all : Owners) → IsIndexed (by_id old) owners
       → alias_is_taken (values_of old) e ≡ false
       → Forgets owners rest (aliases_of (kept_endpoint_of (by_id old) e.id))
-      → LeadTo rest all (aliases_of (kept_endpoint_of (by_id new) e.id)) e.id
+      → LeadTo rest all e.aliases e.id
       → IsIndexed (by_id new) all
   index_put owners rest all before free forgets leads =
       indexed-insert e e.id e.aliases (by_id old) (by_id new) owners rest all
       (kept_endpoint_of (by_id old) e.id) before refl refl
-      (ap (λ xs. alias_is_taken xs e) (values-by_id old) ∙ free) refl forgets
-      (subst (λ found. LeadTo rest all (aliases_of found) e.id) there leads)
+      (ap (λ xs. alias_is_taken xs e) (values-by_id old) ∙ free) refl forgets leads
       put.entries put.unique put.updates
-    where
-      there : kept_endpoint_of (by_id new) e.id ≡ Some e
-      there = put.updates e.id ∙ ap (λ b. cond b (Some e) (kept_endpoint_of (by_id old) e.id))
-          (nat_list_eq_equiv.refl e.id)
 
 -- after an unregistration
 module _ (old new : Numbered) (id : List ℕ) (out : IsTakenOut (by_id old) (by_id new) id) where

@@ -88,28 +88,29 @@ fn best_named(
         (is_candidate (named_priority named.now.entries) zone.now prefix.now) result }
 {
     let mut best = unnamed;
-    for id in named.keys() {
-        best = with_named(listing, zone, prefix, named, id, best);
+    for (id, priority) in named.iter() {
+        best = with_named(listing, zone, prefix, named, id, *priority, best);
     }
     best
 }
 
-/// The better of the one that is given and of the gateway with this ID.
+/// The better of the one that is given and of the gateway with this ID and this priority.
 fn with_named(
     listing: &Listing,
     zone: &Name,
     prefix: &TechPrefix,
     named: &IndexMap<Name, u8>,
     id: &Name,
+    priority: u8,
     best: Option<(u8, u32)>,
 ) -> Option<(u8, u32)>
+    requires { priority ≡ named_priority named.now.entries id.now }
     ensures { (rest : List (List ℕ)) → IsDistinct bytes_eq (id.now ∷ rest)
         → IsBestGateway listing.now.entries named.now.entries
         (is_other_than named.now.entries zone.now prefix.now (id.now ∷ rest)) best
         → IsBestGateway listing.now.entries named.now.entries
         (is_other_than named.now.entries zone.now prefix.now rest) result }
 {
-    let priority = priority_of(named, id);
     if is_greater(best, priority) {
         return best;
     }
@@ -123,16 +124,6 @@ fn with_named(
         Some(first_of(best, (priority, number)))
     } else {
         best
-    }
-}
-
-/// The priority that is named for this gateway, or else the default one.
-fn priority_of(named: &IndexMap<Name, u8>, gateway: &Name) -> u8
-    ensures { result ≡ named_priority named.now.entries gateway.now }
-{
-    match named.get(gateway) {
-        Some(priority) => *priority,
-        None => DEFAULT_GATEWAY_PRIORITY,
     }
 }
 

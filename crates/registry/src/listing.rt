@@ -125,32 +125,31 @@ impl Listing {
         self.roll.endpoints()
     }
 
-    /// Puts the endpoint in the place of the one with its ID, which it gives, or else at the end.
-    /// If memory runs out nothing has changed.
-    pub fn insert(&mut self, endpoint: Endpoint) -> Result<Option<HeldEndpoint>, AllocError>
+    /// Puts the endpoint in the place of the one with its ID, or else at the end. Gives its number
+    /// and the one in whose place it is. If memory runs out nothing has changed.
+    pub fn insert(&mut self, endpoint: Endpoint) -> Result<(u32, Option<HeldEndpoint>), AllocError>
         requires room { self.old.next + 1 < 2 ^ 32 }
         ensures ok { OnOk result
             (IsPut (by_id self.old.entries) (by_id self.new.entries) endpoint) }
-        ensures replaced { IfOk result (λ replaced.
-            replaced ≡ kept_endpoint_of (by_id self.old.entries) endpoint.id) }
+        ensures numbered { IfOk result (λ put. at_number self.new.entries put.0 ≡ Some endpoint) }
+        ensures replaced { IfOk result (λ put.
+            put.1 ≡ kept_endpoint_of (by_id self.old.entries) endpoint.id) }
         ensures next { self.new.next ≤ self.old.next + 1 }
         ensures err { OnErr result (self.new ≡ self.old) }
     {
         let number = self.roll.number_for(endpoint.id());
         if self.served.enter(number, &endpoint).is_err() {
-            self.served
-                .leave(number, Some(&endpoint), self.roll.at_number(number));
+            self.served.leave(number, Some(&endpoint), &self.roll);
             return Err(AllocError);
         }
         match self.roll.insert(number, endpoint) {
             Ok(replaced) => {
                 let gone = endpoint_in(replaced.as_ref());
-                self.served.leave(number, gone, self.roll.at_number(number));
-                Ok(replaced)
+                self.served.leave(number, gone, &self.roll);
+                Ok((number, replaced))
             }
             Err(endpoint) => {
-                self.served
-                    .leave(number, Some(&endpoint), self.roll.at_number(number));
+                self.served.leave(number, Some(&endpoint), &self.roll);
                 Err(AllocError)
             }
         }
@@ -167,7 +166,7 @@ impl Listing {
         let number = self.roll.number_for(id);
         let removed = self.roll.remove(id);
         self.served
-            .leave(number, endpoint_in(removed.as_ref()), None);
+            .leave(number, endpoint_in(removed.as_ref()), &self.roll);
         removed
     }
 }

@@ -214,6 +214,6 @@ impl Registry {
     fn is_full_for(&self, endpoint: &Endpoint) -> bool
         ensures { result ≡ is_full_for self.now endpoint.now }
     {
-        !self.shelf.is_registered(endpoint.id()) && self.most as usize <= self.shelf.len()
+        self.most as usize <= self.shelf.len() && !self.shelf.is_registered(endpoint.id())
     }
 }

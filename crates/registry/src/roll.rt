@@ -160,9 +160,9 @@ impl Roll {
         let held = HeldEndpoint::new(self.alloc, endpoint)?;
         match self.endpoints.insert(EndpointNumber { number }, held) {
             Ok(replaced) => {
-                let numbered: Result<_, _> = self.numbers.insert(id, number);
-                let _ = numbered.unwrap();
                 if number == self.next {
+                    let numbered: Result<_, _> = self.numbers.insert(id, number);
+                    let _ = numbered.unwrap();
                     self.next = number + 1;
                 }
                 Ok(replaced)

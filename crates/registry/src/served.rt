@@ -2,10 +2,12 @@
 
 ghost use Rattle.std.specs.Prelude.{◌≡◌, ◌≤◌, [], true, false, Some, OnOk, OnErr, MatchOption};
 ghost use Rattle.std.specs.Option.{option_copied};
+ghost use Rattle.registry.specs.Roll.{at_number};
 ghost use Rattle.registry.specs.Served.{Puts, AddsPlaces, MayAddPlaces, TakesOut, Enters, MayEnter, KeepsOthers, Leaves, IsNext, serves_at, found_empty, found_serving, numbers_at};
 
 use crate::endpoints::{Endpoint, EndpointKind};
 use crate::gateway_numbers::GatewayNumbers;
+use crate::roll::Roll;
 use gk_terms::{Name, TechPrefix};
 use std::alloc::{AllocError, Global};
 use std::collections::HashMap;
@@ -130,22 +132,25 @@ impl Served {
         }
     }
 
-    /// Takes out the places under this number that the one endpoint has and the other has not.
-    pub fn leave(&mut self, number: u32, gone: Option<&Endpoint>, kept: Option<&Endpoint>)
+    /// Takes out the places under this number that the endpoint has and the one that the roll has
+    /// there has not. The roll is asked only for a gateway.
+    pub fn leave(&mut self, number: u32, gone: Option<&Endpoint>, roll: &Roll)
         ensures { Leaves self.old self.new number (option_copied gone.entry)
-            (option_copied kept.entry) }
+            (at_number roll.now.entries number) }
     {
         if let Some(gone) = gone {
-            self.leave_one(number, gone, kept);
+            self.leave_one(number, gone, roll);
         }
     }
 
     /// The same of an endpoint that there is.
-    fn leave_one(&mut self, number: u32, gone: &Endpoint, kept: Option<&Endpoint>)
-        ensures { Leaves self.old self.new number (Some gone.now) (option_copied kept.entry) }
+    fn leave_one(&mut self, number: u32, gone: &Endpoint, roll: &Roll)
+        ensures { Leaves self.old self.new number (Some gone.now)
+            (at_number roll.now.entries number) }
     {
         match gone.kind() {
             EndpointKind::Gateway => {
+                let kept = roll.at_number(number);
                 self.take_out_each(*gone.zone(), gone.technologies(), number, kept);
             }
             EndpointKind::Terminal => {}

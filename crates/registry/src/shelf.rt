@@ -187,9 +187,9 @@ impl Shelf {
     {
         self.owners.reserve(endpoint.aliases().len())?;
         let id = *endpoint.id();
-        let replaced = self.listing.insert(endpoint)?;
+        let (number, replaced) = self.listing.insert(endpoint)?;
         forget_aliases_of(&mut self.owners, endpoint_in(replaced.as_ref()));
-        lead_aliases_of(&mut self.owners, self.listing.get(&id), &id);
+        lead_aliases_of(&mut self.owners, self.listing.at_number(number), &id);
         Ok(())
     }
 

@@ -9,7 +9,7 @@ pub returns-then-is_greater : goal.returns-then-is_greater
 returns-then-is_greater c rest distinct h =
     keeps_greater c.args.listing.now.entries c.args.named.now.entries c.args.zone.now
     c.args.prefix.now c.args.id.now rest c.args.best h
-    (ap (is_greater c.args.best) (sym c.priority_of-priority.ensures)
+    (ap (is_greater c.args.best) (sym c.requires)
     ∙ sym c.is_greater.ensures ∙ c.if-is_greater.true)
 
 pub returns-then-is_first : goal.returns-then-is_first
@@ -17,7 +17,7 @@ returns-then-is_first c rest distinct h =
     keeps_first c.args.listing.now.entries c.args.named.now.entries c.args.zone.now
     c.args.prefix.now c.args.listing.now.next c.args.id.now c.in-Some.number
     c.in-Some.ensures.0 rest c.args.best h
-    (ap (λ p. is_first c.args.best (p, c.in-Some.number)) (sym c.priority_of-priority.ensures)
+    (ap (λ p. is_first c.args.best (p, c.in-Some.number)) (sym c.requires)
     ∙ sym c.is_first.ensures ∙ c.if-is_first.true)
 
 pub returns-in_default : goal.returns-in_default
@@ -34,7 +34,7 @@ returns-else-serves-priority c rest distinct h =
     c.args.best h
     (ap (λ b. b && nat_lt 0 (named_priority c.args.named.now.entries c.args.id.now))
     (ap (λ found. found_serving found zone prefix) (sym c.at_number.ensures) ∙ sym c.serves.ensures)
-    ∙ ap (λ p. c.serves.result && nat_lt 0 p) (sym c.priority_of-priority.ensures)
+    ∙ ap (λ p. c.serves.result && nat_lt 0 p) (sym c.requires)
     ∙ c.if-serves-priority.false)
 
 pub returns-then-serves-priority : goal.returns-then-serves-priority
@@ -48,8 +48,8 @@ returns-then-serves-priority c rest distinct h =
     c.args.best h distinct c.in-Some.ensures.1
     (ap (λ b. b && nat_lt 0 (named_priority c.args.named.now.entries c.args.id.now))
     (ap (λ found. found_serving found zone prefix) (sym c.at_number.ensures) ∙ sym c.serves.ensures)
-    ∙ ap (λ p. c.serves.result && nat_lt 0 p) (sym c.priority_of-priority.ensures)
+    ∙ ap (λ p. c.serves.result && nat_lt 0 p) (sym c.requires)
     ∙ c.if-serves-priority.true) in
     subst (λ b. IsBestAt entries named (is_other_than named zone prefix rest) b.0 b.1)
-    (ap (λ p. first_of c.args.best (p, c.in-Some.number)) (sym c.priority_of-priority.ensures)
+    (ap (λ p. first_of c.args.best (p, c.in-Some.number)) (sym c.requires)
     ∙ sym c.first_of.ensures) best

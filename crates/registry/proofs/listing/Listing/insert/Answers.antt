@@ -13,8 +13,7 @@ invariant_of-self c =
     taken_back c.self.inside.served c.enter.new.self c.leave.new.self old number e
     c.self.invariant
     (when_err c.enter.result c.enter.ensures.err (sym c.is_err.ensures.value ∙ c.if-is_err.true))
-    (subst (Leaves c.enter.new.self c.leave.new.self number (Some e)) c.at_number.ensures
-    c.leave.ensures)
+    c.leave.ensures
 
 pub invariant_of-self-in-Ok : goal.invariant_of-self-in-Ok
 invariant_of-self-in-Ok c =
@@ -29,8 +28,13 @@ invariant_of-self-in-Ok c =
     (subst (λ gone. Leaves c.enter.new.self c.leave-in-Ok.new.self number gone (Some e))
     (c.endpoint_in-gone.ensures ∙ c.as_ref.ensures.value ∙ c.in-Ok.ensures.replaced)
     (subst (Leaves c.enter.new.self c.leave-in-Ok.new.self number _)
-    (c.at_number-in-Ok.ensures ∙ set_here old new number (Some e) c.in-Ok.ensures.placed)
+    (set_here old new number (Some e) c.in-Ok.ensures.placed)
     c.leave-in-Ok.ensures))
+
+pub returns-in-Ok-clause-numbered : goal.returns-in-Ok-clause-numbered
+returns-in-Ok-clause-numbered c =
+    set_here c.self.inside.roll.entries c.insert.new.self.entries c.number_for-number.result
+    (Some c.args.endpoint) c.in-Ok.ensures.placed
 
 pub invariant_of-self-in-Err : goal.invariant_of-self-in-Err
 invariant_of-self-in-Err c =
@@ -46,5 +50,5 @@ invariant_of-self-in-Err c =
     (subst (λ gone. Leaves c.enter.new.self c.leave-in-Err.new.self number (Some gone)
     (at_number old number)) c.in-Err.ensures.back
     (subst (Leaves c.enter.new.self c.leave-in-Err.new.self number (Some c.in-Err.endpoint))
-    (c.at_number-in-Err.ensures ∙ ap (λ es. at_number es number) same)
+    (ap (λ es. at_number es number) same)
     c.leave-in-Err.ensures)))

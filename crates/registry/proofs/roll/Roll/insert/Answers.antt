@@ -5,7 +5,7 @@ use Rattle.std.specs.Ordering.{nat_cmp}
 use Rattle.std.specs.BTreeMap.{insert_entry}
 use Rattle.registry.specs.Roll.{IsNumberFor, IsPut, IsSetAt, by_id}
 use Rattle.registry.proofs.RollLemmas.{less_than_next}
-use Rattle.registry.proofs.RollInsertion.{roll_reordered, roll_put, put_among}
+use Rattle.registry.proofs.RollInsertion.{roll_reordered, roll_put, put_among, led_before}
 use Rattle.registry.proofs.roll.Roll.insert.Goals as goal
 use Rattle.registry.proofs.roll.Roll.insert.Goals.{then-number-self, else-number-self}
 
@@ -32,13 +32,14 @@ invariant_of-self-else-number-self c =
     c.requires.number in
     let set = subst (λ e. IsSetAt c.self.inside.endpoints.entries c.insert.new.self.entries
     c.args.number (Some e)) c.in_ok-held.ensures.held c.in-Ok.ensures.updates.0 in
-    let numbered = MatchResult-at_ok _ _ _ c.unwrap.ensures c.insert-numbered.ensures.updates in
     roll_put c.self.inside.endpoints.entries c.insert.new.self.entries
     c.self.inside.numbers.entries c.reserve.new.self.entries c.self.inside.next c.self.invariant
-    c.reserve.ensures.entries.2 c.insert-numbered.new.self.entries c.args.endpoint
-    c.id-id.result.now
-    number c.id-id.ensures fits set numbered.0 c.insert.ensures.ordered
-    c.self.inside.next (omega arith)
+    c.reserve.ensures.entries.2 c.reserve.new.self.entries c.args.endpoint
+    c.args.endpoint.id number refl fits set
+    (led_before c.self.inside.endpoints.entries c.insert.new.self.entries
+    c.self.inside.numbers.entries c.reserve.new.self.entries c.self.inside.next c.self.invariant
+    c.reserve.ensures.entries.2 c.args.endpoint.id number fits c.if-number-self.false)
+    c.insert.ensures.ordered c.self.inside.next (omega arith)
     (less_than_next c.self.inside.endpoints.entries c.self.inside.numbers.entries
     c.self.inside.next c.self.invariant c.args.endpoint.id number fits c.if-number-self.false)
 
@@ -62,18 +63,32 @@ returns-after-number-self-clause-ok c =
     c.requires.number in
     let set = subst (λ e. IsSetAt c.self.inside.endpoints.entries c.insert.new.self.entries
     c.args.number (Some e)) c.in_ok-held.ensures.held c.in-Ok.ensures.updates.0 in
-    let numbered = MatchResult-at_ok _ _ _ c.unwrap.ensures c.insert-numbered.ensures.updates in
-    let put = put_among c.self.inside.endpoints.entries c.insert.new.self.entries
-    c.self.inside.numbers.entries c.reserve.new.self.entries c.self.inside.next c.self.invariant
-    c.reserve.ensures.entries.2 c.insert-numbered.new.self.entries e c.id-id.result.now
-    number c.id-id.ensures fits set numbered.0 c.insert.ensures.ordered
-    (subst (λ e. c.insert.new.self.entries ≡ insert_entry nat_cmp c.self.inside.endpoints.entries
-    number e) c.in_ok-held.ensures.held c.in-Ok.ensures.entries) in
+    let entered = subst (λ e. c.insert.new.self.entries
+    ≡ insert_entry nat_cmp c.self.inside.endpoints.entries number e) c.in_ok-held.ensures.held
+    c.in-Ok.ensures.entries in
     let old = ap (λ r. r.entries) c.self.view_is in
-    let new : c.if-number-self.self.entries ≡ c.insert.new.self.entries =
     elim c.if-number-self.branch [
-      | then-number-self w ↦ ap (λ r. r.entries) w.self-is
-      | else-number-self w ↦ ap (λ r. r.entries) w.self-is
-    ] in
-    subst (λ es. IsPut (by_id es) (by_id c.if-number-self.self.entries) e) old
-    (subst (λ es. IsPut (by_id c.self.inside.endpoints.entries) (by_id es) e) (sym new) put)
+      | then-number-self w ↦
+          let numbered = MatchResult-at_ok _ _ _ w.unwrap.ensures
+          w.insert-numbered.ensures.updates in
+          let put = put_among c.self.inside.endpoints.entries c.insert.new.self.entries
+          c.self.inside.numbers.entries c.reserve.new.self.entries c.self.inside.next
+          c.self.invariant c.reserve.ensures.entries.2 w.insert-numbered.new.self.entries e
+          c.id-id.result.now number c.id-id.ensures fits set numbered.0 c.insert.ensures.ordered
+          entered in
+          subst (λ es. IsPut (by_id es) (by_id c.if-number-self.self.entries) e) old
+          (subst (λ es. IsPut (by_id c.self.inside.endpoints.entries) (by_id es) e)
+          (sym (ap (λ r. r.entries) w.self-is)) put)
+      | else-number-self w ↦
+          let put = put_among c.self.inside.endpoints.entries c.insert.new.self.entries
+          c.self.inside.numbers.entries c.reserve.new.self.entries c.self.inside.next
+          c.self.invariant c.reserve.ensures.entries.2 c.reserve.new.self.entries e e.id number
+          refl fits set
+          (led_before c.self.inside.endpoints.entries c.insert.new.self.entries
+          c.self.inside.numbers.entries c.reserve.new.self.entries c.self.inside.next
+          c.self.invariant c.reserve.ensures.entries.2 e.id number fits w.if-number-self.false)
+          c.insert.ensures.ordered entered in
+          subst (λ es. IsPut (by_id es) (by_id c.if-number-self.self.entries) e) old
+          (subst (λ es. IsPut (by_id c.self.inside.endpoints.entries) (by_id es) e)
+          (sym (ap (λ r. r.entries) w.self-is)) put)
+    ]
