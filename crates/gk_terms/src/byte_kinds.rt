@@ -3,17 +3,17 @@
 ghost use Rattle.std.specs.Prelude.{◌≡◌, ℕ, ◌≤◌, Bool, length, take};
 ghost use Rattle.std.specs.List.{list_all};
 
-/// A kind of bytes, told of one byte or of eight together.
+/// A kind of byte. One byte, or eight together, can be tested for it.
 pub(crate) trait ByteKind {
     /// What a contract sees of the kind.
     ghost is_of_kind: { ℕ → Bool };
 
     /// Whether the byte is of the kind.
-    fn has(byte: u8) -> bool
+    fn is_of_kind(byte: u8) -> bool
         ensures { result ≡ is_of_kind byte };
 
     /// Whether the first eight bytes are all of the kind.
-    fn has_first_eight(text: &[u8]) -> bool
+    fn are_first_eight_of_kind(text: &[u8]) -> bool
         requires { 8 ≤ length text.now }
         ensures { result ≡ list_all is_of_kind (take 8 text.now) };
 }
@@ -25,14 +25,14 @@ pub(crate) fn are_all<K: ByteKind>(text: &[u8]) -> bool
 {
     let len = text.len();
     if len < 8 {
-        return text.iter().all(|byte| K::has(*byte));
+        return text.iter().all(|byte| K::is_of_kind(*byte));
     }
     let mut at = 0;
     while len - at > 8 {
-        if !K::has_first_eight(&text[at..]) {
+        if !K::are_first_eight_of_kind(&text[at..]) {
             return false;
         }
         at += 8;
     }
-    K::has_first_eight(&text[len - 8..])
+    K::are_first_eight_of_kind(&text[len - 8..])
 }

@@ -72,18 +72,18 @@ fn is_dialled_byte(byte: u8) -> bool
     byte.is_ascii_digit() || byte == b'#' || byte == b'*'
 }
 
-/// The kind of the bytes that may.
+/// The kind of the bytes that may be dialled.
 struct DialledBytes;
 
 impl ByteKind for DialledBytes {
     ghost is_of_kind = { is_dialled_byte };
 
-    fn has(byte: u8) -> bool {
+    fn is_of_kind(byte: u8) -> bool {
         is_dialled_byte(byte)
     }
 
     #[inline(always)]
-    fn has_first_eight(text: &[u8]) -> bool {
+    fn are_first_eight_of_kind(text: &[u8]) -> bool {
         let bytes = u8x8::from_slice(text);
         let digit = bytes.simd_ge(u8x8::splat(b'0')) & bytes.simd_le(u8x8::splat(b'9'));
         let hash_sign = bytes.simd_eq(u8x8::splat(b'#'));

@@ -105,17 +105,17 @@ pub fn is_visible(byte: u8) -> bool
 }
 
 /// The kind of the visible bytes.
-struct Visible;
+struct VisibleBytes;
 
-impl ByteKind for Visible {
+impl ByteKind for VisibleBytes {
     ghost is_of_kind = { is_visible };
 
-    fn has(byte: u8) -> bool {
+    fn is_of_kind(byte: u8) -> bool {
         is_visible(byte)
     }
 
     #[inline(always)]
-    fn has_first_eight(text: &[u8]) -> bool {
+    fn are_first_eight_of_kind(text: &[u8]) -> bool {
         let bytes = u8x8::from_slice(text);
         (bytes.simd_ge(u8x8::splat(0x21)) & bytes.simd_le(u8x8::splat(0x7E))).all()
     }
@@ -125,7 +125,7 @@ impl ByteKind for Visible {
 pub fn are_visible(text: &[u8]) -> bool
     ensures { result ≡ list_all is_visible text.now }
 {
-    are_all::<Visible>(text)
+    are_all::<VisibleBytes>(text)
 }
 
 /// The text, and zeros after it.
@@ -138,8 +138,8 @@ fn filled<const SIZE: usize>(text: &[u8]) -> [u8; SIZE]
     bytes
 }
 
-/// The texts are compared as strings, of which several bytes are compared at a time; those of a slice
-/// are compared one by one.
+/// Texts are compared as strings, in whole words. A slice is compared through the `==` of its
+/// items.
 impl<const MOST: usize> PartialEq for Spelling<MOST> {
     ghost eq = { pointwise nat_eq };
 
@@ -179,8 +179,8 @@ impl<const MOST: usize> Ord for Spelling<MOST> {
     }
 }
 
-/// The text is fed to a hasher as a whole, and not byte by byte as a slice is, which takes a step of
-/// the hasher for each.
+/// The text is fed to a hasher as a whole. A slice is fed byte by byte, a step of the hasher for
+/// each.
 impl<const MOST: usize> Hash for Spelling<MOST> {
     ghost hash_input = { λ text. text ∷ [] };
 

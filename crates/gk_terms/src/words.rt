@@ -75,9 +75,9 @@ fn blanks_in_front(line: &[u8]) -> usize
     line.iter().take_while(|byte| is_blank(**byte)).count()
 }
 
-/// How many bytes come before the first blank. Sixteen are looked at together: one at a time takes
-/// some nine instructions for each, and the end of that loop is mispredicted, since words vary in
-/// length.
+/// How many bytes come before the first blank. Sixteen are looked at together while so many are
+/// left, and the rest one by one: that takes some nine instructions for each, and the processor
+/// cannot foresee where such a loop ends.
 fn length_of_word(line: &[u8]) -> usize
     ensures { result ≡ position_or_len is_blank line.now }
 {

@@ -40,6 +40,23 @@ impl From<AllocError> for TrieFault {
     }
 }
 
+/// A node that was looked at. `RawTrie::look_at` alone makes one, and counts it. A contract sees the
+/// node's number.
+#[derive(Clone, Copy)]
+pub(crate) struct LookedAt {
+    node: u32,
+}
+
+impl Model for LookedAt {
+    ghost use Rattle.std.specs.Prelude.{ℕ};
+
+    ghost Value = { ℕ };
+
+    ghost view = { λ l. l.node };
+
+    ghost inverse = { λ node. record { node = node } };
+}
+
 /// A table of patterns as a trie. Its value is the list of its rows, in the order they were given
 /// in.
 ///
@@ -49,12 +66,12 @@ impl From<AllocError> for TrieFault {
 /// look-up takes no memory.
 ///
 /// A node has the numbers of the nodes that the ten digits and a dot lead to, and beside them the
-/// values of the patterns that end at it without and with a star, all at known places. A look-up
-/// reads one link of each node on its way down, and the dot's link and the ends of a node on its
-/// way back up, which lies in one or two cache lines. A node of 16 bytes, with the set of its links
-/// and the number of the first of the nodes they lead to, which lie together, takes less memory and
-/// is about as fast to read, but has to be built from sorted beginnings, which takes many times as
-/// long.
+/// values of the patterns that end at it without and with a star, all at known places, in one or
+/// two cache lines. A look-up reads one link of each node on its way down and, until it has a hit,
+/// the dot's link and the ends of each on its way back up. A node of 16 bytes, with the set of its
+/// links and the number of the first of the nodes they lead to, which lie together, takes less
+/// memory and is about as fast to read, but has to be built from sorted beginnings, which takes
+/// many times as long.
 #[derive(Drop)]
 pub struct RawTrie {
     block: Block,
@@ -122,29 +139,33 @@ impl RawTrie {
         longest(self, &dialled.as_bytes()[from..])
     }
 
-    /// Looks at a node, and counts that: where the link of the digit leads, or 0.
-    pub(crate) fn look_at(&self, node: u32, digit: Option<u8>, looks: &mut u32) -> u32
+    /// Looks at a node, and counts that. Gives where the link of the digit leads, 0 if nowhere or if
+    /// there is no digit, and the node as one that was looked at.
+    pub(crate) fn look_at(&self, node: u32, digit: Option<u8>, looks: &mut u32) -> (u32, LookedAt)
         requires node { node < length (paths_of self.now) }
         requires digit { IfSome digit (λ d. d < 10) }
         requires few { looks.old < 2000 }
-        ensures next { LeadsOn self.now (slice_index_or (paths_of self.now) node []) digit result }
+        ensures next { LeadsOn self.now (slice_index_or (paths_of self.now) node []) digit
+            result.0 }
+        ensures looked { result.1 ≡ node }
         ensures counted { looks.new ≡ looks.old + 1 }
     {
         *looks += 1;
-        match digit {
+        let next = match digit {
             Some(digit) => self.block.word(NODE_WORDS * node as usize + digit as usize),
             None => 0,
-        }
+        };
+        (next, LookedAt { node })
     }
 
-    /// What a node that was looked at tells beside that. No other function reads a node. A walk
-    /// goes down by the digits first and asks for this on its way back up, so that most nodes that
-    /// it passes are read at one place alone.
-    pub(crate) fn seen_at(&self, node: u32) -> Seen
-        requires { node < length (paths_of self.now) }
-        ensures { Shows self.now (slice_index_or (paths_of self.now) node []) result }
+    /// What else a node tells that was looked at, and so counted: the dot's link and the ends. A
+    /// walk asks for it on its way back up, so that of most nodes that it passes it reads one link
+    /// alone. No other function reads a node.
+    pub(crate) fn seen_at(&self, looked: LookedAt) -> Seen
+        requires { looked < length (paths_of self.now) }
+        ensures { Shows self.now (slice_index_or (paths_of self.now) looked []) result }
     {
-        let first = NODE_WORDS * node as usize;
+        let first = NODE_WORDS * looked.node as usize;
         Seen {
             dot: self.block.word(first + DOT),
             plain: self.block.end(first + PLAIN),

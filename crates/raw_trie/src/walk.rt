@@ -54,14 +54,14 @@ fn longest_from(
     ensures once { duplicate_of trie.now ≡ None }
     ensures looks { looks.new ≤ looks.old + most_looks (length text.now - literals) }
 {
-    let next = trie.look_at(node, digit_at(text, literals), looks);
+    let (next, looked) = trie.look_at(node, digit_at(text, literals), looks);
     if next != 0 {
         let longer = longest_from(trie, next, text, literals + 1, looks);
         if longer.is_some() {
             return longer;
         }
     }
-    longest_dots(trie, trie.seen_at(node), text, literals, looks)
+    longest_dots(trie, trie.seen_at(looked), text, literals, looks)
 }
 
 /// The digit at a place of the text, if there is one.
@@ -99,8 +99,8 @@ fn longest_dots(
         if seen.dot == 0 {
             return best;
         }
-        let _ = trie.look_at(seen.dot, None, looks);
-        seen = trie.seen_at(seen.dot);
+        let (_, looked) = trie.look_at(seen.dot, None, looks);
+        seen = trie.seen_at(looked);
         dots += 1;
     }
     best = with_hit(seen.starred, literals, dots, true, best);

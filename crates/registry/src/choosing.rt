@@ -94,7 +94,8 @@ fn best_named(
     best
 }
 
-/// The better of the one that is given and of the gateway with this ID and this priority.
+/// The better of the one that is given and of the gateway with this ID and this priority. `named`
+/// is there for the contract.
 fn with_named(
     listing: &Listing,
     zone: &Name,

@@ -125,8 +125,8 @@ impl Listing {
         self.roll.endpoints()
     }
 
-    /// Puts the endpoint in the place of the one with its ID, or else at the end. Gives its number
-    /// and the one in whose place it is. If memory runs out nothing has changed.
+    /// Puts the endpoint in the place of the one with its ID, or else at the end. Gives its number,
+    /// and the endpoint that it replaces, if there was one. If memory runs out nothing has changed.
     pub fn insert(&mut self, endpoint: Endpoint) -> Result<(u32, Option<HeldEndpoint>), AllocError>
         requires room { self.old.next + 1 < 2 ^ 32 }
         ensures ok { OnOk result

@@ -132,8 +132,8 @@ impl Served {
         }
     }
 
-    /// Takes out the places under this number that the endpoint has and the one that the roll has
-    /// there has not. The roll is asked only for a gateway.
+    /// Takes out the places of this endpoint under this number, except those that the roll's
+    /// endpoint of that number serves too. The roll is read only for a gateway.
     pub fn leave(&mut self, number: u32, gone: Option<&Endpoint>, roll: &Roll)
         ensures { Leaves self.old self.new number (option_copied gone.entry)
             (at_number roll.now.entries number) }

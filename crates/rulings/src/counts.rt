@@ -107,8 +107,8 @@ impl Machine {
             (ruling_meant ruling.now).verdict }
     {
         ruling.is_granted()
-            && !self.registry().is_registered(endpoint.id())
             && self.limits().endpoints as usize <= self.registry().len()
+            && !self.registry().is_registered(endpoint.id())
     }
 
     /// Whether a call would be opened, and as many are open as the limit allows.

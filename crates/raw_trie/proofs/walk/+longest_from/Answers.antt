@@ -8,11 +8,11 @@ use Rattle.raw_trie.proofs.walk.+longest_from.Goals.{then-next-ne0+else-is_some,
 pub longest_from-longer-requires : goal.longest_from-longer-requires
 longest_from-longer-requires t c =
     let rows = c.args.trie.now in let text = c.args.text.now in let k = c.args.literals in
-    let leads : LeadsOn rows (take k text) c.digit_at.result c.look_at-next.result =
-    subst (λ p. LeadsOn rows p c.digit_at.result c.look_at-next.result) c.requires.at.1
+    let leads : LeadsOn rows (take k text) c.digit_at.result c.look_at-next.result.0 =
+    subst (λ p. LeadsOn rows p c.digit_at.result c.look_at-next.result.0) c.requires.at.1
     c.look_at-next.ensures.next in
     let goes =
-    goes_on rows text k c.look_at-next.result c.digit_at.result c.digit_at.ensures leads
+    goes_on rows text k c.look_at-next.result.0 c.digit_at.result c.digit_at.ensures leads
     c.if-next-ne0.true in
     let more =
     looks_on (length text) k c.look_at-next.new.looks goes.early c.args.looks.now
@@ -33,11 +33,11 @@ longest_from-longer-requires t c =
 pub returns-then-is_some-clause-looks : goal.returns-then-is_some-clause-looks
 returns-then-is_some-clause-looks t c =
     let rows = c.args.trie.now in let text = c.args.text.now in let k = c.args.literals in
-    let leads : LeadsOn rows (take k text) c.digit_at.result c.look_at-next.result =
-    subst (λ p. LeadsOn rows p c.digit_at.result c.look_at-next.result) c.requires.at.1
+    let leads : LeadsOn rows (take k text) c.digit_at.result c.look_at-next.result.0 =
+    subst (λ p. LeadsOn rows p c.digit_at.result c.look_at-next.result.0) c.requires.at.1
     c.look_at-next.ensures.next in
     let goes =
-    goes_on rows text k c.look_at-next.result c.digit_at.result c.digit_at.ensures leads
+    goes_on rows text k c.look_at-next.result.0 c.digit_at.result c.digit_at.ensures leads
     c.if-next-ne0.true in
     let more =
     looks_on (length text) k c.look_at-next.new.looks goes.early c.args.looks.now
@@ -47,13 +47,13 @@ returns-then-is_some-clause-looks t c =
 pub longest_dots-requires-clause-few : goal.longest_dots-requires-clause-few
 longest_dots-requires-clause-few t c =
     let rows = c.args.trie.now in let text = c.args.text.now in let k = c.args.literals in
-    let leads : LeadsOn rows (take k text) c.digit_at.result c.look_at-next.result =
-    subst (λ p. LeadsOn rows p c.digit_at.result c.look_at-next.result) c.requires.at.1
+    let leads : LeadsOn rows (take k text) c.digit_at.result c.look_at-next.result.0 =
+    subst (λ p. LeadsOn rows p c.digit_at.result c.look_at-next.result.0) c.requires.at.1
     c.look_at-next.ensures.next in
     elim c.if-next-ne0.branch [
       | then-next-ne0+else-is_some w ↦
           let goes =
-          goes_on rows text k c.look_at-next.result c.digit_at.result c.digit_at.ensures leads
+          goes_on rows text k c.look_at-next.result.0 c.digit_at.result c.digit_at.ensures leads
           w.if-next-ne0.true in
           let more =
           looks_on (length text) k c.look_at-next.new.looks goes.early c.args.looks.now
@@ -72,8 +72,8 @@ pub returns-clause-top : goal.returns-clause-top
 returns-clause-top t c =
     let rows = c.args.trie.now in let text = c.args.text.now in let k = c.args.literals in
     let shown = c.seen_at.ensures in
-    let leads : LeadsOn rows (take k text) c.digit_at.result c.look_at-next.result =
-    subst (λ p. LeadsOn rows p c.digit_at.result c.look_at-next.result) c.requires.at.1
+    let leads : LeadsOn rows (take k text) c.digit_at.result c.look_at-next.result.0 =
+    subst (λ p. LeadsOn rows p c.digit_at.result c.look_at-next.result.0) c.requires.at.1
     c.look_at-next.ensures.next in
     elim c.if-next-ne0.branch [
       | then-next-ne0+else-is_some w ↦
@@ -84,20 +84,20 @@ returns-clause-top t c =
       | else-next-ne0 w ↦
           top_of_found rows text (66 * k) (66 * (k + 1)) c.longest_dots.result
           c.longest_dots.ensures.found
-          (no_more_literals rows shown.words text k c.look_at-next.result c.digit_at.result
+          (no_more_literals rows shown.words text k c.look_at-next.result.0 c.digit_at.result
           shown.represents.trie c.digit_at.ensures leads w.if-next-ne0.false)
     ]
 
 pub returns-clause-looks : goal.returns-clause-looks
 returns-clause-looks t c =
     let rows = c.args.trie.now in let text = c.args.text.now in let k = c.args.literals in
-    let leads : LeadsOn rows (take k text) c.digit_at.result c.look_at-next.result =
-    subst (λ p. LeadsOn rows p c.digit_at.result c.look_at-next.result) c.requires.at.1
+    let leads : LeadsOn rows (take k text) c.digit_at.result c.look_at-next.result.0 =
+    subst (λ p. LeadsOn rows p c.digit_at.result c.look_at-next.result.0) c.requires.at.1
     c.look_at-next.ensures.next in
     elim c.if-next-ne0.branch [
       | then-next-ne0+else-is_some w ↦
           let goes =
-          goes_on rows text k c.look_at-next.result c.digit_at.result c.digit_at.ensures leads
+          goes_on rows text k c.look_at-next.result.0 c.digit_at.result c.digit_at.ensures leads
           w.if-next-ne0.true in
           let more =
           looks_on (length text) k c.look_at-next.new.looks goes.early c.args.looks.now

@@ -1,5 +1,7 @@
-use Rattle.std.proofs.Common.{◌≡◌, ◌+◌, ◌*◌, ◌<◌, ◌≤◌, length, sym, subst, arith}
+use Rattle.std.proofs.Common.{◌≡◌, ◌+◌, ◌*◌, ◌<◌, ◌≤◌, [], length, sym, ap, ◌∙◌, subst, arith}
+use Rattle.std.specs.Prelude.{slice_index_or}
 use Rattle.raw_trie.specs.Found.{IsFound}
+use Rattle.raw_trie.specs.Trie.{paths_of}
 use Rattle.raw_trie.specs.Walk.{Shows}
 use Rattle.raw_trie.proofs.Search.{starred_step, plain_step, next_step, stop_step, dot_on}
 use Rattle.raw_trie.proofs.walk.longest_dots.Goals as goal
@@ -22,11 +24,13 @@ loop-dots-preserved c =
     let on =
     dot_on rows text c.requires.short k j inside c.requires.digits seen shown c.if-seen-eq0.false in
     record {
-      shown = subst (λ p. Shows rows p c.seen_at-seen.result) on.1 c.seen_at-seen.ensures;
+      shown = subst (λ p. Shows rows p c.seen_at-seen.result)
+          (ap (λ n. slice_index_or (paths_of rows) n []) c.look_at-looked.ensures.looked ∙ on.1)
+          c.seen_at-seen.ensures;
       found = subst (IsFound rows text (66 * k) (66 * k + 2 * (j + 1)))
           (sym c.with_hit-best.ensures) next;
       within = omega arith;
-      counted = omega (arith, c.look_at.ensures.counted, c.loop-dots.invariant.counted);
+      counted = omega (arith, c.look_at-looked.ensures.counted, c.loop-dots.invariant.counted);
     }
 
 pub returns-then-seen-eq0-clause-found : goal.returns-then-seen-eq0-clause-found

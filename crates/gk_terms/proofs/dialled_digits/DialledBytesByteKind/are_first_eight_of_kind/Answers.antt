@@ -1,7 +1,7 @@
 use Rattle.std.proofs.Common.{◌==◌, ◌&&◌, ◌||◌, leb, take, arith}
 use Rattle.std.proofs.lemmas.List.{length-take-le}
 use Rattle.gk_terms.proofs.LaneLemmas.{all_of, either, both, equal_to, at_least, at_most}
-use Rattle.gk_terms.proofs.dialled_digits.DialledBytesByteKind.has_first_eight.Goals as goal
+use Rattle.gk_terms.proofs.dialled_digits.DialledBytesByteKind.are_first_eight_of_kind.Goals as goal
 
 pub returns : goal.returns
 returns c =
