@@ -40,8 +40,8 @@ impl From<AllocError> for TrieFault {
     }
 }
 
-/// A node that was looked at. `RawTrie::look_at` alone makes one, and counts it. A contract sees the
-/// node's number.
+/// A node that was looked at. `RawTrie::look_at` alone makes one, and counts it. A contract sees
+/// the number of the node.
 #[derive(Clone, Copy)]
 pub(crate) struct LookedAt {
     node: u32,
@@ -139,8 +139,8 @@ impl RawTrie {
         longest(self, &dialled.as_bytes()[from..])
     }
 
-    /// Looks at a node, and counts that. Gives where the link of the digit leads, 0 if nowhere or if
-    /// there is no digit, and the node as one that was looked at.
+    /// Looks at a node, and counts that. Gives where the link of the digit leads, 0 if nowhere or
+    /// if there is no digit, and the node as one that was looked at.
     pub(crate) fn look_at(&self, node: u32, digit: Option<u8>, looks: &mut u32) -> (u32, LookedAt)
         requires node { node < length (paths_of self.now) }
         requires digit { IfSome digit (λ d. d < 10) }
