@@ -1,18 +1,18 @@
 -- The steps of a walk from one literal to the next.
-use Rattle.std.proofs.Common.{◌≡◌, ℕ, zero, suc, ◌+◌, ◌-◌, ◌*◌, ◌<◌, ◌≤◌, ◌≢◌, Bool, true, false, cond, ◌⊎◌, inl, inr, List, [], ◌∷◌, ◌++◌, length, get_or, take, drop, fold, replicate, refl, sym, ap, ◌∙◌, subst, arith, Option, Some, None, slice_get}
+use Rattle.std.proofs.Common.{◌≡◌, ℕ, zero, suc, ◌+◌, ◌-◌, ◌*◌, ◌/◌, ◌<◌, ◌≤◌, ◌≢◌, ◌&&◌, Bool, true, false, cond, ◌⊎◌, inl, inr, List, [], ◌∷◌, ◌++◌, length, get_or, take, drop, fold, replicate, refl, sym, ap, ◌∙◌, subst, arith, Option, Some, None, slice_get, slice_index, slice_set}
 use Rattle.std.specs.Char.{is_ascii_digit}
 use Rattle.std.specs.List.{Contains, list_all, list_any}
 use Rattle.std.specs.Option.{option_and_then}
 use Rattle.std.specs.Str.{bytes_eq}
-use Rattle.std.proofs.lemmas.Bool.{cases_lt, and_from}
-use Rattle.std.proofs.lemmas.List.{take-append-drop, take-take, take_more, append_assoc, get_or-take}
-use Rattle.std.proofs.lemmas.List.Folds.{list_all_more}
+use Rattle.std.proofs.lemmas.Bool.{cases_lt, and_parts, and_from}
+use Rattle.std.proofs.lemmas.List.{take-append-drop, take-take, take_more, append_assoc, get_or-take, get_or-set_same, get_or-set_other}
+use Rattle.std.proofs.lemmas.List.Folds.{list_all-append, list_all_more}
 use Rattle.std.proofs.lemmas.Option.{slice_get-get_or, slice_get_past}
 use Rattle.digit_patterns.specs.Pattern.{Matches}
 use Rattle.raw_trie.specs.Nodes.{path_of, all_beginnings, patterns_of}
 use Rattle.raw_trie.specs.Trie.{Row, At, LeadsTo, IsTrie, with_path, paths_of}
 use Rattle.raw_trie.specs.Found.{score_of}
-use Rattle.raw_trie.specs.Walk.{LeadsOn, digit_of, most_looks}
+use Rattle.raw_trie.specs.Walk.{AreNodes, LeadsOn, LinkAt, digit_of}
 use Rattle.raw_trie.proofs.Paths.{At-left}
 use Rattle.raw_trie.proofs.Same.{digits_of}
 use Rattle.raw_trie.proofs.Insertion.{is_digit_at, digit_range}
@@ -82,11 +82,26 @@ goes_on rows text k next (Some d) is leads some = by_place (cases_lt k (length t
               digit = e;
             }
 
+-- the same, where the link is that of the text's next character
+pub goes_down : (rows : List Row) (text : List ℕ) (k next : ℕ) → LinkAt rows text k next
+    → next ≢ 0 → Goes rows text k next
+goes_down rows text k next link some =
+    goes_on rows text k next (option_and_then digit_of (slice_get text k)) refl link some
+
 pub digits_more : (text : List ℕ) (k : ℕ) → k < length text
     → list_all is_ascii_digit (take k text) ≡ true → is_ascii_digit (get_or text k 0) ≡ true
     → list_all is_ascii_digit (take (k + 1) text) ≡ true
 digits_more text k early all digit =
     list_all_more is_ascii_digit text k 0 early ∙ and_from _ _ all digit
+
+pub digits_before : (text : List ℕ) (n k : ℕ) → k ≤ n
+    → list_all is_ascii_digit (take n text) ≡ true → list_all is_ascii_digit (take k text) ≡ true
+digits_before text n k within all =
+    let both : (list_all is_ascii_digit (take k (take n text))
+    && list_all is_ascii_digit (drop k (take n text))) ≡ true =
+    sym (list_all-append is_ascii_digit (take k (take n text)) (drop k (take n text)))
+    ∙ ap (list_all is_ascii_digit) (take-append-drop k (take n text)) ∙ all in
+    ap (list_all is_ascii_digit) (sym (take-take k n text within)) ∙ (and_parts _ _ both).0
 
 -- no matching row has more literals than were walked
 pub no_more_literals : (rows : List Row) (words text : List ℕ) (k next : ℕ) (digit : Option ℕ)
@@ -173,44 +188,48 @@ no_more_literals rows words text k next digit trie is leads stop row in' match =
             no_link (inl none) = none.1 there.0 there.1
             no_link (inr leads) = absurd (omega (arith, leads.0, stop))
 
--- one literal takes at most so many looks off
-pub most_looks-suc : (n : ℕ) → most_looks (n + 1) ≡ most_looks n + (n + 2)
-most_looks-suc n = omega arith
-
--- a node, its dots, and what comes after the next literal
-looks_split : (n k : ℕ) → k < n → most_looks (n - k) ≡ most_looks (n - (k + 1)) + (n - k + 1)
-looks_split n k early = by (n - (k + 1)) (n - k) (omega arith)
+-- one node more is kept
+pub nodes_more : (rows : List Row) (text nodes : List ℕ) (k node : ℕ) → k + 1 < length nodes
+    → AreNodes rows text nodes k → At (paths_of rows) node (take (k + 1) text)
+    → AreNodes rows text (slice_set nodes (k + 1) node) (k + 1)
+nodes_more rows text nodes k node room kept at i within = by (cases_lt i (k + 1))
   where
-    by : (m l : ℕ) → l ≡ m + 1 → most_looks l ≡ most_looks m + (l + 1)
-    by m l e = ap most_looks e ∙ most_looks-suc m ∙ omega arith
+    by : (i < k + 1) ⊎ (k + 1 ≤ i)
+        → At (paths_of rows) (slice_index (slice_set nodes (k + 1) node) i) (take i text)
+    by (inl less) =
+        subst (λ n. At (paths_of rows) n (take i text))
+        (sym (get_or-set_other nodes (k + 1) i node 0 (λ e. omega (arith, less, e))))
+        (kept i (omega (arith, less)))
+    by (inr more) =
+        let same : k + 1 ≡ i = omega (arith, more, within) in
+        subst (λ j. At (paths_of rows) (slice_index (slice_set nodes (k + 1) node) j) (take j text))
+        same (subst (λ n. At (paths_of rows) n (take (k + 1) text))
+        (sym (get_or-set_same nodes (k + 1) node 0 room)) at)
 
--- so many looks are left for what comes after, and its looks and those at the dots are not too many
-pub looks_on : (n k looks : ℕ) → k < n → (start : ℕ) → looks ≡ start + 1
-    → looks + most_looks (n - (k + 1)) + (n - k) ≤ start + most_looks (n - k)
-looks_on n k looks early start e =
-    by (most_looks (n - k)) (most_looks (n - (k + 1))) (looks_split n k early)
+-- 1 + 2 + .. + n
+abbrev pub sum_to : ℕ → ℕ
+sum_to n = n * (n + 1) / 2
+
+sum_to-suc : (n : ℕ) → sum_to (n + 1) ≡ sum_to n + (n + 1)
+sum_to-suc n = omega arith
+
+-- a node and its dots take one number off the sum
+pub looks_up : (n depth : ℕ) → depth ≤ n
+    → sum_to (n + 1 - depth) ≡ sum_to (n + 1 - (depth + 1)) + (n - depth + 1)
+looks_up n depth within = by (n + 1 - depth) (n + 1 - (depth + 1)) (omega (arith, within))
+    ∙ omega (arith, within)
   where
-    by : (a b : ℕ) → a ≡ b + (n - k + 1) → looks + b + (n - k) ≤ start + a
-    by a b f = omega arith
+    by : (m l : ℕ) → m ≡ l + 1 → sum_to m ≡ sum_to l + (l + 1)
+    by m l e = ap sum_to e ∙ sum_to-suc l
 
--- a node and its dots alone
-pub looks_end : (n k looks : ℕ) (start : ℕ) → looks ≡ start + 1
-    → looks + (n - k) ≤ start + most_looks (n - k)
-looks_end n k looks start e = by (n - k)
+-- so the looks stay within what is left of it
+pub counted_up : (n depth looks more : ℕ) → 0 < depth → depth ≤ n + 1
+    → looks ≤ depth + sum_to (n + 1 - depth) → more ≤ looks + (n - (depth - 1))
+    → more ≤ depth - 1 + sum_to (n + 1 - (depth - 1))
+counted_up n depth looks more some within counted here =
+    by (sum_to (n + 1 - (depth - 1))) (sum_to (n + 1 - depth))
+    (looks_up n (depth - 1) (omega (arith, within))
+    ∙ ap (λ l. sum_to (n + 1 - l) + (n - (depth - 1) + 1)) (omega (arith, some))) counted
   where
-    at_least : (m : ℕ) → m + 1 ≤ most_looks m
-    at_least zero = omega arith
-    at_least (suc m) =
-        let h = at_least m in
-        let e : most_looks (m + 1) ≡ most_looks m + (m + 2) = most_looks-suc m in
-        let f : most_looks (suc m) ≡ most_looks (m + 1) = ap most_looks (omega arith) in
-        by_sum (most_looks (suc m)) (most_looks m) (f ∙ e) h
-      where
-        by_sum : (a b : ℕ) → a ≡ b + (m + 2) → m + 1 ≤ b → suc m + 1 ≤ a
-        by_sum a b g h = omega arith
-
-    by : (m : ℕ) → looks + m ≤ start + most_looks m
-    by m = let h = at_least m in by_bound (most_looks m) h
-      where
-        by_bound : (a : ℕ) → m + 1 ≤ a → looks + m ≤ start + a
-        by_bound a h = omega arith
+    by : (a b : ℕ) → a ≡ b + (n - (depth - 1) + 1) → looks ≤ depth + b → more ≤ depth - 1 + a
+    by a b e h = omega (arith, e, h, some, within, here)

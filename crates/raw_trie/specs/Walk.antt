@@ -1,6 +1,7 @@
 -- What a look at a node tells of the rows.
-use Rattle.std.specs.Prelude.{◌≡◌, ℕ, ◌+◌, ◌-◌, ◌*◌, ◌/◌, List, [], ◌∷◌, ◌++◌, true, false, Option, Some, None, if◌then◌else◌}
+use Rattle.std.specs.Prelude.{◌≡◌, ℕ, ◌+◌, ◌-◌, ◌*◌, ◌/◌, List, [], ◌∷◌, ◌++◌, ◌≤◌, slice_index, slice_get, take, true, false, Option, Some, None, if◌then◌else◌}
 use Rattle.std.specs.Char.{is_ascii_digit}
+use Rattle.std.specs.Option.{option_and_then}
 use Rattle.digit_patterns.specs.Duplicate.{duplicate_of}
 use Rattle.raw_trie.specs.Trie.{Row, At, LeadsTo, IsTrie, link_at, end_at, paths_of}
 use Rattle.raw_trie.specs.declared.walk.Seen.{Seen}
@@ -9,6 +10,10 @@ use Rattle.raw_trie.specs.declared.walk.Seen.{Seen}
 pub record Represents (rows : List Row) (words : List ℕ) : Type 0 where
   pub trie : IsTrie rows (paths_of rows) words
   pub once : duplicate_of rows ≡ None
+
+-- the rows have a trie
+abbrev pub HasTrie : List Row → Type 0
+HasTrie rows = (words : List ℕ) × Represents rows words
 
 -- what was seen is the dot's link and the ends of the node of the path
 pub record Shows (rows : List Row) (path : List ℕ) (seen : Seen) : Type 0 where
@@ -32,3 +37,13 @@ most_looks n = (n + 1) * (n + 2) / 2
 -- the number of a digit
 abbrev pub digit_of : ℕ → Option ℕ
 digit_of c = if is_ascii_digit c then Some (c - 48) else None
+
+-- each kept node, down to a depth, is where so many characters of the text lead
+abbrev pub AreNodes : List Row → List ℕ → List ℕ → ℕ → Type 0
+AreNodes rows text nodes deepest =
+    (depth : ℕ) → depth ≤ deepest → At (paths_of rows) (slice_index nodes depth) (take depth text)
+
+-- where the next character leads after so many, 0 if nowhere or if it is no digit
+abbrev pub LinkAt : List Row → List ℕ → ℕ → ℕ → Type 0
+LinkAt rows text depth next =
+    LeadsOn rows (take depth text) (option_and_then digit_of (slice_get text depth)) next

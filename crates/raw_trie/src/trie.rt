@@ -93,7 +93,7 @@ impl Model for RawTrie {
 
 impl RawTrie {
     ghost use Rattle.raw_trie.specs.Trie.{paths_of};
-    ghost use Rattle.raw_trie.specs.Walk.{Shows, LeadsOn};
+    ghost use Rattle.raw_trie.specs.Walk.{HasTrie, LeadsOn, Shows};
 
     /// The trie of these rows. `alloc` is what its memory is taken from.
     ///
@@ -149,6 +149,7 @@ impl RawTrie {
             result.0 }
         ensures looked { result.1 ≡ node }
         ensures counted { looks.new ≡ looks.old + 1 }
+        ensures trie { HasTrie self.now }
     {
         *looks += 1;
         let next = match digit {

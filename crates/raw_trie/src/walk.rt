@@ -5,13 +5,11 @@ ghost use Rattle.std.specs.Prelude.{◌≡◌, ◌+◌, ◌-◌, ◌*◌, ◌<�
 ghost use Rattle.std.specs.Char.{is_ascii_digit};
 ghost use Rattle.std.specs.List.{list_all};
 ghost use Rattle.std.specs.Option.{option_and_then};
-ghost use Rattle.digit_patterns.specs.Duplicate.{duplicate_of};
 ghost use Rattle.digit_patterns.specs.Table.{best_hit};
 ghost use Rattle.raw_trie.specs.Found.{IsFound, IsTop, with_hit};
-ghost use Rattle.raw_trie.specs.Trie.{At, paths_of};
-ghost use Rattle.raw_trie.specs.Walk.{Shows, most_looks, digit_of};
+ghost use Rattle.raw_trie.specs.Walk.{AreNodes, LinkAt, Shows, digit_of, most_looks};
 
-use crate::trie::RawTrie;
+use crate::trie::{LookedAt, RawTrie};
 use digit_patterns::Hit;
 
 /// What a node tells, the links of its digits aside.
@@ -25,6 +23,9 @@ pub(crate) struct Seen {
     pub(crate) starred: Option<u32>,
 }
 
+/// The most nodes that the digits of a text lead to: the root, and one for each character.
+const MOST_NODES: usize = 33;
+
 /// The longest pattern that matches the text, and how many nodes were looked at.
 pub(crate) fn longest(trie: &RawTrie, text: &[u8]) -> (Option<Hit>, u32)
     requires { length text.now ≤ 32 }
@@ -32,36 +33,71 @@ pub(crate) fn longest(trie: &RawTrie, text: &[u8]) -> (Option<Hit>, u32)
     ensures looks { result.1 ≤ most_looks (length text.now) }
 {
     let mut looks = 0;
-    let best = longest_from(trie, 0, text, 0, &mut looks);
+    let (next, root) = trie.look_at(0, digit_at(text, 0), &mut looks);
+    let mut nodes = [root; MOST_NODES];
+    let deepest = walk_down(trie, text, next, &mut nodes, &mut looks);
+    let best = walk_up(trie, text, &nodes, deepest, &mut looks);
     (best, looks)
 }
 
-/// The best of the patterns that begin with the characters of the text before the place `literals`;
-/// `node` is where these lead. Those with more literals come first.
-fn longest_from(
+/// Goes down along the digits of the text; `next` is where the first of them leads from the root.
+/// Keeps each node at the place of its depth, beside the root, and gives the depth of the last.
+fn walk_down(
     trie: &RawTrie,
-    node: u32,
     text: &[u8],
-    literals: usize,
+    next: u32,
+    nodes: &mut [LookedAt; MOST_NODES],
+    looks: &mut u32,
+) -> usize
+    requires short { length text.now ≤ 32 }
+    requires root { AreNodes trie.now text.now nodes.old 0 }
+    requires next { LinkAt trie.now text.now 0 next }
+    requires few { looks.old < 1000 }
+    ensures within { result ≤ length text.now }
+    ensures digits { list_all is_ascii_digit (take result text.now) ≡ true }
+    ensures nodes { AreNodes trie.now text.now nodes.new result }
+    ensures last { LinkAt trie.now text.now result 0 }
+    ensures looks { looks.new ≡ looks.old + result }
+{
+    let mut next = next;
+    let mut depth = 0;
+    while next != 0 {
+        depth += 1;
+        let (link, looked) = trie.look_at(next, digit_at(text, depth), looks);
+        nodes[depth] = looked;
+        next = link;
+    }
+    depth
+}
+
+/// Goes back up from the deepest node, and gives the first hit. It is the best, since patterns with
+/// more literals come first.
+fn walk_up(
+    trie: &RawTrie,
+    text: &[u8],
+    nodes: &[LookedAt; MOST_NODES],
+    deepest: usize,
     looks: &mut u32,
 ) -> Option<Hit>
-    requires within { literals ≤ length text.now }
     requires short { length text.now ≤ 32 }
-    requires digits { list_all is_ascii_digit (take literals text.now) ≡ true }
-    requires few { looks.old + most_looks (length text.now - literals) < 1000 }
-    requires at { At (paths_of trie.now) node (take literals text.now) }
-    ensures top { IsTop trie.now text.now (66 * literals) result }
-    ensures once { duplicate_of trie.now ≡ None }
-    ensures looks { looks.new ≤ looks.old + most_looks (length text.now - literals) }
+    requires within { deepest ≤ length text.now }
+    requires digits { list_all is_ascii_digit (take deepest text.now) ≡ true }
+    requires nodes { AreNodes trie.now text.now nodes.now deepest }
+    requires above { IsTop trie.now text.now (66 * (deepest + 1)) None }
+    requires looks { looks.old ≡ deepest + 1 }
+    ensures top { IsTop trie.now text.now 0 result }
+    ensures looks { looks.new ≤ most_looks (length text.now) }
 {
-    let (next, looked) = trie.look_at(node, digit_at(text, literals), looks);
-    if next != 0 {
-        let longer = longest_from(trie, next, text, literals + 1, looks);
-        if longer.is_some() {
-            return longer;
+    let mut depth = deepest + 1;
+    while depth > 0 {
+        depth -= 1;
+        let seen = trie.seen_at(nodes[depth]);
+        let best = longest_dots(trie, seen, text, depth, looks);
+        if best.is_some() {
+            return best;
         }
     }
-    longest_dots(trie, trie.seen_at(looked), text, literals, looks)
+    None
 }
 
 /// The digit at a place of the text, if there is one.
