@@ -1,18 +1,18 @@
 -- A change of one call in the running sums: they stay those of the calls.
 use Rattle.std.proofs.Common.{◌≡◌, ℕ, ◌+◌, ◌*◌, ◌^◌, ◌<◌, ◌≤◌, ◌&&◌, ◌||◌, Bool, true, false, cond, List, [], ◌∷◌, length, refl, sym, ap, subst, ◌∙◌, arith}
-use Rattle.std.specs.Prelude.{◌==◌, Option, Some, None, filter, count_by, is_some, if◌then◌else◌}
+use Rattle.std.specs.Prelude.{nat_lt, Option, Some, None, filter, count_by, if◌then◌else◌}
 use Rattle.std.specs.Option.{unwrap_or}
 use Rattle.std.specs.List.{list_any, sum_by}
 use Rattle.std.proofs.lemmas.List.Sums.{sum_by-cons, sum_by-le-sum_by, count_by-le-length}
-use Rattle.std.proofs.lemmas.Bool.{cond-true, eqb-true, and_from, and_left, and_right}
-use Rattle.std.proofs.lemmas.Option.{none-some}
+use Rattle.std.proofs.lemmas.Bool.{cond-true, and_from, and_left, and_right}
+use Rattle.std.proofs.lemmas.Bool.Decides.{nat_tests}
 use Rattle.std.proofs.lemmas.Cmp.{nat_list_eq_equiv}
 use Rattle.bandwidth.specs.declared.open_call.OpenCall.{OpenCall}
 use Rattle.bandwidth.specs.declared.step.Step.{Step}
 use Rattle.bandwidth.specs.declared.zone_uses.ZoneUse.{ZoneUse}
 use Rattle.bandwidth.specs.Calls.{AreInOrder, has_owner, owns, call_of, is_open, with_call, without_call, with_changed}
 use Rattle.bandwidth.specs.Use.{touches, is_interzone, units_of, total_of, interzone_of, remote_of}
-use Rattle.bandwidth.specs.Sums.{Counts, Uses, count_owned, kept_count, use_of, no_use, kept_use, count_found, use_found, count_at, use_at, AreSumsOf, once, units_if_open, count_after, sum_after, use_after, MayCount, MaySum, MayUse, MayPass, CountsPass, UsesPass, remote_after}
+use Rattle.bandwidth.specs.Sums.{Counts, Uses, count_owned, use_of, no_use, count_found, use_found, count_at, use_at, AreBare, AreSumsOf, once, units_if_open, count_after, sum_after, use_after, MayCount, MaySum, MayUse, MayPass, CountsPass, UsesPass, remote_after}
 use Rattle.bandwidth.proofs.CallLemmas.{ascend, sum_with, sum_without, sum_changed, within_sum}
 use Rattle.bandwidth.proofs.SumLemmas.{part, filtered, units_of_some, nothing_counted}
 
@@ -26,42 +26,18 @@ same_use a b c d e f p q r =
     zone_use : ℕ → ℕ → ℕ → ZoneUse
     zone_use n total interzone = record { calls = n; total = total; interzone = interzone }
 
--- ---- what is kept, as what it stands for
-count_is : (count : ℕ) → unwrap_or (kept_count count) 0 ≡ count
-count_is count = grind arith
-
-kept_none : (count : ℕ) → kept_count count ≡ None → count ≡ 0
-kept_none count h = by (count == 0) refl h
+-- ---- what is counted
+some_counted : (test : OpenCall → Bool) (calls : List OpenCall)
+    → nat_lt 0 (count_by test calls) ≡ list_any test calls
+some_counted test [] = refl
+some_counted test (call ∷ calls) =
+    ap (nat_lt 0) (sum_by-cons (λ c. cond (test c) 1 0) call calls)
+    ∙ by (test call) (count_by test calls) (some_counted test calls)
   where
-    by : (t : Bool) → (count == 0) ≡ t → cond t None (Some count) ≡ None → count ≡ 0
-    by true e k = eqb-true count 0 e
-    by false e k = absurd (none-some count (sym k))
-
-kept_use_none : (sums : ZoneUse) → kept_use sums ≡ None → sums.calls ≡ 0
-kept_use_none sums h = by (sums.calls == 0) refl h
-  where
-    by : (t : Bool) → (sums.calls == 0) ≡ t → cond t None (Some sums) ≡ None → sums.calls ≡ 0
-    by true e k = eqb-true sums.calls 0 e
-    by false e k = absurd (none-some sums (sym k))
-
-is_some_kept : (test : OpenCall → Bool) (calls : List OpenCall)
-    → is_some (kept_count (count_by test calls)) ≡ list_any test calls
-is_some_kept test [] = refl
-is_some_kept test (call ∷ calls) =
-    ap (λ count. is_some (kept_count count)) (sum_by-cons (λ c. cond (test c) 1 0) call calls)
-    ∙ by (test call) (count_by test calls) (is_some_kept test calls)
-  where
-    kept_more : (count : ℕ) → kept_count (count + 1) ≡ Some (count + 1)
-    kept_more count = grind arith
-
-    by : (t : Bool) (count : ℕ) → is_some (kept_count count) ≡ list_any test calls
-        → is_some (kept_count (cond t 1 0 + count)) ≡ (t || list_any test calls)
-    by true count h =
-        let flipped : 1 + count ≡ count + 1 = omega arith in
-        ap (λ n. is_some (kept_count n)) flipped ∙ ap is_some (kept_more count)
-    by false count h =
-        let same : 0 + count ≡ count = omega arith in
-        ap (λ n. is_some (kept_count n)) same ∙ h
+    by : (t : Bool) (count : ℕ) → nat_lt 0 count ≡ list_any test calls
+        → nat_lt 0 (cond t 1 0 + count) ≡ (t || list_any test calls)
+    by true count h = grind (arith, nat_tests)
+    by false count h = let same : 0 + count ≡ count = omega arith in ap (nat_lt 0) same ∙ h
 
 -- of a zone that no call touches both sums are 0
 interzone_fewer : (calls : List OpenCall) (zone : List ℕ)
@@ -75,41 +51,32 @@ interzone_fewer calls zone =
     fewer true false = omega arith
     fewer false b = omega arith
 
-use_is : (calls : List OpenCall) (zone : List ℕ)
-    → unwrap_or (kept_use (use_of calls zone)) no_use ≡ use_of calls zone
-use_is calls zone = by (count_by (touches zone) calls == 0) refl
-  where
-    by : (t : Bool) → (count_by (touches zone) calls == 0) ≡ t
-        → unwrap_or (cond t None (Some (use_of calls zone))) no_use ≡ use_of calls zone
-    by true e =
-        let none = eqb-true (count_by (touches zone) calls) 0 e in
-        let few = interzone_fewer calls zone in
-        let total = nothing_counted (touches zone) calls none in
-        let interzone = nothing_counted (λ c. touches zone c && is_interzone c) calls
-        (omega (arith, few, none)) in
-        same_use 0 (count_by (touches zone) calls) 0 (total_of calls zone) 0
-        (interzone_of calls zone) (sym none) (sym total) (sym interzone)
-    by false e = refl
+no_use_of : (calls : List OpenCall) (zone : List ℕ) → count_by (touches zone) calls ≡ 0
+    → use_of calls zone ≡ no_use
+no_use_of calls zone none =
+    let few = interzone_fewer calls zone in
+    let total = nothing_counted (touches zone) calls none in
+    let interzone = nothing_counted (λ c. touches zone c && is_interzone c) calls
+    (omega (arith, few, none)) in
+    same_use (count_by (touches zone) calls) 0 (total_of calls zone) 0 (interzone_of calls zone) 0
+    none total interzone
 
 -- ---- what the views read
 module _ (owners : Counts) (zones : Uses) (remote : ℕ) (calls : List OpenCall)
     (summed : AreSumsOf owners zones remote calls) where
-  pub owner_at : (id : List ℕ) → is_some (count_found owners id) ≡ owns calls id
-  owner_at id = ap is_some (summed.owned id) ∙ is_some_kept (has_owner id) calls
+  pub owner_at : (id : List ℕ) → nat_lt 0 (count_at owners id) ≡ owns calls id
+  owner_at id = ap (nat_lt 0) (summed.owned id) ∙ some_counted (has_owner id) calls
 
-  pub count_is_at : (id : List ℕ) → count_at owners id ≡ count_owned calls id
-  count_is_at id =
-      ap (λ found. unwrap_or found 0) (summed.owned id) ∙ count_is (count_owned calls id)
-
-  pub use_is_at : (zone : List ℕ) → use_at zones zone ≡ use_of calls zone
-  use_is_at zone = ap (λ found. unwrap_or found no_use) (summed.used zone) ∙ use_is calls zone
+  -- a zone that no call touches has no sums
+  pub bare : AreBare zones
+  bare zone none =
+      summed.used zone ∙ no_use_of calls zone (sym (ap (λ u. u.calls) (summed.used zone)) ∙ none)
 
   -- the owner of an open call has an entry, and so has each zone that it touches
   module _ (number : ℕ) (held : OpenCall) (found : call_of calls number ≡ Some held) where
     pub owner_known : count_found owners held.owner ≡ None → ⊥
     owner_known none =
-        let zero = kept_none (count_owned calls held.owner)
-        (sym (summed.owned held.owner) ∙ none) in
+        let zero = sym (summed.owned held.owner) ∙ ap (λ found. unwrap_or found 0) none in
         let one = within_sum (λ c. cond (has_owner held.owner c) 1 0) number held calls found in
         let itself = cond-true {A = ℕ} (has_owner held.owner held) 1 0
         (nat_list_eq_equiv.refl held.owner) in
@@ -117,15 +84,16 @@ module _ (owners : Counts) (zones : Uses) (remote : ℕ) (calls : List OpenCall)
 
     pub zone_known : (zone : List ℕ) → touches zone held ≡ true → use_found zones zone ≡ None → ⊥
     zone_known zone touched none =
-        let zero = kept_use_none (use_of calls zone) (sym (summed.used zone) ∙ none) in
+        let zero = ap (λ u. u.calls)
+        (sym (summed.used zone) ∙ ap (λ found. unwrap_or found no_use) none) in
         let one = within_sum (λ c. cond (touches zone c) 1 0) number held calls found in
         let itself = cond-true {A = ℕ} (touches zone held) 1 0 touched in
         omega (arith, zero, one, itself)
 
-  -- the same in maps that have the same entries
+  -- the same in maps that have the same of each name
   pub sums_same : (owners' : Counts) (zones' : Uses) (remote' : ℕ)
-      → ((id : List ℕ) → count_found owners' id ≡ count_found owners id)
-      → ((zone : List ℕ) → use_found zones' zone ≡ use_found zones zone)
+      → ((id : List ℕ) → count_at owners' id ≡ count_at owners id)
+      → ((zone : List ℕ) → use_at zones' zone ≡ use_at zones zone)
       → remote' ≡ remote → AreSumsOf owners' zones' remote' calls
   sums_same owners' zones' remote' same_owners same_zones same_remote = record {
     owned = λ id. same_owners id ∙ summed.owned id;
@@ -304,30 +272,14 @@ module _ (old new : List OpenCall) (call : OpenCall) (step : Step)
         → remote' ≡ remote_after call step remote → AreSumsOf owners' zones' remote' new
     sums_pass owners' zones' remote' counts uses remotely = record {
       owned = λ id. counts id
-          ∙ ap (λ n. cond (has_owner id call) (kept_count (count_after step n))
-          (count_found owners id))
-          (count_is_at owners zones remote old summed id)
-          ∙ ap (cond (has_owner id call) (kept_count (count_after step (count_owned old id))))
-          (summed.owned id)
-          ∙ out kept_count (has_owner id call) (count_after step (count_owned old id))
-          (count_owned old id)
-          ∙ ap kept_count (sym (count_moves_for id));
+          ∙ ap (λ n. cond (has_owner id call) (count_after step n) n) (summed.owned id)
+          ∙ sym (count_moves_for id);
       used = λ zone. uses zone
-          ∙ ap (λ u. cond (touches zone call) (kept_use (use_after (is_interzone call) step u))
-          (use_found zones zone))
-          (use_is_at owners zones remote old summed zone)
-          ∙ ap (cond (touches zone call)
-          (kept_use (use_after (is_interzone call) step (use_of old zone))))
+          ∙ ap (λ u. cond (touches zone call) (use_after (is_interzone call) step u) u)
           (summed.used zone)
-          ∙ out kept_use (touches zone call) (use_after (is_interzone call) step (use_of old zone))
-          (use_of old zone)
-          ∙ ap kept_use (sym (use_moves zone));
+          ∙ sym (use_moves zone);
       remotely = remotely ∙ ap (remote_after call step) summed.remotely ∙ sym remote_moves;
     }
-      where
-        out : {X Y : Type 0} (f : X → Y) (t : Bool) (x y : X) → cond t (f x) (f y) ≡ f (cond t x y)
-        out f true x y = refl
-        out f false x y = refl
 
     -- 32 bits each, so no sum wraps
     pub may_pass : AreInOrder old → units_of old ≤ length old * 4294967295
@@ -335,10 +287,10 @@ module _ (old new : List OpenCall) (call : OpenCall) (step : Step)
         → MayPass owners zones remote call step
     may_pass order small few fits = record {
       owner = may_count (has_owner call.owner) (λ u. nat_list_eq_equiv.refl call.owner)
-          (count_at owners call.owner) (count_is_at owners zones remote old summed call.owner);
+          (count_at owners call.owner) (summed.owned call.owner);
       zone = λ zone t.
           subst (MayUse (is_interzone call) step)
-          (sym (use_is_at owners zones remote old summed zone))
+          (sym (summed.used zone))
           (record {
             calls = may_count (touches zone) (λ u. t) (count_by (touches zone) old) refl;
             total = may_sum (touches zone) (λ u. t) (total_of old zone) refl;

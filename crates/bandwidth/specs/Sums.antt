@@ -1,6 +1,6 @@
 -- The running sums: what is kept for each owner and each zone, and what a change of one call makes
 -- of it.
-use Rattle.std.specs.Prelude.{◌≡◌, ◌≤◌, ◌<◌, ◌^◌, ℕ, ◌+◌, ◌-◌, ◌==◌, Bool, true, List, ◌∷◌, count_by, Option, Some, None, bytes_eq, if◌then◌else◌}
+use Rattle.std.specs.Prelude.{◌≡◌, ◌≤◌, ◌<◌, ◌^◌, ℕ, ◌+◌, ◌-◌, Bool, true, List, ◌∷◌, count_by, Option, Some, None, IfSome, bytes_eq, if◌then◌else◌}
 use Rattle.std.specs.Option.{unwrap_or, option_copied, option_to_list}
 use Rattle.std.specs.Map.{lookup}
 use Rattle.bandwidth.specs.declared.open_call.OpenCall.{OpenCall}
@@ -19,10 +19,6 @@ zones_in zones = zones.first.now ∷ option_to_list (option_copied zones.second)
 abbrev pub count_owned : List OpenCall → List ℕ → ℕ
 count_owned calls id = count_by (has_owner id) calls
 
--- a count as it is kept: no entry if it is 0
-abbrev pub kept_count : ℕ → Option ℕ
-kept_count count = if count == 0 then None else Some count
-
 -- how many calls touch a zone, and their sums
 abbrev pub use_of : List OpenCall → List ℕ → ZoneUse
 use_of calls zone = record {
@@ -33,10 +29,6 @@ use_of calls zone = record {
 
 abbrev pub no_use : ZoneUse
 no_use = record { calls = 0; total = 0; interzone = 0 }
-
--- the sums of a zone as they are kept: no entry if no call touches it
-abbrev pub kept_use : ZoneUse → Option ZoneUse
-kept_use sums = if sums.calls == 0 then None else Some sums
 
 abbrev pub Counts : Type 0
 Counts = List (List ℕ × ℕ)
@@ -51,17 +43,29 @@ count_found owners id = lookup (bytes_eq id) owners
 abbrev pub use_found : Uses → List ℕ → Option ZoneUse
 use_found zones zone = lookup (bytes_eq zone) zones
 
+-- the count and the sums that this stands for: nothing if there is no entry
 abbrev pub count_at : Counts → List ℕ → ℕ
 count_at owners id = unwrap_or (count_found owners id) 0
 
 abbrev pub use_at : Uses → List ℕ → ZoneUse
 use_at zones zone = unwrap_or (use_found zones zone) no_use
 
+-- each ID that has an entry owns a call, and each zone that has one is touched by a call
+abbrev pub AllCounted : Counts → Type 0
+AllCounted owners = (id : List ℕ) → IfSome (count_found owners id) (λ count. 0 < count)
+
+abbrev pub AllUsed : Uses → Type 0
+AllUsed zones = (zone : List ℕ) → IfSome (use_found zones zone) (λ used. 0 < used.calls)
+
+-- a zone that no call touches has no sums
+abbrev pub AreBare : Uses → Type 0
+AreBare zones = (zone : List ℕ) → (use_at zones zone).calls ≡ 0 → use_at zones zone ≡ no_use
+
 -- the running sums are those of the calls
 pub record AreSumsOf (owners : Counts) (zones : Uses) (remote : ℕ) (calls : List OpenCall)
     : Type 0 where
-  pub owned : (id : List ℕ) → count_found owners id ≡ kept_count (count_owned calls id)
-  pub used : (zone : List ℕ) → use_found zones zone ≡ kept_use (use_of calls zone)
+  pub owned : (id : List ℕ) → count_at owners id ≡ count_owned calls id
+  pub used : (zone : List ℕ) → use_at zones zone ≡ use_of calls zone
   pub remotely : remote ≡ remote_of calls
 
 -- ---- a change of one call
@@ -116,21 +120,20 @@ pub record MayPass (owners : Counts) (zones : Uses) (remote : ℕ) (call : OpenC
 -- new has what the step leaves, for the owner and for the zones that the call touches
 abbrev pub CountsPass : OpenCall → Step → Counts → Counts → Type 0
 CountsPass call step old new =
-    (id : List ℕ) → count_found new id
-    ≡ (if has_owner id call then kept_count (count_after step (count_at old id))
-    else count_found old id)
+    (id : List ℕ) → count_at new id
+    ≡ (if has_owner id call then count_after step (count_at old id) else count_at old id)
 
 abbrev pub UsesPass : OpenCall → Step → Uses → Uses → Type 0
 UsesPass call step old new =
-    (zone : List ℕ) → use_found new zone
-    ≡ (if touches zone call then kept_use (use_after (is_interzone call) step (use_at old zone))
-    else use_found old zone)
+    (zone : List ℕ) → use_at new zone
+    ≡ (if touches zone call then use_after (is_interzone call) step (use_at old zone)
+    else use_at old zone)
 
--- the same for one zone alone, by whether the call is between two zones
+-- the same for one zone alone, by whether the call is between two zones: it has an entry now
 abbrev pub UsesPassAt : List ℕ → Bool → Step → Uses → Uses → Type 0
 UsesPassAt at between step old new =
     (zone : List ℕ) → use_found new zone
-    ≡ (if bytes_eq at zone then kept_use (use_after between step (use_at old zone))
+    ≡ (if bytes_eq at zone then Some (use_after between step (use_at old zone))
     else use_found old zone)
 
 -- the sum of the calls to remote zones after the step of a call

@@ -1,27 +1,19 @@
 //! Maps by name.
 
-ghost use Rattle.std.specs.Prelude.{◌≡◌, ◌≤◌, ◌+◌, None, bytes_eq, if◌then◌else◌};
+ghost use Rattle.std.specs.Prelude.{◌≡◌, ◌≤◌, ◌+◌, Some, None, bytes_eq, if◌then◌else◌};
 ghost use Rattle.std.specs.HashMap.{spare};
 ghost use Rattle.std.specs.Map.{lookup};
 
 use gk_terms::Name;
 use std::collections::HashMap;
 
-/// Gives the name this value, or takes its entry out of the map. Takes no memory: a name that has
-/// no entry needs room for one.
-pub fn put<V: Drop>(map: &mut HashMap<Name, V>, name: Name, value: Option<V>)
+/// Gives the name this value. Takes no memory: a name that has no entry needs room for one.
+pub fn put<V: Drop>(map: &mut HashMap<Name, V>, name: Name, value: V)
     requires room { lookup (bytes_eq name) map.old.entries ≡ None → 1 ≤ spare map.old }
     ensures entries { (other : _) → lookup (bytes_eq other) map.new.entries
-        ≡ (if bytes_eq name other then value else lookup (bytes_eq other) map.old.entries) }
+        ≡ (if bytes_eq name other then Some value else lookup (bytes_eq other) map.old.entries) }
     ensures room { spare map.old ≤ spare map.new + 1 }
 {
-    match value {
-        Some(value) => {
-            let put: Result<_, _> = map.insert(name, value);
-            let _ = put.unwrap();
-        }
-        None => {
-            let _ = map.remove(&name);
-        }
-    }
+    let put: Result<_, _> = map.insert(name, value);
+    let _ = put.unwrap();
 }

@@ -22,9 +22,9 @@ use std::marker::Model;
 /// number. `sums` has what they add up to: how many calls each owner has, how many touch each zone
 /// with their total and their interzone sum, and the sum of those to zones of other gatekeepers.
 /// Each is changed with the calls and stays equal to what they add up to, so that no request goes
-/// over them; an owner and a zone without calls have no entry. There are at most `most` calls, each
-/// of 32 bits of bandwidth, so no sum wraps. A contract sees `OpenCallsParts`: the list of the
-/// calls, and how many there may be.
+/// over them; the entry of an owner or a zone without calls may stay until its place is needed.
+/// There are at most `most` calls, each of 32 bits of bandwidth, so no sum wraps. A contract sees
+/// `OpenCallsParts`: the list of the calls, and how many there may be.
 #[derive(Drop)]
 pub struct OpenCalls {
     calls: CallList,

@@ -1,20 +1,52 @@
 //! How many open calls each endpoint owns.
 
-ghost use Rattle.std.specs.Prelude.{◌≡◌, ◌≤◌, None};
+ghost use Rattle.std.specs.Prelude.{◌≡◌, ◌<◌, ◌≤◌, None, OnOk};
 ghost use Rattle.std.specs.HashMap.{spare};
-ghost use Rattle.bandwidth.specs.Sums.{CountsPass, MayCount, count_at, count_found, kept_count};
+ghost use Rattle.bandwidth.specs.Sums.{AllCounted, CountsPass, MayCount, count_at, count_found};
 
 use crate::named;
 use crate::open_call::OpenCall;
 use crate::step::Step;
 use gk_terms::Name;
+use std::alloc::AllocError;
 use std::collections::HashMap;
 
-/// A count as it is kept: nothing if it is 0.
-fn kept(count: usize) -> Option<usize>
-    ensures { result ≡ kept_count count }
+/// Makes room for an owner more: if it is not there, owners without calls give up their entries. If
+/// memory runs out there may be no room. No count changes.
+pub fn reserve(owners: &mut HashMap<Name, usize>) -> Result<(), AllocError>
+    ensures same { (id : _) → count_at owners.new.entries id ≡ count_at owners.old.entries id }
+    ensures left { spare owners.old < 1 → AllCounted owners.new.entries }
+    ensures room { OnOk result (1 ≤ spare owners.new) }
 {
-    if count == 0 { None } else { Some(count) }
+    if owners.capacity() - owners.len() >= 1 {
+        return Ok(());
+    }
+    make_room(owners)
+}
+
+/// The same for a map without the room. It grows only if owners with calls take more than half of
+/// it. So half of it is free afterwards, and the work of going over the entries is spread over as
+/// many insertions.
+#[inline(never)]
+fn make_room(owners: &mut HashMap<Name, usize>) -> Result<(), AllocError>
+    ensures same { (id : _) → count_at owners.new.entries id ≡ count_at owners.old.entries id }
+    ensures left { AllCounted owners.new.entries }
+    ensures room { OnOk result (1 ≤ spare owners.new) }
+{
+    let_go(owners);
+    if owners.reserve(owners.len().max(1)).is_ok() {
+        return Ok(());
+    }
+    // There may be no memory for half of it, and yet room for one.
+    owners.reserve(1)
+}
+
+/// Lets the entries go of the owners without calls.
+fn let_go(owners: &mut HashMap<Name, usize>)
+    ensures same { (id : _) → count_at owners.new.entries id ≡ count_at owners.old.entries id }
+    ensures left { AllCounted owners.new.entries }
+{
+    owners.retain(|_, count| *count > 0);
 }
 
 /// Takes the step for the call's owner. Takes no memory: the map needs room for an owner that has
@@ -28,14 +60,8 @@ pub fn pass(owners: &mut HashMap<Name, usize>, call: &OpenCall, step: &Step)
         // The call stays open, so it counts as before.
         return;
     }
-    let Some(count) = owners.get_mut(&call.owner) else {
-        named::put(owners, call.owner, kept(step.count_after(0)));
-        return;
-    };
-    match kept(step.count_after(*count)) {
-        Some(after) => *count = after,
-        None => {
-            let _ = owners.remove(&call.owner);
-        }
+    match owners.get_mut(&call.owner) {
+        Some(count) => *count = step.count_after(*count),
+        None => named::put(owners, call.owner, step.count_after(0)),
     }
 }

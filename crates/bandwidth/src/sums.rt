@@ -1,10 +1,10 @@
 //! The running sums: the calls of each owner, the bandwidth in each zone, and that of all calls to
 //! remote zones.
 
-ghost use Rattle.std.specs.Prelude.{◌≡◌, ◌≤◌, [], true, None, is_some, OnOk};
+ghost use Rattle.std.specs.Prelude.{◌≡◌, ◌≤◌, [], true, None, nat_lt, OnOk};
 ghost use Rattle.std.specs.HashMap.{spare};
 ghost use Rattle.bandwidth.specs.Use.{touches};
-ghost use Rattle.bandwidth.specs.Sums.{CountsPass, MayPass, UsesPass, count_found, remote_after, use_at, use_found};
+ghost use Rattle.bandwidth.specs.Sums.{AreBare, CountsPass, MayPass, UsesPass, count_at, count_found, remote_after, use_at, use_found};
 
 use crate::open_call::OpenCall;
 use crate::owner_counts;
@@ -17,10 +17,11 @@ use std::collections::HashMap;
 /// What is kept of the open calls, so that no request adds them up.
 #[derive(Drop)]
 pub struct Sums {
-    /// How many calls each owner has: no entry at 0.
+    /// How many calls each owner has. An entry may stay at 0; see `zones`.
     pub owners: HashMap<Name, usize>,
-    /// For each zone how many calls touch it, and their sums: no entry if none does, so that the
-    /// names of zones that have gone do not pile up.
+    /// For each zone how many calls touch it, and their sums. An entry may stay when none does, for
+    /// the next call. Such entries go when the map would otherwise have to grow, so that the names
+    /// of zones that have gone do not pile up.
     pub zones: HashMap<Name, ZoneUse>,
     /// The sum of the calls to zones of other gatekeepers, in units of 100 bit/s.
     pub remote: u64,
@@ -42,9 +43,12 @@ impl Sums {
 
     /// Whether any counted call belongs to the endpoint with this ID.
     pub fn counts_owner(&self, id: &Name) -> bool
-        ensures { result ≡ is_some (count_found self.now.owners.entries id.now) }
+        ensures { result ≡ nat_lt 0 (count_at self.now.owners.entries id.now) }
     {
-        self.owners.contains_key(id)
+        match self.owners.get(id) {
+            Some(count) => *count > 0,
+            None => false,
+        }
     }
 
     /// What is used of the zone.
@@ -54,19 +58,20 @@ impl Sums {
         zone_uses::use_at(&self.zones, zone)
     }
 
-    /// Makes room for a call more, whose owner and two zones may be new. If memory runs out there
-    /// may be no room. No sum changes.
+    /// Makes room for a call more, whose owner and two zones may be new. Entries without calls may
+    /// go for it. If memory runs out there may be no room. No sum changes.
     pub fn reserve(&mut self) -> Result<(), AllocError>
-        ensures owners { (id : _) → count_found self.new.owners.entries id
-            ≡ count_found self.old.owners.entries id }
-        ensures zones { (zone : _) → use_found self.new.zones.entries zone
-            ≡ use_found self.old.zones.entries zone }
+        requires { AreBare self.old.zones.entries }
+        ensures owners { (id : _) → count_at self.new.owners.entries id
+            ≡ count_at self.old.owners.entries id }
+        ensures zones { (zone : _) → use_at self.new.zones.entries zone
+            ≡ use_at self.old.zones.entries zone }
         ensures remote { self.new.remote ≡ self.old.remote }
         ensures owners_room { OnOk result (1 ≤ spare self.new.owners) }
         ensures zones_room { OnOk result (2 ≤ spare self.new.zones) }
     {
-        self.owners.reserve(1)?;
-        self.zones.reserve(2)
+        owner_counts::reserve(&mut self.owners)?;
+        zone_uses::reserve(&mut self.zones)
     }
 
     /// Takes the step in each sum in which the call counts. Takes no memory: the maps need room for

@@ -1,14 +1,15 @@
 //! What open calls use of each zone.
 
-ghost use Rattle.std.specs.Prelude.{◌≡◌, ◌≤◌, ◌+◌, true, None};
+ghost use Rattle.std.specs.Prelude.{◌≡◌, ◌<◌, ◌≤◌, ◌+◌, true, None, OnOk};
 ghost use Rattle.std.specs.HashMap.{spare};
 ghost use Rattle.bandwidth.specs.Use.{is_interzone, touches};
-ghost use Rattle.bandwidth.specs.Sums.{MayUse, UsesPass, UsesPassAt, kept_use, no_use, use_after, use_at, use_found};
+ghost use Rattle.bandwidth.specs.Sums.{AllUsed, AreBare, MayUse, UsesPass, UsesPassAt, no_use, use_after, use_at, use_found};
 
 use crate::named;
 use crate::open_call::OpenCall;
 use crate::step::Step;
 use gk_terms::Name;
+use std::alloc::AllocError;
 use std::collections::HashMap;
 
 /// What the open calls that touch a zone use of it.
@@ -50,13 +51,6 @@ impl ZoneUse {
             },
         }
     }
-
-    /// The same as it is kept: nothing if no call touches the zone.
-    fn kept(self) -> Option<ZoneUse>
-        ensures { result ≡ kept_use self }
-    {
-        if self.calls == 0 { None } else { Some(self) }
-    }
 }
 
 /// What is used of the zone.
@@ -67,6 +61,47 @@ pub fn use_at(zones: &HashMap<Name, ZoneUse>, zone: &Name) -> ZoneUse
         Some(used) => *used,
         None => ZoneUse::none(),
     }
+}
+
+/// Makes room for two zones more: if it is not there, zones that no call touches give up their
+/// entries. If memory runs out there may be no room. What is used of a zone does not change.
+pub fn reserve(zones: &mut HashMap<Name, ZoneUse>) -> Result<(), AllocError>
+    requires { AreBare zones.old.entries }
+    ensures same { (zone : _) → use_at zones.new.entries zone ≡ use_at zones.old.entries zone }
+    ensures left { spare zones.old < 2 → AllUsed zones.new.entries }
+    ensures room { OnOk result (2 ≤ spare zones.new) }
+{
+    if zones.capacity() - zones.len() >= 2 {
+        return Ok(());
+    }
+    make_room(zones)
+}
+
+/// The same for a map without the room. It grows only if zones that calls touch take more than half
+/// of it. So half of it is free afterwards, and the work of going over the entries is spread over
+/// as many insertions.
+#[inline(never)]
+fn make_room(zones: &mut HashMap<Name, ZoneUse>) -> Result<(), AllocError>
+    requires { AreBare zones.old.entries }
+    ensures same { (zone : _) → use_at zones.new.entries zone ≡ use_at zones.old.entries zone }
+    ensures left { AllUsed zones.new.entries }
+    ensures room { OnOk result (2 ≤ spare zones.new) }
+{
+    let_go(zones);
+    if zones.reserve(zones.len().max(2)).is_ok() {
+        return Ok(());
+    }
+    // There may be no memory for half of it, and yet room for two.
+    zones.reserve(2)
+}
+
+/// Lets the entries go of the zones that no call touches.
+fn let_go(zones: &mut HashMap<Name, ZoneUse>)
+    requires { AreBare zones.old.entries }
+    ensures same { (zone : _) → use_at zones.new.entries zone ≡ use_at zones.old.entries zone }
+    ensures left { AllUsed zones.new.entries }
+{
+    zones.retain(|_, used| used.calls > 0);
 }
 
 /// Takes the step for each zone that the call touches. Takes no memory: the map needs room for the
@@ -86,21 +121,15 @@ pub fn pass(zones: &mut HashMap<Name, ZoneUse>, call: &OpenCall, step: &Step)
     }
 }
 
-/// Takes the step of a call that is between two zones or not, for one zone.
+/// Takes the step of a call that is between two zones or not, for one zone. No entry goes.
 fn pass_at(zones: &mut HashMap<Name, ZoneUse>, zone: &Name, between: bool, step: &Step)
     requires sums { MayUse between step.now (use_at zones.old.entries zone.now) }
     requires room { use_found zones.old.entries zone.now ≡ None → 1 ≤ spare zones.old }
     ensures zones { UsesPassAt zone.now between step.now zones.old.entries zones.new.entries }
     ensures room { spare zones.old ≤ spare zones.new + 1 }
 {
-    let Some(used) = zones.get_mut(zone) else {
-        named::put(zones, *zone, ZoneUse::none().after(between, step).kept());
-        return;
-    };
-    match used.after(between, step).kept() {
-        Some(after) => *used = after,
-        None => {
-            let _ = zones.remove(zone);
-        }
+    match zones.get_mut(zone) {
+        Some(used) => *used = used.after(between, step),
+        None => named::put(zones, *zone, ZoneUse::none().after(between, step)),
     }
 }

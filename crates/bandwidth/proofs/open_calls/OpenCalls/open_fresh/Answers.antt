@@ -1,7 +1,7 @@
 use Rattle.std.proofs.Common.{◌≡◌, ◌≤◌, false, length, ap, sym, subst, ◌∙◌, arith}
 use Rattle.bandwidth.specs.Calls.{is_open}
 use Rattle.bandwidth.specs.Sums.{AreSumsOf}
-use Rattle.bandwidth.proofs.PassLemmas.{opening, may_pass, sums_pass, sums_same}
+use Rattle.bandwidth.proofs.PassLemmas.{bare, opening, may_pass, sums_pass, sums_same}
 use Rattle.bandwidth.proofs.OpenLemmas.{length_with}
 use Rattle.bandwidth.proofs.open_calls.OpenCalls.open_fresh.Goals as goal
 use Rattle.bandwidth.proofs.open_calls.OpenCalls.open_fresh.Goals.{After-insert}
@@ -17,6 +17,10 @@ summed : (c : After-insert)
 summed c =
     sums_same _ _ _ _ c.self.invariant.summed _ _ _ c.reserve.ensures.owners
     c.reserve.ensures.zones c.reserve.ensures.remote
+
+-- a zone that no call touches has no sums
+pub reserve-requires : goal.reserve-requires
+reserve-requires c = bare _ _ _ _ c.self.invariant.summed
 
 pub pass-requires-clause-sums : goal.pass-requires-clause-sums
 pass-requires-clause-sums c =
