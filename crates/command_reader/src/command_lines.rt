@@ -1,6 +1,6 @@
 //! The lines of accepted commands.
 
-ghost use Rattle.std.specs.Prelude.{◌≡◌, IfOk, Ok};
+ghost use Rattle.std.specs.Prelude.{◌≡◌, true, IfOk, Ok};
 ghost use Rattle.command_reader.specs.Reading.{reading_in};
 ghost use Rattle.command_reader.specs.WholeLines.{commands_said};
 
@@ -38,6 +38,20 @@ impl CommandLines {
         ensures { result ≡ commands_said lines }
     {
         CommandLines { lines }
+    }
+
+    /// Whether these lines are the same as the other ones, byte by byte, and so say the same. Lines
+    /// that say the same in other words are not the same.
+    pub fn is_same_text(&self, other: &CommandLines) -> bool
+        ensures { result ≡ true → self.now ≡ other.now }
+    {
+        self.lines.is_same_text(&other.lines)
+    }
+
+    /// A hash of the lines as they stand, by which lines that may be the same are found. The time
+    /// grows with their number of bytes.
+    pub fn text_hash(&self) -> u64 {
+        self.lines.text_hash()
     }
 
     /// The commands, read again. It fails only if memory runs out.

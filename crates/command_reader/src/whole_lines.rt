@@ -6,6 +6,7 @@ ghost use Rattle.command_reader.specs.WholeLines.{ReadsAsLine};
 
 use gk_terms::text_lines::bytes_before_feed;
 use std::alloc::{AllocError, Global};
+use std::hash::{FoldHasher, Hasher};
 use std::marker::Model;
 
 /// Lines one after another, each with its line feed. A contract sees what they say.
@@ -63,6 +64,20 @@ impl WholeLines {
         ensures { lines_of result.now ≡ self.now }
     {
         &self.bytes
+    }
+
+    /// Whether these are the lines of the other text too, byte by byte.
+    pub fn is_same_text(&self, other: &WholeLines) -> bool
+        ensures { result ≡ true → self.now ≡ other.now }
+    {
+        self.bytes.as_slice() == other.bytes.as_slice()
+    }
+
+    /// A hash of the text.
+    pub fn text_hash(&self) -> u64 {
+        let mut hasher = FoldHasher::default();
+        hasher.write(&self.bytes);
+        hasher.finish()
     }
 }
 

@@ -96,8 +96,8 @@ impl SlotList {
         )
     }
 
-    /// Makes room for this many further slots, of whatever kinds. If memory runs out, the slots stay
-    /// as they are.
+    /// Makes room for this many further slots, of whatever kinds. If memory runs out, the slots
+    /// stay as they are.
     pub fn reserve(&mut self, places: usize) -> Result<(), AllocError>
         requires near { places ≤ self.old.room + PIECE_ITEMS }
         ensures slots { IsRoomier self.old self.new }

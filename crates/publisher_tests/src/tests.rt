@@ -72,8 +72,8 @@ fn what_was_told_is_read_and_what_is_held_stays(rt: HostRuntime) -> Result<(), F
     Ok(())
 }
 
-/// What a reader reads, the tables that it holds once the publisher is closed; and why it then reads
-/// nothing.
+/// What a reader reads, the tables that it holds once the publisher is closed; and why it then
+/// reads nothing.
 fn read_when_told<J: Imprint, R: Wait + Abort>(
     rt: &R,
     alloc: Global,

@@ -161,7 +161,7 @@ impl RawTrie {
 
     /// What else a node tells that was looked at, and so counted: the dot's link and the ends. A
     /// walk asks for it on its way back up, so that of most nodes that it passes it reads one link
-    /// alone. No other function reads a node.
+    /// alone. `look_at` and this are the only functions that read a node.
     pub(crate) fn seen_at(&self, looked: LookedAt) -> Seen
         requires { looked < length (paths_of self.now) }
         ensures { Shows self.now (slice_index_or (paths_of self.now) looked []) result }
