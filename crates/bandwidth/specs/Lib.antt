@@ -2,6 +2,7 @@ pub mod CallList
 pub mod Calls
 pub mod FitLaws
 pub mod Fits
+pub mod Named
 pub mod OpenCalls
 pub mod Sums
 pub mod Trying

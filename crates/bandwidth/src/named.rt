@@ -1,11 +1,22 @@
-//! Maps by name.
+//! Maps by name, in which an entry that counts nothing may stay until its place is needed.
 
-ghost use Rattle.std.specs.Prelude.{◌≡◌, ◌≤◌, ◌+◌, Some, None, bytes_eq, if◌then◌else◌};
+ghost use Rattle.std.specs.Prelude.{◌≡◌, ◌≤◌, ◌+◌, Bool, Some, None, bytes_eq, if◌then◌else◌, nat_lt, OnOk};
 ghost use Rattle.std.specs.HashMap.{spare};
 ghost use Rattle.std.specs.Map.{lookup};
+ghost use Rattle.bandwidth.specs.Named.{that_counts};
 
 use gk_terms::Name;
+use std::alloc::AllocError;
 use std::collections::HashMap;
+
+/// What is kept under a name of the open calls that count there.
+pub trait Tally {
+    ghost counts: { Self → Bool };
+
+    /// Whether any call counts in it.
+    fn counts(&self) -> bool
+        ensures { result ≡ counts self.now };
+}
 
 /// Gives the name this value. Takes no memory: a name that has no entry needs room for one.
 pub fn put<V: Drop>(map: &mut HashMap<Name, V>, name: Name, value: V)
@@ -16,4 +27,44 @@ pub fn put<V: Drop>(map: &mut HashMap<Name, V>, name: Name, value: V)
 {
     let put: Result<_, _> = map.insert(name, value);
     let _ = put.unwrap();
+}
+
+/// Makes room for so many names more. If it is not there, the entries go in which no call counts.
+/// If memory runs out there may be no room.
+pub fn reserve<V: Tally + Drop>(map: &mut HashMap<Name, V>, places: usize) -> Result<(), AllocError>
+    ensures entries { (name : _) → lookup (bytes_eq name) map.new.entries
+        ≡ (if nat_lt (spare map.old) places
+        then that_counts V.counts (lookup (bytes_eq name) map.old.entries)
+        else lookup (bytes_eq name) map.old.entries) }
+    ensures room { OnOk result (places ≤ spare map.new) }
+{
+    if map.capacity() - map.len() >= places {
+        return Ok(());
+    }
+    make_room(map, places)
+}
+
+/// The same for a map without the room. It grows only if the entries that stay take more than half
+/// of it. So half of it is free afterwards, and the work of going over the entries is spread over
+/// as many insertions.
+#[inline(never)]
+fn make_room<V: Tally + Drop>(map: &mut HashMap<Name, V>, places: usize) -> Result<(), AllocError>
+    ensures entries { (name : _) → lookup (bytes_eq name) map.new.entries
+        ≡ that_counts V.counts (lookup (bytes_eq name) map.old.entries) }
+    ensures room { OnOk result (places ≤ spare map.new) }
+{
+    let_go(map);
+    if map.reserve(map.len().max(places)).is_ok() {
+        return Ok(());
+    }
+    // There may be no memory for half of it, and yet enough for these.
+    map.reserve(places)
+}
+
+/// Lets the entries go in which no call counts.
+fn let_go<V: Tally + Drop>(map: &mut HashMap<Name, V>)
+    ensures { (name : _) → lookup (bytes_eq name) map.new.entries
+        ≡ that_counts V.counts (lookup (bytes_eq name) map.old.entries) }
+{
+    map.retain(|_, value| value.counts());
 }

@@ -1,15 +1,15 @@
 //! The running sums: the calls of each owner, the bandwidth in each zone, and that of all calls to
 //! remote zones.
 
-ghost use Rattle.std.specs.Prelude.{◌≡◌, ◌≤◌, [], true, None, nat_lt, OnOk};
+ghost use Rattle.std.specs.Prelude.{◌≡◌, ◌<◌, ◌≤◌, [], true, None, nat_lt, OnOk};
 ghost use Rattle.std.specs.HashMap.{spare};
 ghost use Rattle.bandwidth.specs.Use.{touches};
-ghost use Rattle.bandwidth.specs.Sums.{AreBare, CountsPass, MayPass, UsesPass, count_at, count_found, remote_after, use_at, use_found};
+ghost use Rattle.bandwidth.specs.Sums.{AllCounted, AllUsed, AreBare, CountsPass, MayPass, UsesPass, count_at, count_found, remote_after, use_at, use_found};
 
 use crate::open_call::OpenCall;
-use crate::owner_counts;
 use crate::step::Step;
 use crate::zone_uses::{self, ZoneUse};
+use crate::{named, owner_counts};
 use gk_terms::Name;
 use std::alloc::{AllocError, Global};
 use std::collections::HashMap;
@@ -58,20 +58,23 @@ impl Sums {
         zone_uses::use_at(&self.zones, zone)
     }
 
-    /// Makes room for a call more, whose owner and two zones may be new. Entries without calls may
-    /// go for it. If memory runs out there may be no room. No sum changes.
+    /// Makes room for a call more, whose owner and two zones may be new. If it is not there,
+    /// the entries without calls go. If memory runs out there may be no room. No sum changes.
     pub fn reserve(&mut self) -> Result<(), AllocError>
         requires { AreBare self.old.zones.entries }
         ensures owners { (id : _) → count_at self.new.owners.entries id
             ≡ count_at self.old.owners.entries id }
         ensures zones { (zone : _) → use_at self.new.zones.entries zone
             ≡ use_at self.old.zones.entries zone }
+        ensures owners_left { spare self.old.owners < 1 → AllCounted self.new.owners.entries }
+        ensures zones_left { OnOk result (spare self.old.zones < 2
+            → AllUsed self.new.zones.entries) }
         ensures remote { self.new.remote ≡ self.old.remote }
         ensures owners_room { OnOk result (1 ≤ spare self.new.owners) }
         ensures zones_room { OnOk result (2 ≤ spare self.new.zones) }
     {
-        owner_counts::reserve(&mut self.owners)?;
-        zone_uses::reserve(&mut self.zones)
+        named::reserve(&mut self.owners, 1)?;
+        named::reserve(&mut self.zones, 2)
     }
 
     /// Takes the step in each sum in which the call counts. Takes no memory: the maps need room for

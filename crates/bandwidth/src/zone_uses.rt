@@ -1,15 +1,14 @@
 //! What open calls use of each zone.
 
-ghost use Rattle.std.specs.Prelude.{◌≡◌, ◌<◌, ◌≤◌, ◌+◌, true, None, OnOk};
+ghost use Rattle.std.specs.Prelude.{◌≡◌, ◌≤◌, ◌+◌, true, None, nat_lt};
 ghost use Rattle.std.specs.HashMap.{spare};
 ghost use Rattle.bandwidth.specs.Use.{is_interzone, touches};
-ghost use Rattle.bandwidth.specs.Sums.{AllUsed, AreBare, MayUse, UsesPass, UsesPassAt, no_use, use_after, use_at, use_found};
+ghost use Rattle.bandwidth.specs.Sums.{MayUse, UsesPass, UsesPassAt, no_use, use_after, use_at, use_found};
 
-use crate::named;
+use crate::named::{self, Tally};
 use crate::open_call::OpenCall;
 use crate::step::Step;
 use gk_terms::Name;
-use std::alloc::AllocError;
 use std::collections::HashMap;
 
 /// What the open calls that touch a zone use of it.
@@ -53,6 +52,14 @@ impl ZoneUse {
     }
 }
 
+impl Tally for ZoneUse {
+    ghost counts = { λ used. nat_lt 0 used.calls };
+
+    fn counts(&self) -> bool {
+        self.calls > 0
+    }
+}
+
 /// What is used of the zone.
 pub fn use_at(zones: &HashMap<Name, ZoneUse>, zone: &Name) -> ZoneUse
     ensures { result ≡ use_at zones.now.entries zone.now }
@@ -61,47 +68,6 @@ pub fn use_at(zones: &HashMap<Name, ZoneUse>, zone: &Name) -> ZoneUse
         Some(used) => *used,
         None => ZoneUse::none(),
     }
-}
-
-/// Makes room for two zones more: if it is not there, zones that no call touches give up their
-/// entries. If memory runs out there may be no room. What is used of a zone does not change.
-pub fn reserve(zones: &mut HashMap<Name, ZoneUse>) -> Result<(), AllocError>
-    requires { AreBare zones.old.entries }
-    ensures same { (zone : _) → use_at zones.new.entries zone ≡ use_at zones.old.entries zone }
-    ensures left { spare zones.old < 2 → AllUsed zones.new.entries }
-    ensures room { OnOk result (2 ≤ spare zones.new) }
-{
-    if zones.capacity() - zones.len() >= 2 {
-        return Ok(());
-    }
-    make_room(zones)
-}
-
-/// The same for a map without the room. It grows only if zones that calls touch take more than half
-/// of it. So half of it is free afterwards, and the work of going over the entries is spread over
-/// as many insertions.
-#[inline(never)]
-fn make_room(zones: &mut HashMap<Name, ZoneUse>) -> Result<(), AllocError>
-    requires { AreBare zones.old.entries }
-    ensures same { (zone : _) → use_at zones.new.entries zone ≡ use_at zones.old.entries zone }
-    ensures left { AllUsed zones.new.entries }
-    ensures room { OnOk result (2 ≤ spare zones.new) }
-{
-    let_go(zones);
-    if zones.reserve(zones.len().max(2)).is_ok() {
-        return Ok(());
-    }
-    // There may be no memory for half of it, and yet room for two.
-    zones.reserve(2)
-}
-
-/// Lets the entries go of the zones that no call touches.
-fn let_go(zones: &mut HashMap<Name, ZoneUse>)
-    requires { AreBare zones.old.entries }
-    ensures same { (zone : _) → use_at zones.new.entries zone ≡ use_at zones.old.entries zone }
-    ensures left { AllUsed zones.new.entries }
-{
-    zones.retain(|_, used| used.calls > 0);
 }
 
 /// Takes the step for each zone that the call touches. Takes no memory: the map needs room for the
