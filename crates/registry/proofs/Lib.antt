@@ -3,6 +3,7 @@ pub mod FindLemmas
 pub mod LookUpLemmas
 pub mod IndexChanges
 pub mod SoundLemmas
+pub mod OwnerLemmas
 pub mod RegisteringLemmas
 pub mod ServedLemmas
 pub mod RollLemmas

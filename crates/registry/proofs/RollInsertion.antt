@@ -20,8 +20,7 @@ use Rattle.std.proofs.lemmas.Map.Entries.{none_below_head}
 use Rattle.std.proofs.lemmas.Map.Keys.{sorted_tail}
 use Rattle.indexmap.specs.IndexMap.{insert_entry}
 use Rattle.registry.specs.Endpoint.{EndpointParts}
-use Rattle.registry.specs.RegistryIndex.{Entries, kept_endpoint_of}
-use Rattle.registry.specs.Roll.{Numbered, Numbers, at_number, number_of_id, by_id, is_number, found_with_id, IsRoll, IsNumberFor, IsPut, IsSetAt}
+use Rattle.registry.specs.Roll.{Numbered, Numbers, at_number, number_of_id, by_id, is_number, found_with_id, IsRoll, IsNumberFor, IsPut, IsSetAt, Entries, kept_endpoint_of}
 use Rattle.registry.proofs.RollLemmas.{same_number, number_itself, each_entry, distinct_numbers, distinct_ids, own_endpoint}
 
 -- ---- a registration, as a list

@@ -16,8 +16,7 @@ use Rattle.std.proofs.lemmas.Map.Entries.{none_past_head}
 use Rattle.std.proofs.lemmas.Map.Keys.{IsDistinct-from_sorted, IsDistinct-tail}
 use Rattle.registry.specs.Endpoint.{EndpointParts}
 use Rattle.registry.specs.Registration.{has_id}
-use Rattle.registry.specs.RegistryIndex.{kept_endpoint_of}
-use Rattle.registry.specs.Roll.{Numbered, Numbers, at_number, number_of_id, by_id, is_number, found_with_id, IsRoll, IsNumberFor}
+use Rattle.registry.specs.Roll.{Numbered, Numbers, at_number, number_of_id, by_id, is_number, found_with_id, IsRoll, IsNumberFor, kept_endpoint_of}
 
 -- ---- numbers
 same : ℕ → ℕ → Bool
@@ -31,6 +30,18 @@ same_number a b h = let tied = unsigned_tied a b in grind (arith, nat_tests)
 
 pub number_itself : (a : ℕ) → is_at (nat_cmp a) a ≡ true
 number_itself a = (eq_by_cmp_equiv nat_cmp_total).refl a
+
+-- a number that is found is the only one
+pub only_number : (number : ℕ) (found : Option ℕ) → is_number number found ≡ true
+    → found ≡ Some number
+only_number number None h = absurd (both_ways false refl h)
+only_number number (Some other) h =
+    ap (λ x. Some x) (same_number other number (unsigned_tied other number ∙ h))
+
+pub number_found : (number : ℕ) (found : Option ℕ) → found ≡ Some number
+    → is_number number found ≡ true
+number_found number found h =
+    ap (is_number number) h ∙ sym (unsigned_tied number number) ∙ number_itself number
 
 pub distinct_numbers : (entries : Numbered) → IsStrictlySortedBy nat_cmp (keys_of entries)
     → HaveDistinctNumbers entries

@@ -13,8 +13,7 @@ use Rattle.std.proofs.lemmas.Cmp.{nat_list_eq_equiv}
 use Rattle.std.proofs.lemmas.Option.{none-some}
 use Rattle.std.proofs.lemmas.Map.{lookup-remove_entry}
 use Rattle.registry.specs.Endpoint.{EndpointParts}
-use Rattle.registry.specs.RegistryIndex.{Entries, kept_endpoint_of}
-use Rattle.registry.specs.Roll.{Numbered, Numbers, at_number, number_of_id, by_id, is_number, found_with_id, IsRoll, IsTakenOut, IsSetAt}
+use Rattle.registry.specs.Roll.{Numbered, Numbers, at_number, number_of_id, by_id, is_number, found_with_id, IsRoll, IsTakenOut, IsSetAt, Entries, kept_endpoint_of}
 use Rattle.registry.proofs.RollLemmas.{each_entry, distinct_numbers, distinct_ids, own_endpoint}
 
 removed : (n : ℕ) (id : List ℕ) (entries : Numbered)

@@ -1,18 +1,18 @@
--- What the maps say of every two endpoints: different IDs, and no alias of both.
-use Rattle.std.proofs.Common.{◌≡◌, ℕ, zero, suc, Bool, true, false, cond, List, [], ◌∷◌, slice_get, refl, sym, ap, ◌∙◌}
+-- What is known of every two endpoints: different IDs, and no alias of both.
+use Rattle.std.proofs.Common.{◌≡◌, ℕ, zero, suc, true, false, List, [], ◌∷◌, slice_get, refl, sym, ap, ◌∙◌}
 use Rattle.std.specs.Prelude.{Some, bytes_eq}
 use Rattle.std.specs.List.{AllByRecursion, IsDistinct}
 use Rattle.std.specs.Map.{keys_of, values_of}
 use Rattle.std.proofs.lemmas.Bool.{both_ways}
 use Rattle.std.proofs.lemmas.Cmp.{nat_list_eq_equiv}
 use Rattle.std.proofs.lemmas.Option.{none-some, same_Some}
-use Rattle.std.proofs.lemmas.Map.{lookup-none}
-use Rattle.std.proofs.lemmas.Map.Entries.{none_past_head}
 use Rattle.std.proofs.lemmas.Map.Keys.{IsDistinct-head, IsDistinct-tail}
-use Rattle.registry.specs.Endpoint.{EndpointParts}
+use Rattle.registry.specs.Endpoint.{EndpointParts, has_alias}
 use Rattle.registry.specs.Registration.{HaveDifferentIds, ShareNoAlias}
-use Rattle.registry.specs.RegistryIndex.{Entries, Owners, kept_endpoint_of, IsIndexed}
-use Rattle.registry.proofs.LookUpLemmas.{Keyed, same_id, leads}
+use Rattle.registry.specs.RegistryIndex.{Owners, number_of_alias, found_with, IsIndexed}
+use Rattle.registry.specs.Roll.{Entries, Numbered, at_number, by_id}
+use Rattle.registry.proofs.LookUpLemmas.{Keyed, Keyed-by_id, values-by_id, listed_entry}
+use Rattle.registry.proofs.RollLemmas.{StandsUnder, stands_under, distinct_numbers, only_number, number_found}
 
 -- an endpoint after the first has another ID
 other_id : (id : List ℕ) (entries : Entries) (f : EndpointParts) (j : ℕ) → Keyed entries
@@ -24,7 +24,7 @@ other_id id (e ∷ es) f zero h apart there =
 other_id id (e ∷ es) f (suc j) h apart there = other_id id es f j h.1 apart.1 there
 
 -- the place of an ID
-pub one_place : (entries : Entries) → Keyed entries → IsDistinct bytes_eq (keys_of entries)
+one_place : (entries : Entries) → Keyed entries → IsDistinct bytes_eq (keys_of entries)
     → HaveDifferentIds (values_of entries)
 one_place [] h d e f i j at_i at_j same = absurd (none-some e at_i)
 one_place (g ∷ gs) h d e f zero zero at_i at_j same = refl
@@ -41,37 +41,41 @@ one_place (g ∷ gs) h d e f (suc i) zero at_i at_j same =
 one_place (g ∷ gs) h d e f (suc i) (suc j) at_i at_j same =
     ap suc (one_place gs h.1 (IsDistinct-tail bytes_eq g.0 (keys_of gs) d) e f i j at_i at_j same)
 
--- what stands at a place is the entry of its own ID
-pub listed_entry : (entries : Entries) → Keyed entries → IsDistinct bytes_eq (keys_of entries)
-    → (f : EndpointParts) (i : ℕ) → slice_get (values_of entries) i ≡ Some f
-    → kept_endpoint_of entries f.id ≡ Some f
-listed_entry [] h d f i there = absurd (none-some f there)
-listed_entry (e ∷ es) h d f zero there =
-    let same = same_Some e.1 f there in
-    let here : bytes_eq f.id e.0 ≡ true = same_id f.id e h.0 ∙ ap (λ g. bytes_eq g.id f.id) same
-    ∙ nat_list_eq_equiv.refl f.id in
-    ap (λ b. cond b (Some e.1) (kept_endpoint_of es f.id)) here ∙ there
-listed_entry (e ∷ es) h d f (suc i) there =
-    later (bytes_eq f.id e.0) refl
-    (listed_entry es h.1 (IsDistinct-tail bytes_eq e.0 (keys_of es) d) f i there)
-  where
-    later : (b : Bool) → bytes_eq f.id e.0 ≡ b → kept_endpoint_of es f.id ≡ Some f
-        → cond b (Some e.1) (kept_endpoint_of es f.id) ≡ Some f
-    later true q rest =
-        absurd (none-some f
-        (sym (lookup-none (bytes_eq f.id) es (none_past_head nat_list_eq_equiv f.id e es d q))
-        ∙ rest))
-    later false q rest = rest
+module _ (entries : Numbered) (owners : Owners) (h : IsIndexed entries owners) where
+  pub different_ids : HaveDifferentIds (values_of entries)
+  different_ids e f i j at_i at_j same =
+      one_place (by_id entries) (Keyed-by_id entries) h.distinct e f i j
+      (ap (λ xs. slice_get xs i) (values-by_id entries) ∙ at_i)
+      (ap (λ xs. slice_get xs j) (values-by_id entries) ∙ at_j) same
 
-pub different_ids : (entries : Entries) (owners : Owners) → IsIndexed entries owners
-    → HaveDifferentIds (values_of entries)
-different_ids entries owners h = one_place entries h.keyed h.distinct
+  -- what stands at a place stands under a number
+  pub stands_at : (f : EndpointParts) (i : ℕ) → slice_get (values_of entries) i ≡ Some f
+      → StandsUnder entries f.id f
+  stands_at f i there =
+      stands_under entries (distinct_numbers entries h.sorted) f.id f
+      (listed_entry (by_id entries) (Keyed-by_id entries) h.distinct f i
+      (ap (λ xs. slice_get xs i) (values-by_id entries) ∙ there))
 
-pub no_shared_alias : (entries : Entries) (owners : Owners) → IsIndexed entries owners
-    → ShareNoAlias (values_of entries)
-no_shared_alias entries owners h alias e f i j at_i at_j has_e has_f =
-    one_place entries h.keyed h.distinct e f i j at_i at_j
-    (same_Some e.id f.id
-    (sym (leads entries owners h alias e.id e
-    (listed_entry entries h.keyed h.distinct e i at_i) has_e)
-    ∙ leads entries owners h alias f.id f (listed_entry entries h.keyed h.distinct f j at_j) has_f))
+  -- an alias of an endpoint leads to its number
+  pub leads : (alias : List ℕ) (number : ℕ) (f : EndpointParts)
+      → at_number entries number ≡ Some f → has_alias f alias ≡ true
+      → number_of_alias owners alias ≡ Some number
+  leads alias number f there has =
+      only_number number (number_of_alias owners alias)
+      (h.owned alias number ∙ ap (found_with alias) there ∙ has)
+
+  -- an alias that leads to a number is one of its endpoint
+  pub led : (alias : List ℕ) (number : ℕ) → number_of_alias owners alias ≡ Some number
+      → found_with alias (at_number entries number) ≡ true
+  led alias number there = sym (h.owned alias number) ∙ number_found number _ there
+
+  pub no_shared_alias : ShareNoAlias (values_of entries)
+  no_shared_alias alias e f i j at_i at_j has_e has_f =
+      let under_e = stands_at e i at_i in
+      let under_f = stands_at f j at_j in
+      let one : under_e.number ≡ under_f.number = same_Some under_e.number under_f.number
+      (sym (leads alias under_e.number e under_e.there has_e)
+      ∙ leads alias under_f.number f under_f.there has_f) in
+      let same : e ≡ f = same_Some e f
+      (sym under_e.there ∙ ap (at_number entries) one ∙ under_f.there) in
+      different_ids e f i j at_i at_j (ap (λ x. x.id) same)

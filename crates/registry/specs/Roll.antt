@@ -8,7 +8,10 @@ use Rattle.std.specs.Map.{lookup, keys_of, values_of, remove_entry}
 use Rattle.indexmap.specs.IndexMap.{insert_entry}
 use Rattle.registry.specs.Endpoint.{EndpointParts}
 use Rattle.registry.specs.Registration.{has_id}
-use Rattle.registry.specs.RegistryIndex.{Entries, kept_endpoint_of}
+
+-- the endpoints by ID, in order of registration
+abbrev pub Entries : Type 0
+Entries = List (List ℕ × EndpointParts)
 
 -- the endpoints by number
 abbrev pub Numbered : Type 0
@@ -30,6 +33,10 @@ endpoints_of r = values_of r.entries
 -- the endpoint of a number
 abbrev pub at_number : Numbered → ℕ → Option EndpointParts
 at_number entries number = lookup (is_at (nat_cmp number)) entries
+
+-- the endpoint of an ID
+abbrev pub kept_endpoint_of : Entries → List ℕ → Option EndpointParts
+kept_endpoint_of entries id = lookup (bytes_eq id) entries
 
 -- the number of an ID
 abbrev pub number_of_id : Numbers → List ℕ → Option ℕ
@@ -84,6 +91,15 @@ pub record IsTakenOut (old new : Entries) (id : List ℕ) : Type 0 where
 abbrev pub IsSetAt : Numbered → Numbered → ℕ → Option EndpointParts → Type 0
 IsSetAt old new number e =
     (other : ℕ) → at_number new other ≡ cond (is_at (nat_cmp number) other) e (at_number old other)
+
+-- the number for an ID had what was before, and in new it has what is after; each other number has
+-- what it had, and the numbers still ascend
+pub record IsChangedAt (old : RollParts) (new : Numbered) (id : List ℕ) (number : ℕ)
+    (before after : Option EndpointParts) : Type 0 where
+  pub own : IsNumberFor old id number
+  pub had : before ≡ at_number old.entries number
+  pub set : IsSetAt old.entries new number after
+  pub sorted : IsStrictlySortedBy nat_cmp (keys_of new)
 
 -- no endpoint has a number from this one on
 abbrev pub NoneFrom : Numbered → ℕ → Type 0

@@ -1,14 +1,13 @@
 //! Endpoints in order of registration, and which gateways serve a zone with a technology prefix.
 
-ghost use Rattle.std.specs.Prelude.{◌≡◌, ◌<◌, ◌≤◌, ◌+◌, ◌^◌, [], Some, None, length, OnOk, OnErr, IfOk, MatchOption, bytes_eq, is_some};
+ghost use Rattle.std.specs.Prelude.{◌≡◌, ℕ, ◌<◌, ◌≤◌, ◌+◌, ◌^◌, [], Some, None, length, OnOk, OnErr, IfOk, MatchOption, bytes_eq, is_some};
 ghost use Rattle.std.specs.Option.{option_copied};
 ghost use Rattle.std.specs.Ordering.{nat_cmp};
 ghost use Rattle.std.specs.List.{IsDistinct};
 ghost use Rattle.std.specs.List.Sorted.{IsStrictlySortedBy};
 ghost use Rattle.std.specs.Map.{keys_of, values_of};
-ghost use Rattle.registry.specs.RegistryIndex.{kept_endpoint_of};
 ghost use Rattle.registry.specs.Listing.{IsNextServing, NoneServes};
-ghost use Rattle.registry.specs.Roll.{IsNextFrom, IsNumberFor, IsPut, IsSetAt, IsTakenOut, NoneFrom, at_number, by_id};
+ghost use Rattle.registry.specs.Roll.{IsChangedAt, IsNextFrom, IsNumberFor, IsPut, IsSetAt, IsTakenOut, NoneFrom, at_number, by_id, kept_endpoint_of};
 
 use crate::endpoint_number::EndpointNumber;
 use crate::endpoints::Endpoint;
@@ -134,6 +133,8 @@ impl Listing {
         ensures numbered { IfOk result (λ put. at_number self.new.entries put.0 ≡ Some endpoint) }
         ensures replaced { IfOk result (λ put.
             put.1 ≡ kept_endpoint_of (by_id self.old.entries) endpoint.id) }
+        ensures changed { IfOk result (λ put.
+            IsChangedAt self.old self.new.entries endpoint.id put.0 put.1 (Some endpoint)) }
         ensures next { self.new.next ≤ self.old.next + 1 }
         ensures err { OnErr result (self.new ≡ self.old) }
     {
@@ -161,6 +162,8 @@ impl Listing {
         ensures entries { IsTakenOut (by_id self.old.entries) (by_id self.new.entries) id.now }
         ensures numbered { (number : _) → IsNumberFor self.old id.now number
             → IsSetAt self.old.entries self.new.entries number None }
+        ensures changed { (number : ℕ)
+            × IsChangedAt self.old self.new.entries id.now number result None }
         ensures next { self.new.next ≡ self.old.next }
     {
         let number = self.roll.number_for(id);

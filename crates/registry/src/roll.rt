@@ -6,8 +6,7 @@ ghost use Rattle.std.specs.Ordering.{nat_cmp};
 ghost use Rattle.std.specs.List.{IsDistinct};
 ghost use Rattle.std.specs.List.Sorted.{IsStrictlySortedBy};
 ghost use Rattle.std.specs.Map.{keys_of, values_of};
-ghost use Rattle.registry.specs.RegistryIndex.{kept_endpoint_of};
-ghost use Rattle.registry.specs.Roll.{IsNextFrom, IsNumberFor, IsPut, IsTakenOut, IsSetAt, NoneFrom, at_number, by_id};
+ghost use Rattle.registry.specs.Roll.{IsNextFrom, IsNumberFor, IsPut, IsTakenOut, IsSetAt, NoneFrom, at_number, by_id, kept_endpoint_of};
 
 use crate::endpoint_number::EndpointNumber;
 use crate::endpoints::Endpoint;
@@ -149,6 +148,7 @@ impl Roll {
         ensures placed { OnOk result
             (IsSetAt self.old.entries self.new.entries number (Some endpoint)) }
         ensures replaced { IfOk result (λ replaced. replaced ≡ at_number self.old.entries number) }
+        ensures sorted { OnOk result (IsStrictlySortedBy nat_cmp (keys_of self.new.entries)) }
         ensures next { self.new.next ≤ self.old.next + 1 }
         ensures err { OnErr result (self.new ≡ self.old) }
         ensures back { IfErr result (λ back. back ≡ endpoint) }
@@ -177,6 +177,7 @@ impl Roll {
         ensures entries { IsTakenOut (by_id self.old.entries) (by_id self.new.entries) id.now }
         ensures numbered { (number : _) → IsNumberFor self.old id.now number
             → IsSetAt self.old.entries self.new.entries number None }
+        ensures sorted { IsStrictlySortedBy nat_cmp (keys_of self.new.entries) }
         ensures next { self.new.next ≡ self.old.next }
     {
         let number = self.numbers.remove(id)?;

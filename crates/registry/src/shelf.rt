@@ -9,7 +9,7 @@ ghost use Rattle.std.specs.Map.{keys_of};
 ghost use Rattle.std.specs.HashMap.{spare};
 ghost use Rattle.compiler.specs.Priority.{named_priority};
 ghost use Rattle.registry.specs.Registration.{HaveDifferentIds, ShareNoAlias, endpoint_of, by_alias, is_registered, id_is_taken, alias_is_taken, with_endpoint, without_endpoint};
-ghost use Rattle.registry.specs.RegistryIndex.{Forgets, LeadTo, aliases_of, is_another, owner_of};
+ghost use Rattle.registry.specs.RegistryIndex.{Forgets, LeadTo, aliases_of, is_anothers, owner_of};
 ghost use Rattle.registry.specs.Gateway.{gateway_by};
 ghost use Rattle.registry.specs.Roll.{IsNextFrom, IsNumberFor, IsSetAt, NoneFrom, endpoints_of};
 
@@ -23,23 +23,23 @@ use std::alloc::{AllocError, Global};
 use std::collections::HashMap;
 use std::marker::Model;
 
-/// Endpoints in order of registration, and the ID to which each E.164 alias leads. A contract sees
-/// the endpoints by number, and the next number.
+/// Endpoints in order of registration, and the number to which each E.164 alias leads. A contract
+/// sees the endpoints by number, and the next number.
 #[derive(Drop)]
 pub struct Shelf {
     listing: Listing,
-    owners: HashMap<Dialled, Name>,
+    owners: HashMap<Dialled, u32>,
 }
 
 impl Model for Shelf {
     ghost use Rattle.registry.specs.RegistryIndex.{IsIndexed};
-    ghost use Rattle.registry.specs.Roll.{RollParts, by_id};
+    ghost use Rattle.registry.specs.Roll.{RollParts};
 
     ghost Value = { RollParts };
 
     ghost view = { λ s. s.listing };
 
-    ghost invariant = { λ s. IsIndexed (by_id s.listing.entries) s.owners.entries };
+    ghost invariant = { λ s. IsIndexed s.listing.entries s.owners.entries };
 }
 
 impl Shelf {
@@ -99,11 +99,12 @@ impl Shelf {
         self.listing.next_from(from)
     }
 
+    #[tactic(auto, using(crate::proofs::OwnerLemmas::owner_in_zone))]
     /// The endpoint of that zone with that E.164 alias.
     pub fn by_alias(&self, zone: &Name, number: &Dialled) -> Option<&Endpoint>
         ensures { option_copied result ≡ by_alias (endpoints_of self.now) zone.now number.now }
     {
-        let endpoint = self.listing.get(self.owners.get(number)?)?;
+        let endpoint = self.owner(number)?;
         if *endpoint.zone() == *zone {
             Some(endpoint)
         } else {
@@ -137,11 +138,12 @@ impl Shelf {
         }
     }
 
+    #[tactic(auto, using(crate::proofs::OwnerLemmas::aliases_taken))]
     /// Whether one of the endpoint's aliases is another endpoint's, in whatever zone.
     pub fn alias_is_taken(&self, endpoint: &Endpoint) -> bool
         ensures { result ≡ alias_is_taken (endpoints_of self.now) endpoint.now }
     {
-        is_any_anothers(&self.owners, endpoint.aliases(), endpoint.id())
+        self.is_any_anothers(endpoint.aliases(), endpoint.id())
     }
 
     /// Puts the endpoint in the place of the one with its ID, or else at the end. None of its
@@ -186,10 +188,9 @@ impl Shelf {
         ensures next { self.new.next ≤ self.old.next + 1 }
     {
         self.owners.reserve(endpoint.aliases().len())?;
-        let id = *endpoint.id();
         let (number, replaced) = self.listing.insert(endpoint)?;
         forget_aliases_of(&mut self.owners, endpoint_in(replaced.as_ref()));
-        lead_aliases_of(&mut self.owners, self.listing.at_number(number), &id);
+        lead_aliases_of(&mut self.owners, self.listing.at_number(number), number);
         Ok(())
     }
 
@@ -218,28 +219,36 @@ impl Shelf {
         }
         Ok(copy)
     }
-}
 
-/// Whether the alias leads to an ID other than this one.
-fn is_anothers(owners: &HashMap<Dialled, Name>, alias: &Dialled, id: &Name) -> bool
-    ensures { result ≡ is_another id.now (owner_of owners.now.entries alias.now) }
-{
-    match owners.get(alias) {
-        Some(owner) => *owner != *id,
-        None => false,
+    /// The endpoint with this E.164 alias, in whatever zone.
+    fn owner(&self, alias: &Dialled) -> Option<&Endpoint>
+        ensures found { option_copied result ≡ owner_of (endpoints_of self.now) alias.now }
+        ensures unshared { ShareNoAlias (endpoints_of self.now) }
+    {
+        self.listing.at_number(*self.owners.get(alias)?)
+    }
+
+    #[tactic(auto, using(crate::proofs::OwnerLemmas::anothers))]
+    /// Whether the alias is that of an endpoint with another ID.
+    fn is_anothers(&self, alias: &Dialled, id: &Name) -> bool
+        ensures { result ≡ is_anothers (endpoints_of self.now) id.now alias.now }
+    {
+        match self.owner(alias) {
+            Some(owner) => *owner.id() != *id,
+            None => false,
+        }
+    }
+
+    /// Whether one of the aliases is that of an endpoint with another ID.
+    fn is_any_anothers(&self, aliases: &[Dialled], id: &Name) -> bool
+        ensures { result ≡ list_any (is_anothers (endpoints_of self.now) id.now) aliases.now }
+    {
+        aliases.iter().any(|alias| self.is_anothers(alias, id))
     }
 }
 
-/// Whether one of the aliases leads to an ID other than this one.
-fn is_any_anothers(owners: &HashMap<Dialled, Name>, aliases: &[Dialled], id: &Name) -> bool
-    ensures { result
-        ≡ list_any (λ alias. is_another id.now (owner_of owners.now.entries alias)) aliases.now }
-{
-    aliases.iter().any(|alias| is_anothers(owners, alias, id))
-}
-
 /// Takes the aliases of the endpoint, if there is one, out of the map.
-fn forget_aliases_of(owners: &mut HashMap<Dialled, Name>, endpoint: Option<&Endpoint>)
+fn forget_aliases_of(owners: &mut HashMap<Dialled, u32>, endpoint: Option<&Endpoint>)
     ensures forgets { Forgets owners.old.entries owners.new.entries
         (aliases_of (option_copied endpoint.entry)) }
     ensures room { spare owners.old ≤ spare owners.new }
@@ -249,19 +258,20 @@ fn forget_aliases_of(owners: &mut HashMap<Dialled, Name>, endpoint: Option<&Endp
     }
 }
 
-/// Makes the aliases of the endpoint, if there is one, lead to this ID. The map has room for them.
-fn lead_aliases_of(owners: &mut HashMap<Dialled, Name>, endpoint: Option<&Endpoint>, id: &Name)
+/// Makes the aliases of the endpoint, if there is one, lead to this number. The map has room for
+/// them.
+fn lead_aliases_of(owners: &mut HashMap<Dialled, u32>, endpoint: Option<&Endpoint>, number: u32)
     requires room { length (aliases_of (option_copied endpoint)) ≤ spare owners.old }
     ensures { LeadTo owners.old.entries owners.new.entries
-        (aliases_of (option_copied endpoint.entry)) id.now }
+        (aliases_of (option_copied endpoint.entry)) number }
 {
     if let Some(endpoint) = endpoint {
-        lead(owners, endpoint.aliases(), id);
+        lead(owners, endpoint.aliases(), number);
     }
 }
 
 /// Takes these aliases out of the map.
-fn forget(owners: &mut HashMap<Dialled, Name>, aliases: &[Dialled])
+fn forget(owners: &mut HashMap<Dialled, u32>, aliases: &[Dialled])
     ensures forgets { Forgets owners.old.entries owners.new.entries aliases.now }
     ensures room { spare owners.old ≤ spare owners.new }
 {
@@ -270,13 +280,13 @@ fn forget(owners: &mut HashMap<Dialled, Name>, aliases: &[Dialled])
     }
 }
 
-/// Makes these aliases lead to this ID. The map has room for them.
-fn lead(owners: &mut HashMap<Dialled, Name>, aliases: &[Dialled], id: &Name)
+/// Makes these aliases lead to this number. The map has room for them.
+fn lead(owners: &mut HashMap<Dialled, u32>, aliases: &[Dialled], number: u32)
     requires room { length aliases.now ≤ spare owners.old }
-    ensures { LeadTo owners.old.entries owners.new.entries aliases.now id.now }
+    ensures { LeadTo owners.old.entries owners.new.entries aliases.now number }
 {
     for alias in aliases {
-        let inserted: Result<_, _> = owners.insert(*alias, *id);
+        let inserted: Result<_, _> = owners.insert(*alias, number);
         let _ = inserted.unwrap();
     }
 }

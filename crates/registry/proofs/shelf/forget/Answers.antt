@@ -1,6 +1,6 @@
 use Rattle.std.proofs.Common.{None, cond, ap, ◌∙◌, arith}
 use Rattle.std.specs.Prelude.{bytes_eq}
-use Rattle.registry.specs.RegistryIndex.{owner_of}
+use Rattle.registry.specs.RegistryIndex.{number_of_alias}
 use Rattle.registry.proofs.IndexChanges.{listed_more}
 use Rattle.registry.proofs.shelf.forget.Goals as goal
 
@@ -12,6 +12,6 @@ loop-alias-preserved c =
           c.remove.ensures.updates.0 alias
           ∙ ap (cond (bytes_eq next alias) None) (c.loop-alias.invariant.forgets alias)
           ∙ listed_more c.args.aliases.now c.loop-alias.alias-index next alias None
-          (owner_of c.args.owners.now.entries alias) c.loop-alias-test.true c.alias-item.is;
+          (number_of_alias c.args.owners.now.entries alias) c.loop-alias-test.true c.alias-item.is;
       room = omega (arith, c.loop-alias.invariant.room, c.remove.ensures.spare);
     }

@@ -1,7 +1,7 @@
 use Rattle.std.proofs.Common.{Some, cond, ap, ◌∙◌, arith}
 use Rattle.std.specs.Prelude.{bytes_eq}
 use Rattle.std.proofs.lemmas.Result.{MatchResult-at_ok}
-use Rattle.registry.specs.RegistryIndex.{owner_of}
+use Rattle.registry.specs.RegistryIndex.{number_of_alias}
 use Rattle.registry.proofs.IndexChanges.{listed_more}
 use Rattle.registry.proofs.shelf.lead.Goals as goal
 
@@ -12,9 +12,9 @@ loop-alias-preserved c =
     record {
       leads_to = λ alias.
           updates.0 alias
-          ∙ ap (cond (bytes_eq next alias) (Some c.args.id.now))
+          ∙ ap (cond (bytes_eq next alias) (Some c.args.number))
           (c.loop-alias.invariant.leads_to alias)
-          ∙ listed_more c.args.aliases.now c.loop-alias.alias-index next alias (Some c.args.id.now)
-          (owner_of c.args.owners.now.entries alias) c.loop-alias-test.true c.alias-item.is;
+          ∙ listed_more c.args.aliases.now c.loop-alias.alias-index next alias (Some c.args.number)
+          (number_of_alias c.args.owners.now.entries alias) c.loop-alias-test.true c.alias-item.is;
       room = omega (arith, c.loop-alias.invariant.room, c.insert-inserted.ensures.spare);
     }

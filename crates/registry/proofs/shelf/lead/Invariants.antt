@@ -5,6 +5,6 @@ use Rattle.registry.proofs.shelf.lead.Given as goal
 
 abbrev pub invariant-loop-alias : goal.invariant-loop-alias
 invariant-loop-alias l = record {
-  leads_to : LeadTo l.fn.owners.entries l.owners.entries (take l.alias-index l.aliases) l.id;
+  leads_to : LeadTo l.fn.owners.entries l.owners.entries (take l.alias-index l.aliases) l.number;
   room : length l.aliases ≤ spare l.owners + l.alias-index;
 }

@@ -1,7 +1,7 @@
 use Rattle.std.proofs.Common.{Some, sym, ap, subst, ◌∙◌}
 use Rattle.registry.specs.Listing.{AreServed}
 use Rattle.registry.specs.Served.{Leaves}
-use Rattle.registry.specs.Roll.{at_number}
+use Rattle.registry.specs.Roll.{at_number, IsChangedAt, IsNumberFor}
 use Rattle.registry.proofs.ListingLemmas.{settled, set_here, taken_back, may_enter, unless_err, when_err}
 use Rattle.registry.proofs.listing.Listing.insert.Goals as goal
 
@@ -35,6 +35,19 @@ pub returns-in-Ok-clause-numbered : goal.returns-in-Ok-clause-numbered
 returns-in-Ok-clause-numbered c =
     set_here c.self.inside.roll.entries c.insert.new.self.entries c.number_for-number.result
     (Some c.args.endpoint) c.in-Ok.ensures.placed
+
+pub returns-in-Ok-clause-changed : goal.returns-in-Ok-clause-changed
+returns-in-Ok-clause-changed c =
+    let number = c.number_for-number.result in
+    subst (λ r. IsChangedAt r c.insert.new.self.entries c.args.endpoint.id number
+    c.in-Ok.replaced (Some c.args.endpoint)) c.self.view_is
+    (record {
+      own = subst (λ id. IsNumberFor c.self.inside.roll id number) c.id.ensures
+          c.number_for-number.ensures.number;
+      had = c.in-Ok.ensures.replaced;
+      set = c.in-Ok.ensures.placed;
+      sorted = c.in-Ok.ensures.sorted;
+    })
 
 pub invariant_of-self-in-Err : goal.invariant_of-self-in-Err
 invariant_of-self-in-Err c =

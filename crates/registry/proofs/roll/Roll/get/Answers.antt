@@ -1,7 +1,6 @@
 use Rattle.std.proofs.Common.{sym, ap, ◌∙◌}
 use Rattle.std.specs.Option.{option_copied}
-use Rattle.registry.specs.RegistryIndex.{kept_endpoint_of}
-use Rattle.registry.specs.Roll.{by_id}
+use Rattle.registry.specs.Roll.{by_id, kept_endpoint_of}
 use Rattle.registry.proofs.RollLemmas.{kept_under, kept_nowhere}
 use Rattle.registry.proofs.roll.Roll.get.Goals as goal
 

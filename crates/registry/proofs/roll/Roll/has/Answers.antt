@@ -1,7 +1,6 @@
 use Rattle.std.proofs.Common.{ap, ◌∙◌}
 use Rattle.std.specs.Prelude.{is_some}
-use Rattle.registry.specs.RegistryIndex.{kept_endpoint_of}
-use Rattle.registry.specs.Roll.{RollParts, by_id}
+use Rattle.registry.specs.Roll.{RollParts, by_id, kept_endpoint_of}
 use Rattle.registry.proofs.RollLemmas.{known_is_kept}
 use Rattle.registry.proofs.roll.Roll.has.Goals as goal
 

@@ -1,7 +1,6 @@
 use Rattle.std.proofs.Common.{◌≡◌, None, sym, subst, ◌∙◌}
 use Rattle.std.specs.Prelude.{MatchOption}
-use Rattle.registry.specs.RegistryIndex.{kept_endpoint_of}
-use Rattle.registry.specs.Roll.{IsNumberFor, at_number, by_id}
+use Rattle.registry.specs.Roll.{IsNumberFor, at_number, by_id, kept_endpoint_of}
 use Rattle.registry.proofs.RollLemmas.{known_or_not}
 use Rattle.registry.proofs.roll.Roll.number.Goals as goal
 

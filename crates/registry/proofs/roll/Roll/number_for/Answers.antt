@@ -1,6 +1,5 @@
 use Rattle.std.proofs.Common.{◌≡◌, ap, sym, subst, ◌∙◌, arith}
-use Rattle.registry.specs.RegistryIndex.{kept_endpoint_of}
-use Rattle.registry.specs.Roll.{at_number, by_id}
+use Rattle.registry.specs.Roll.{at_number, by_id, kept_endpoint_of}
 use Rattle.registry.proofs.RollLemmas.{number_within, kept_under, kept_nowhere}
 use Rattle.registry.proofs.RollLemmas.{next_is_free}
 use Rattle.registry.proofs.roll.Roll.number_for.Goals as goal

@@ -1,6 +1,5 @@
 use Rattle.std.proofs.Common.{sym, ap, subst, ◌∙◌}
-use Rattle.registry.specs.RegistryIndex.{kept_endpoint_of}
-use Rattle.registry.specs.Roll.{IsTakenOut, by_id}
+use Rattle.registry.specs.Roll.{IsTakenOut, by_id, kept_endpoint_of}
 use Rattle.registry.proofs.RollLemmas.{kept_nowhere, kept_under}
 use Rattle.registry.proofs.RollRemoval.{none_taken_out, roll_after_removal, removed_by_id}
 use Rattle.registry.proofs.roll.Roll.remove.Goals as goal

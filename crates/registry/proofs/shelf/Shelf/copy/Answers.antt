@@ -1,15 +1,14 @@
 use Rattle.std.proofs.Common.{◌∷◌, sym, ap, subst, ◌∙◌}
 use Rattle.registry.specs.Registration.{HaveDifferentIds, ShareNoAlias}
-use Rattle.registry.specs.Roll.{by_id, endpoints_of}
+use Rattle.registry.specs.Roll.{endpoints_of}
 use Rattle.registry.proofs.SoundLemmas.{different_ids, no_shared_alias}
-use Rattle.registry.proofs.ShelfLemmas.{seen}
 use Rattle.registry.proofs.CopyLemmas.{copy_free, copy_room, copy_more}
 use Rattle.registry.proofs.shelf.Shelf.copy.Goals as goal
 
 pub put_numbered-requires-clause-free : goal.put_numbered-requires-clause-free
 put_numbered-requires-clause-free c =
-    let of_all = seen c.self.inside.listing c.args.self.now c.self.view_is in
-    let entries = by_id c.self.inside.listing.entries in
+    let of_all = ap endpoints_of c.self.view_is in
+    let entries = c.self.inside.listing.entries in
     let owners = c.self.inside.owners.entries in
     copy_free (endpoints_of c.args.self.now) (endpoints_of c.loop-held.copy)
     c.loop-held.held-iterator c.next.new.self c.in_ok-copy.field-0
@@ -21,8 +20,8 @@ put_numbered-requires-clause-free c =
 
 pub put_numbered-requires-clause-room : goal.put_numbered-requires-clause-room
 put_numbered-requires-clause-room c =
-    let of_all = seen c.self.inside.listing c.args.self.now c.self.view_is in
-    let entries = by_id c.self.inside.listing.entries in
+    let of_all = ap endpoints_of c.self.view_is in
+    let entries = c.self.inside.listing.entries in
     let owners = c.self.inside.owners.entries in
     copy_room (endpoints_of c.args.self.now) (endpoints_of c.loop-held.copy)
     c.loop-held.held-iterator c.next.new.self c.in_ok-copy.field-0
@@ -35,8 +34,8 @@ put_numbered-requires-clause-room c =
 
 pub loop-held-preserved : goal.loop-held-preserved
 loop-held-preserved c =
-    let of_all = seen c.self.inside.listing c.args.self.now c.self.view_is in
-    let entries = by_id c.self.inside.listing.entries in
+    let of_all = ap endpoints_of c.self.view_is in
+    let entries = c.self.inside.listing.entries in
     let owners = c.self.inside.owners.entries in
     copy_more (endpoints_of c.args.self.now) (endpoints_of c.loop-held.copy)
     c.loop-held.held-iterator c.next.new.self c.in_ok-copy.field-0

@@ -1,6 +1,6 @@
 use Rattle.std.proofs.Common.{ap, ◌∙◌}
 use Rattle.registry.specs.Registration.{endpoint_of}
-use Rattle.registry.proofs.LookUpLemmas.{entry_found}
+use Rattle.registry.proofs.LookUpLemmas.{Keyed-by_id, entry_found}
 use Rattle.registry.specs.Roll.{by_id}
 use Rattle.registry.proofs.ShelfLemmas.{seen}
 use Rattle.registry.proofs.shelf.Shelf.endpoint.Goals as goal
@@ -8,7 +8,8 @@ use Rattle.registry.proofs.shelf.Shelf.endpoint.Goals as goal
 pub returns : goal.returns
 returns c =
     let id = c.args.id.now in
+    let entries = c.self.inside.listing.entries in
     c.get.ensures
-    ∙ entry_found id (by_id c.self.inside.listing.entries) c.self.invariant.keyed
+    ∙ entry_found id (by_id entries) (Keyed-by_id entries)
     ∙ ap (λ endpoints. endpoint_of endpoints id)
     (seen c.self.inside.listing c.args.self.now c.self.view_is)

@@ -1,9 +1,8 @@
 use Rattle.std.proofs.Common.{◌≡◌, not, Some, None, sym, ap, ◌∙◌}
 use Rattle.std.specs.Option.{option_copied}
 use Rattle.registry.specs.Registration.{id_is_taken, same_address}
-use Rattle.registry.specs.RegistryIndex.{kept_endpoint_of}
-use Rattle.registry.proofs.LookUpLemmas.{found_and, entry_taken}
-use Rattle.registry.specs.Roll.{by_id}
+use Rattle.registry.proofs.LookUpLemmas.{Keyed-by_id, found_and, entry_taken}
+use Rattle.registry.specs.Roll.{by_id, kept_endpoint_of}
 use Rattle.registry.proofs.ShelfLemmas.{seen}
 use Rattle.registry.proofs.shelf.Shelf.id_is_taken.Goals as goal
 
@@ -19,7 +18,8 @@ returns-in-Some c =
     ∙ ap (λ address. not (same_address address c.address-in-Some.result)) c.address.ensures
     ∙ ap (λ address. not (same_address found.address address)) c.address-in-Some.ensures
     ∙ sym (ap (found_and (λ f. not (same_address f.address e.address))) entry)
-    ∙ sym (entry_taken entries c.self.inside.owners.entries c.self.invariant e)
+    ∙ sym (entry_taken entries (Keyed-by_id c.self.inside.listing.entries)
+    c.self.invariant.distinct e)
     ∙ ap (λ endpoints. id_is_taken endpoints e)
     (seen c.self.inside.listing c.args.self.now c.self.view_is)
 
@@ -31,6 +31,7 @@ returns-in-None c =
     ap (kept_endpoint_of entries) (sym c.id.ensures) ∙ sym c.get.ensures
     ∙ ap option_copied c.in-None.is in
     sym (ap (found_and (λ f. not (same_address f.address e.address))) entry)
-    ∙ sym (entry_taken entries c.self.inside.owners.entries c.self.invariant e)
+    ∙ sym (entry_taken entries (Keyed-by_id c.self.inside.listing.entries)
+    c.self.invariant.distinct e)
     ∙ ap (λ endpoints. id_is_taken endpoints e)
     (seen c.self.inside.listing c.args.self.now c.self.view_is)

@@ -2,19 +2,21 @@ use Rattle.std.proofs.Common.{ap, subst, ◌∙◌}
 use Rattle.registry.specs.Registration.{without_endpoint, endpoint_of}
 use Rattle.registry.specs.RegistryIndex.{Forgets, aliases_of}
 use Rattle.registry.specs.Roll.{by_id, endpoints_of}
-use Rattle.registry.proofs.LookUpLemmas.{entry_found}
-use Rattle.registry.proofs.ShelfLemmas.{endpoints_left, index_left, seen}
+use Rattle.registry.proofs.IndexChanges.{indexed-remove}
+use Rattle.registry.proofs.LookUpLemmas.{Keyed-by_id, entry_found}
+use Rattle.registry.proofs.ShelfLemmas.{endpoints_left, seen}
 use Rattle.registry.proofs.shelf.Shelf.remove.Goals as goal
 
 pub invariant_of-self : goal.invariant_of-self
 invariant_of-self c =
     let owners = c.self.inside.owners.entries in
     let rest = c.forget_aliases_of.new.owners.entries in
-    index_left c.self.inside.listing.entries c.remove-removed.new.self.entries c.args.id.now
-    c.remove-removed.ensures.entries owners rest c.self.invariant
+    let changed = c.remove-removed.ensures.changed in
+    indexed-remove c.self.inside.listing c.remove-removed.new.self.entries owners rest
+    c.args.id.now changed.0 c.remove-removed.result c.self.invariant changed.1
     (subst (λ found. Forgets owners rest (aliases_of found))
-    (c.endpoint_in.ensures ∙ c.as_ref.ensures.value ∙ c.remove-removed.ensures.removed)
-    c.forget_aliases_of.ensures.forgets)
+    (c.endpoint_in.ensures ∙ c.as_ref.ensures.value) c.forget_aliases_of.ensures.forgets)
+    c.remove-removed.ensures.entries.unique
 
 pub returns-clause-without : goal.returns-clause-without
 returns-clause-without c =
@@ -26,6 +28,7 @@ pub returns-clause-removed : goal.returns-clause-removed
 returns-clause-removed c =
     let id = c.args.id.now in
     c.remove-removed.ensures.removed
-    ∙ entry_found id (by_id c.self.inside.listing.entries) c.self.invariant.keyed
+    ∙ entry_found id (by_id c.self.inside.listing.entries)
+    (Keyed-by_id c.self.inside.listing.entries)
     ∙ ap (λ endpoints. endpoint_of endpoints id)
     (seen c.self.inside.listing c.args.self.now c.self.view_is)
