@@ -20,6 +20,7 @@ pub record ReloadsParts : Type 0 where
 
 -- the commands that were in force
 abbrev pub commands_past : PastConfiguration → List Command
+commands_past (past.Shared lines) = arc_value lines
 commands_past (past.Lines lines) = lines
 commands_past (past.Commands commands) = commands.commands
 commands_past (past.Tables tables) = (arc_value tables).commands

@@ -3,7 +3,9 @@
 
 mod entries;
 mod held;
+mod known_lines;
 mod packing;
+mod place_bytes;
 mod record;
 mod recording;
 mod registration_entries;

@@ -7,6 +7,7 @@ ghost use Rattle.decision_record.specs.History.{plain_entry, commands_reloaded};
 ghost use Rattle.decision_record.specs.Reloads.{commands_past, commands_last, plain_past, plain_last};
 
 use crate::entries::{Entry, EntryEvent, ReloadedCommands};
+use crate::known_lines::KnownLines;
 use command_reader::{CommandLines, Commands};
 use compiler::Tables;
 use gk_terms::Name;
@@ -17,11 +18,13 @@ use std::marker::Model;
 use std::mem;
 use std::sync::Arc;
 
-/// A configuration that was in force: the lines that said its commands; the commands, if their
-/// lines were not kept, because memory ran out as they were read; or its tables, if somebody else
-/// still had them as another one was put in force.
+/// A configuration that was in force: the lines that said its commands, in a block that other
+/// reloads of the same lines have too, or alone, if memory ran out for the block; the commands, if
+/// their lines were not kept, because memory ran out as they were read; or its tables, if somebody
+/// else still had them as another one was put in force.
 #[derive(Drop)]
 pub enum PastConfiguration {
+    Shared(Arc<CommandLines>),
     Lines(CommandLines),
     Commands(Commands),
     Tables(Arc<Tables>),
@@ -50,11 +53,13 @@ pub struct LastReload {
 ///
 /// `last` is the last one, and `past` are those before it. As one more follows, the tables of the
 /// last one are let go and the lines of its commands stay, so that the record of a long run holds
-/// no tables but those in force and the opening ones.
+/// no tables but those in force and the opening ones. `known` finds lines that were in force
+/// before, so that they are kept once.
 #[derive(Drop)]
 pub struct Reloads {
     past: Pieces<PastReload>,
     last: Option<LastReload>,
+    known: KnownLines,
 }
 
 impl Model for Reloads {
@@ -72,22 +77,32 @@ impl Model for Reloads {
 
 impl PastConfiguration {
     /// That of these tables.
-    fn of(tables: Arc<Tables>) -> PastConfiguration
+    fn of(tables: Arc<Tables>, known: &mut KnownLines) -> PastConfiguration
         ensures { commands_past result ≡ (arc_value tables).commands }
     {
         match Arc::try_unwrap(tables) {
-            Ok(tables) => PastConfiguration::of_commands(tables.into_commands()),
+            Ok(tables) => PastConfiguration::of_commands(tables.into_commands(), known),
             Err(tables) => PastConfiguration::Tables(tables),
         }
     }
 
     /// That of these commands: their lines, if they were kept.
-    fn of_commands(commands: Commands) -> PastConfiguration
+    fn of_commands(commands: Commands, known: &mut KnownLines) -> PastConfiguration
         ensures { commands_past result ≡ commands.commands }
     {
         match commands.into_lines() {
-            Ok(lines) => PastConfiguration::Lines(lines),
+            Ok(lines) => PastConfiguration::of_lines(lines, known),
             Err(commands) => PastConfiguration::Commands(commands),
+        }
+    }
+
+    /// That of these lines.
+    fn of_lines(lines: CommandLines, known: &mut KnownLines) -> PastConfiguration
+        ensures { commands_past result ≡ lines }
+    {
+        match known.shared(lines) {
+            Ok(shared) => PastConfiguration::Shared(shared),
+            Err(lines) => PastConfiguration::Lines(lines),
         }
     }
 
@@ -96,6 +111,7 @@ impl PastConfiguration {
         ensures { commands_reloaded result ≡ commands_past self.now }
     {
         match self {
+            PastConfiguration::Shared(lines) => ReloadedCommands::Lines(lines),
             PastConfiguration::Lines(lines) => ReloadedCommands::Lines(lines),
             PastConfiguration::Commands(commands) => ReloadedCommands::Commands(commands),
             PastConfiguration::Tables(tables) => ReloadedCommands::Commands(tables.commands()),
@@ -131,7 +147,7 @@ impl LastReload {
     }
 
     /// The same after another reload.
-    fn past(self) -> PastReload
+    fn past(self, known: &mut KnownLines) -> PastReload
         ensures { plain_past result ≡ plain_last self }
     {
         let LastReload {
@@ -141,7 +157,7 @@ impl LastReload {
             route,
         } = self;
         PastReload {
-            configuration: PastConfiguration::of(tables),
+            configuration: PastConfiguration::of(tables, known),
             reply,
             zone,
             route,
@@ -157,6 +173,7 @@ impl Reloads {
         Reloads {
             past: Pieces::new(alloc),
             last: None,
+            known: KnownLines::new(alloc),
         }
     }
 
@@ -207,7 +224,8 @@ impl Reloads {
         self.past.reserve(places)
     }
 
-    /// Puts a reload at the end, in room that was reserved: the last one. It takes no memory.
+    /// Puts a reload at the end, in room that was reserved: the last one. It needs no memory; it
+    /// takes some, if there is any, so that lines that come again are kept once.
     pub fn push(&mut self, reload: LastReload)
         requires { 1 ≤ self.old.room }
         ensures entries { self.new.entries ≡ self.old.entries ++ plain_last reload ∷ [] }
@@ -215,7 +233,7 @@ impl Reloads {
         ensures room { self.old.room ≤ self.new.room + 1 }
     {
         if let Some(before) = mem::replace(&mut self.last, Some(reload)) {
-            self.past.push(before.past());
+            self.past.push(before.past(&mut self.known));
         }
     }
 }

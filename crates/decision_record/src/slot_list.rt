@@ -8,6 +8,7 @@ ghost use Rattle.decision_record.specs.SlotList.{over_slot, place_meant};
 ghost use Rattle.decision_record.specs.declared.slots.Slot.TheVariants as slots;
 
 use crate::held::{HeldBrief, HeldRefused, HeldRouted, HeldWide};
+use crate::place_bytes::PlaceBytes;
 use crate::slot_parts::ShortOver;
 use crate::slot_places::{SlotPlace, slot_at};
 use crate::slots::{BriefSlot, RefusedAdmission, RoutedAdmission, Slot, WideSlot};
@@ -19,7 +20,7 @@ use std::mem::size_of;
 /// The slots of a record in order. A contract sees them, and for how many further ones there is
 /// room without memory: the same as of one list of slots.
 ///
-/// `places` has a place of 8 bytes for each slot. That of a granted registration, of a reload or of
+/// `places` has a place of 5 bytes for each slot. That of a granted registration, of a reload or of
 /// an entry that stands whole is the slot itself; any other says where it stands: in `routed` if it
 /// is that of an admission that leads to a destination, and the place tells the verdict; in
 /// `refused` if the admission leads to none; in `brief` if it is that of a granted change, release
@@ -135,9 +136,18 @@ impl SlotList {
             Slot::Refused(admission) => self.push_refused(admission),
             Slot::Brief(brief) => self.push_brief(brief),
             Slot::Wide(wide) => self.push_wide(wide),
-            Slot::Registered { place } => self.push_place(SlotPlace::Registered { place: *place }),
-            Slot::Aside { place } => self.push_place(SlotPlace::Aside { place: *place }),
-            Slot::Reload { place } => self.push_place(SlotPlace::Reload { place: *place }),
+            Slot::Registered { place } => {
+                let place = PlaceBytes::of(*place);
+                self.push_place(SlotPlace::Registered { place })
+            }
+            Slot::Aside { place } => {
+                let place = PlaceBytes::of(*place);
+                self.push_place(SlotPlace::Aside { place })
+            }
+            Slot::Reload { place } => {
+                let place = PlaceBytes::of(*place);
+                self.push_place(SlotPlace::Reload { place })
+            }
         }
     }
 
@@ -150,7 +160,7 @@ impl SlotList {
           room = self.old.room - 1;
         } }
     {
-        let place = self.routed.len() as u32;
+        let place = PlaceBytes::of(self.routed.len() as u32);
         self.routed.push(HeldRouted::of(admission));
         self.places.push(SlotPlace::Admitted { place });
         self.room -= 1;
@@ -165,7 +175,7 @@ impl SlotList {
           room = self.old.room - 1;
         } }
     {
-        let place = self.routed.len() as u32;
+        let place = PlaceBytes::of(self.routed.len() as u32);
         self.routed.push(HeldRouted::of(admission));
         self.places.push(SlotPlace::of_refused_for(over, place));
         self.room -= 1;
@@ -180,7 +190,7 @@ impl SlotList {
           room = self.old.room - 1;
         } }
     {
-        let place = self.refused.len() as u32;
+        let place = PlaceBytes::of(self.refused.len() as u32);
         self.refused.push(HeldRefused::of(admission));
         self.places.push(SlotPlace::Refused { place });
         self.room -= 1;
@@ -195,7 +205,7 @@ impl SlotList {
           room = self.old.room - 1;
         } }
     {
-        let place = self.brief.len() as u32;
+        let place = PlaceBytes::of(self.brief.len() as u32);
         self.brief.push(HeldBrief::of(brief));
         self.places.push(SlotPlace::Brief { place });
         self.room -= 1;
@@ -210,7 +220,7 @@ impl SlotList {
           room = self.old.room - 1;
         } }
     {
-        let place = self.wide.len() as u32;
+        let place = PlaceBytes::of(self.wide.len() as u32);
         self.wide.push(HeldWide::of(wide));
         self.places.push(SlotPlace::Wide { place });
         self.room -= 1;

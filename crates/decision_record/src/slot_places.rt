@@ -6,40 +6,45 @@ ghost use Rattle.decision_record.specs.SlotList.{over_slot, over_place, place_me
 ghost use Rattle.decision_record.specs.declared.slots.Slot.TheVariants as slots;
 
 use crate::held::{HeldBrief, HeldRefused, HeldRouted, HeldWide};
+use crate::place_bytes::PlaceBytes;
 use crate::slot_parts::ShortOver;
 use crate::slots::Slot;
 use command_reader::LimitKind;
 use pieces::Pieces;
+use std::mem::size_of;
 
 /// Where a slot stands: its place, from 0, in the list of its kind; or the slot itself, if it has
-/// a place alone. Of an admission that is refused for a limit it says for which one.
+/// a place alone. Of an admission that is refused for a limit it says for which one. There is one
+/// for each entry of the record, so it holds the place in single bytes.
 #[derive(Clone, Copy)]
 pub enum SlotPlace {
     /// In the list of admissions with a destination, granted.
-    Admitted { place: u32 },
+    Admitted { place: PlaceBytes },
     /// In the same list, above a limit of the caller's zone.
-    OverSession { place: u32 },
-    OverTotal { place: u32 },
-    OverInterzone { place: u32 },
+    OverSession { place: PlaceBytes },
+    OverTotal { place: PlaceBytes },
+    OverInterzone { place: PlaceBytes },
     /// In the same list, above the limit of all calls to zones of other gatekeepers.
-    OverRemote { place: u32 },
+    OverRemote { place: PlaceBytes },
     /// In the list of admissions without a destination.
-    Refused { place: u32 },
+    Refused { place: PlaceBytes },
     /// In that of brief slots.
-    Brief { place: u32 },
+    Brief { place: PlaceBytes },
     /// In that of slots with the name of the zone of a limit.
-    Wide { place: u32 },
+    Wide { place: PlaceBytes },
     /// It is that of a granted registration, whose endpoint has this place among the registrations.
-    Registered { place: u32 },
+    Registered { place: PlaceBytes },
     /// It is that of an entry that stands whole at this place.
-    Aside { place: u32 },
+    Aside { place: PlaceBytes },
     /// It is that of the reload at this place.
-    Reload { place: u32 },
+    Reload { place: PlaceBytes },
 }
+
+const _: () = prove!(size_of::<SlotPlace>() == 5);
 
 impl SlotPlace {
     /// That of an admission that was refused for this limit.
-    pub fn of_refused_for(over: &ShortOver, place: u32) -> SlotPlace
+    pub fn of_refused_for(over: &ShortOver, place: PlaceBytes) -> SlotPlace
         ensures { result ≡ over_place over.now place }
     {
         match over {
@@ -64,28 +69,34 @@ impl SlotPlace {
             wide.now.items self.now }
     {
         match self {
-            SlotPlace::Admitted { place } => admitted_at(routed, *place as usize),
+            SlotPlace::Admitted { place } => admitted_at(routed, place.index()),
             SlotPlace::OverSession { place } => {
                 let kind = LimitKind::Session;
-                over_at(routed, *place as usize, &ShortOver::OwnZone { kind })
+                over_at(routed, place.index(), &ShortOver::OwnZone { kind })
             }
             SlotPlace::OverTotal { place } => {
                 let kind = LimitKind::Total;
-                over_at(routed, *place as usize, &ShortOver::OwnZone { kind })
+                over_at(routed, place.index(), &ShortOver::OwnZone { kind })
             }
             SlotPlace::OverInterzone { place } => {
                 let kind = LimitKind::Interzone;
-                over_at(routed, *place as usize, &ShortOver::OwnZone { kind })
+                over_at(routed, place.index(), &ShortOver::OwnZone { kind })
             }
             SlotPlace::OverRemote { place } => {
-                over_at(routed, *place as usize, &ShortOver::Remote)
+                over_at(routed, place.index(), &ShortOver::Remote)
             }
-            SlotPlace::Refused { place } => refused_at(refused, *place as usize),
-            SlotPlace::Brief { place } => brief_at(brief, *place as usize),
-            SlotPlace::Wide { place } => wide_at(wide, *place as usize),
-            SlotPlace::Registered { place } => Some(Slot::Registered { place: *place }),
-            SlotPlace::Aside { place } => Some(Slot::Aside { place: *place }),
-            SlotPlace::Reload { place } => Some(Slot::Reload { place: *place }),
+            SlotPlace::Refused { place } => refused_at(refused, place.index()),
+            SlotPlace::Brief { place } => brief_at(brief, place.index()),
+            SlotPlace::Wide { place } => wide_at(wide, place.index()),
+            SlotPlace::Registered { place } => Some(Slot::Registered {
+                place: place.number(),
+            }),
+            SlotPlace::Aside { place } => Some(Slot::Aside {
+                place: place.number(),
+            }),
+            SlotPlace::Reload { place } => Some(Slot::Reload {
+                place: place.number(),
+            }),
         }
     }
 }

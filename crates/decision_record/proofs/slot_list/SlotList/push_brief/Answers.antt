@@ -16,8 +16,9 @@ held : (c : goal.After-self-1)
 held c =
     let one : 1 ≤ c.self.inside.room =
     omega (arith, c.requires.room, ap (λ (h : PiecesParts Slot). h.room) c.self.view_is) in
-    brief_held _ _ _ _ _ _ _ c.self.invariant one c.len-place.result
-    c.args.brief.now c.push.new.self c.push-2.new.self c.len-place.ensures.value
+    brief_held _ _ _ _ _ _ _ c.self.invariant one c.of-place.result
+    c.args.brief.now c.push.new.self c.push-2.new.self
+    (c.of-place.ensures ∙ c.len.ensures.value)
     (c.push.ensures ∙ ap (λ (a : BriefSlot). record {
       items = c.self.inside.brief.items ++ a ∷ [];
       room = c.self.inside.brief.room - 1;
