@@ -4,8 +4,8 @@
 mod entries;
 mod held;
 mod known_lines;
+mod number_bytes;
 mod packing;
-mod place_bytes;
 mod record;
 mod recording;
 mod registration_entries;

@@ -7,6 +7,7 @@ ghost use Rattle.decision_record.specs.History.{entry_by};
 ghost use Rattle.rulings.specs.Lent.{destination_meant, ruling_meant};
 ghost use Rattle.decision_record.specs.Slots as Spec;
 
+use crate::number_bytes::NumberBytes;
 use crate::slot_parts::{
     Asked, NamedOver, ShortDestination, ShortOver, ShortReply, Unchanged, Unrouted,
 };
@@ -103,6 +104,8 @@ fn change(id: &Name, call: u32, units: Units, ruling: &LentRuling<'_>) -> Option
             ..
         } if *changed == call && *given == units => {
             let id = ShortName::of(id)?;
+            let call = NumberBytes::of(call);
+            let units = NumberBytes::of(units.value());
             Some(Slot::Brief(BriefSlot::Change { id, call, units }))
         }
         LentRuling::ChangeRefused {
@@ -122,6 +125,8 @@ fn refused_change(id: &Name, call: u32, units: Units, reason: &ChangeRefusal) ->
     let id = ShortName::of(id)?;
     match reason {
         ChangeRefusal::NoCall => {
+            let call = NumberBytes::of(call);
+            let units = NumberBytes::of(units.value());
             let cause = Unchanged::NoCall;
             Some(Slot::Brief(BriefSlot::RefusedChange {
                 id,
@@ -131,6 +136,8 @@ fn refused_change(id: &Name, call: u32, units: Units, reason: &ChangeRefusal) ->
             }))
         }
         ChangeRefusal::NotYours => {
+            let call = NumberBytes::of(call);
+            let units = NumberBytes::of(units.value());
             let cause = Unchanged::NotYours;
             Some(Slot::Brief(BriefSlot::RefusedChange {
                 id,
@@ -175,6 +182,7 @@ fn release(id: &Name, call: u32, ruling: &LentRuling<'_>) -> Option<Slot>
     match ruling {
         LentRuling::Released { call: released, .. } if *released == call => {
             let id = ShortName::of(id)?;
+            let call = NumberBytes::of(call);
             Some(Slot::Brief(BriefSlot::Release { id, call }))
         }
         _ => None,

@@ -207,18 +207,23 @@ impl BriefSlot {
             ≡ Spec.brief_entry registrations.now.items self.now }
     {
         match self {
-            BriefSlot::Change { id, call, units } => Some(changed(id, *call, *units)),
+            BriefSlot::Change { id, call, units } => {
+                Some(changed(id, call.number(), Units::new(units.number())))
+            }
             BriefSlot::RefusedChange {
                 id,
                 call,
                 units,
                 cause,
-            } => Some(unchanged(id, *call, *units, cause.reason())),
-            BriefSlot::Release { id, call } => Some(released(id, *call)),
+            } => {
+                let units = Units::new(units.number());
+                Some(unchanged(id, call.number(), units, cause.reason()))
+            }
+            BriefSlot::Release { id, call } => Some(released(id, call.number())),
             BriefSlot::Unregistration { id } => Some(unregistered(id)),
             BriefSlot::RefusedRegistration { place, reason } => {
                 let replied = ShortReply::Refused { reason: *reason };
-                registration_at(registrations, *place as usize, &replied)
+                registration_at(registrations, place.index(), &replied)
             }
         }
     }

@@ -8,7 +8,7 @@ ghost use Rattle.decision_record.specs.SlotList.{over_slot, place_meant};
 ghost use Rattle.decision_record.specs.declared.slots.Slot.TheVariants as slots;
 
 use crate::held::{HeldBrief, HeldRefused, HeldRouted, HeldWide};
-use crate::place_bytes::PlaceBytes;
+use crate::number_bytes::NumberBytes;
 use crate::slot_parts::ShortOver;
 use crate::slot_places::{SlotPlace, slot_at};
 use crate::slots::{BriefSlot, RefusedAdmission, RoutedAdmission, Slot, WideSlot};
@@ -137,15 +137,15 @@ impl SlotList {
             Slot::Brief(brief) => self.push_brief(brief),
             Slot::Wide(wide) => self.push_wide(wide),
             Slot::Registered { place } => {
-                let place = PlaceBytes::of(*place);
+                let place = NumberBytes::of(*place);
                 self.push_place(SlotPlace::Registered { place })
             }
             Slot::Aside { place } => {
-                let place = PlaceBytes::of(*place);
+                let place = NumberBytes::of(*place);
                 self.push_place(SlotPlace::Aside { place })
             }
             Slot::Reload { place } => {
-                let place = PlaceBytes::of(*place);
+                let place = NumberBytes::of(*place);
                 self.push_place(SlotPlace::Reload { place })
             }
         }
@@ -160,7 +160,7 @@ impl SlotList {
           room = self.old.room - 1;
         } }
     {
-        let place = PlaceBytes::of(self.routed.len() as u32);
+        let place = NumberBytes::of(self.routed.len() as u32);
         self.routed.push(HeldRouted::of(admission));
         self.places.push(SlotPlace::Admitted { place });
         self.room -= 1;
@@ -175,7 +175,7 @@ impl SlotList {
           room = self.old.room - 1;
         } }
     {
-        let place = PlaceBytes::of(self.routed.len() as u32);
+        let place = NumberBytes::of(self.routed.len() as u32);
         self.routed.push(HeldRouted::of(admission));
         self.places.push(SlotPlace::of_refused_for(over, place));
         self.room -= 1;
@@ -190,7 +190,7 @@ impl SlotList {
           room = self.old.room - 1;
         } }
     {
-        let place = PlaceBytes::of(self.refused.len() as u32);
+        let place = NumberBytes::of(self.refused.len() as u32);
         self.refused.push(HeldRefused::of(admission));
         self.places.push(SlotPlace::Refused { place });
         self.room -= 1;
@@ -205,7 +205,7 @@ impl SlotList {
           room = self.old.room - 1;
         } }
     {
-        let place = PlaceBytes::of(self.brief.len() as u32);
+        let place = NumberBytes::of(self.brief.len() as u32);
         self.brief.push(HeldBrief::of(brief));
         self.places.push(SlotPlace::Brief { place });
         self.room -= 1;
@@ -220,7 +220,7 @@ impl SlotList {
           room = self.old.room - 1;
         } }
     {
-        let place = PlaceBytes::of(self.wide.len() as u32);
+        let place = NumberBytes::of(self.wide.len() as u32);
         self.wide.push(HeldWide::of(wide));
         self.places.push(SlotPlace::Wide { place });
         self.room -= 1;

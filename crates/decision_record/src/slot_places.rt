@@ -6,7 +6,7 @@ ghost use Rattle.decision_record.specs.SlotList.{over_slot, over_place, place_me
 ghost use Rattle.decision_record.specs.declared.slots.Slot.TheVariants as slots;
 
 use crate::held::{HeldBrief, HeldRefused, HeldRouted, HeldWide};
-use crate::place_bytes::PlaceBytes;
+use crate::number_bytes::NumberBytes;
 use crate::slot_parts::ShortOver;
 use crate::slots::Slot;
 use command_reader::LimitKind;
@@ -19,32 +19,32 @@ use std::mem::size_of;
 #[derive(Clone, Copy)]
 pub enum SlotPlace {
     /// In the list of admissions with a destination, granted.
-    Admitted { place: PlaceBytes },
+    Admitted { place: NumberBytes },
     /// In the same list, above a limit of the caller's zone.
-    OverSession { place: PlaceBytes },
-    OverTotal { place: PlaceBytes },
-    OverInterzone { place: PlaceBytes },
+    OverSession { place: NumberBytes },
+    OverTotal { place: NumberBytes },
+    OverInterzone { place: NumberBytes },
     /// In the same list, above the limit of all calls to zones of other gatekeepers.
-    OverRemote { place: PlaceBytes },
+    OverRemote { place: NumberBytes },
     /// In the list of admissions without a destination.
-    Refused { place: PlaceBytes },
+    Refused { place: NumberBytes },
     /// In that of brief slots.
-    Brief { place: PlaceBytes },
+    Brief { place: NumberBytes },
     /// In that of slots with the name of the zone of a limit.
-    Wide { place: PlaceBytes },
+    Wide { place: NumberBytes },
     /// It is that of a granted registration, whose endpoint has this place among the registrations.
-    Registered { place: PlaceBytes },
+    Registered { place: NumberBytes },
     /// It is that of an entry that stands whole at this place.
-    Aside { place: PlaceBytes },
+    Aside { place: NumberBytes },
     /// It is that of the reload at this place.
-    Reload { place: PlaceBytes },
+    Reload { place: NumberBytes },
 }
 
 const _: () = prove!(size_of::<SlotPlace>() == 5);
 
 impl SlotPlace {
     /// That of an admission that was refused for this limit.
-    pub fn of_refused_for(over: &ShortOver, place: PlaceBytes) -> SlotPlace
+    pub fn of_refused_for(over: &ShortOver, place: NumberBytes) -> SlotPlace
         ensures { result ≡ over_place over.now place }
     {
         match over {

@@ -3,12 +3,14 @@
 ghost use Rattle.std.specs.Prelude.{◌≡◌};
 ghost use Rattle.decision_record.specs.Slots.{registered_slot};
 
+use crate::number_bytes::NumberBytes;
 use crate::slot_parts::{
     Asked, NamedOver, ShortDestination, ShortOver, ShortReply, Unchanged, Unrouted,
 };
 use gk_terms::{Address, Units};
 use rulings::RegisterRefusal;
 use short_texts::ShortName;
+use std::mem::size_of;
 
 /// An admission that leads to a destination, but for the verdict.
 #[derive(Clone, Copy)]
@@ -28,27 +30,27 @@ pub struct RefusedAdmission {
     pub cause: Unrouted,
 }
 
-/// An entry of a change, a release, an unregistration or a refused registration, in at most 32
-/// bytes.
+/// An entry of a change, a release, an unregistration or a refused registration, in at most 30
+/// bytes. Bandwidth is in units of 100 bit/s.
 #[derive(Clone, Copy)]
 pub enum BriefSlot {
     /// A granted bandwidth change.
     Change {
         id: ShortName,
-        call: u32,
-        units: Units,
+        call: NumberBytes,
+        units: NumberBytes,
     },
     /// A bandwidth change that is refused since no call of the number is open, or it is another's.
     RefusedChange {
         id: ShortName,
-        call: u32,
-        units: Units,
+        call: NumberBytes,
+        units: NumberBytes,
         cause: Unchanged,
     },
     /// A granted release.
     Release {
         id: ShortName,
-        call: u32,
+        call: NumberBytes,
     },
     /// A granted unregistration.
     Unregistration {
@@ -57,10 +59,12 @@ pub enum BriefSlot {
     /// A refused registration, whose endpoint stands at this place, from 0, in the list of
     /// registrations.
     RefusedRegistration {
-        place: u32,
+        place: NumberBytes,
         reason: RegisterRefusal,
     },
 }
+
+const _: () = prove!(size_of::<BriefSlot>() == 30);
 
 /// A refusal for a limit that takes more bytes, since the limit may have to be named with its zone.
 #[derive(Clone, Copy)]
@@ -122,7 +126,7 @@ impl Slot {
         match replied {
             ShortReply::Granted => Slot::Registered { place },
             ShortReply::Refused { reason } => Slot::Brief(BriefSlot::RefusedRegistration {
-                place,
+                place: NumberBytes::of(place),
                 reason: *reason,
             }),
         }
