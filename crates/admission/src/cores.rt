@@ -155,7 +155,7 @@ impl Core {
     /// names of their zones, and may be changed and released as before; registrations whose zone is
     /// no longer local go. Ok and Err are as of `answer`; the refusal by a count is reloads-spent,
     /// if the configuration was replaced as often as the limit allows, or record-full. After
-    /// `reserve_reload` it needs no memory.
+    /// `reserve_reload` it takes no memory.
     pub fn reload(&mut self, tables: Arc<Tables>) -> Result<(Reply, Receipt), Reply>
         ensures step { Steps self.old (Events.Reloading (arc_value tables).commands)
             result self.new }

@@ -1,7 +1,7 @@
--- Maps by name, in which an entry that counts nothing may go.
+-- Maps by name, in which an entry without calls may go.
 use Rattle.std.specs.Prelude.{Bool, Option, Some, None, if◌then◌else◌}
 
--- what was found of a name, if it counts
-abbrev pub that_counts : {V : Type 0} → (V → Bool) → Option V → Option V
-that_counts counts None = None
-that_counts counts (Some value) = if counts value then Some value else None
+-- what was found under a name, if it has calls
+abbrev pub that_has_calls : {V : Type 0} → (V → Bool) → Option V → Option V
+that_has_calls has_calls None = None
+that_has_calls has_calls (Some value) = if has_calls value then Some value else None

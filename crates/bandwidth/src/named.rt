@@ -1,21 +1,21 @@
-//! Maps by name, in which an entry that counts nothing may stay until its place is needed.
+//! Maps by name, in which an entry without calls may stay until its place is needed.
 
-ghost use Rattle.std.specs.Prelude.{◌≡◌, ◌≤◌, ◌+◌, Bool, Some, None, bytes_eq, if◌then◌else◌, nat_lt, OnOk};
+ghost use Rattle.std.specs.Prelude.{◌≡◌, ◌≤◌, ◌+◌, Bool, Some, None, bytes_eq, if◌then◌else◌, nat_lt, IsOk, OnOk};
 ghost use Rattle.std.specs.HashMap.{spare};
 ghost use Rattle.std.specs.Map.{lookup};
-ghost use Rattle.bandwidth.specs.Named.{that_counts};
+ghost use Rattle.bandwidth.specs.Named.{that_has_calls};
 
 use gk_terms::Name;
 use std::alloc::AllocError;
 use std::collections::HashMap;
 
-/// What is kept under a name of the open calls that count there.
+/// What is kept, under a name, of the open calls that count there.
 pub trait Tally {
-    ghost counts: { Self → Bool };
+    ghost has_calls: { Self → Bool };
 
-    /// Whether any call counts in it.
-    fn counts(&self) -> bool
-        ensures { result ≡ counts self.now };
+    /// Whether any call counts there.
+    fn has_calls(&self) -> bool
+        ensures { result ≡ has_calls self.now };
 }
 
 /// Gives the name this value. Takes no memory: a name that has no entry needs room for one.
@@ -29,14 +29,15 @@ pub fn put<V: Drop>(map: &mut HashMap<Name, V>, name: Name, value: V)
     let _ = put.unwrap();
 }
 
-/// Makes room for so many names more. If it is not there, the entries go in which no call counts.
-/// If memory runs out there may be no room.
+/// Makes room for this many more names. If there is too little, the entries without calls go. If
+/// memory runs out there may be no room.
 pub fn reserve<V: Tally + Drop>(map: &mut HashMap<Name, V>, places: usize) -> Result<(), AllocError>
     ensures entries { (name : _) → lookup (bytes_eq name) map.new.entries
         ≡ (if nat_lt (spare map.old) places
-        then that_counts V.counts (lookup (bytes_eq name) map.old.entries)
+        then that_has_calls V.has_calls (lookup (bytes_eq name) map.old.entries)
         else lookup (bytes_eq name) map.old.entries) }
     ensures room { OnOk result (places ≤ spare map.new) }
+    ensures succeeds { places ≤ spare map.old → IsOk result }
 {
     if map.capacity() - map.len() >= places {
         return Ok(());
@@ -50,7 +51,7 @@ pub fn reserve<V: Tally + Drop>(map: &mut HashMap<Name, V>, places: usize) -> Re
 #[inline(never)]
 fn make_room<V: Tally + Drop>(map: &mut HashMap<Name, V>, places: usize) -> Result<(), AllocError>
     ensures entries { (name : _) → lookup (bytes_eq name) map.new.entries
-        ≡ that_counts V.counts (lookup (bytes_eq name) map.old.entries) }
+        ≡ that_has_calls V.has_calls (lookup (bytes_eq name) map.old.entries) }
     ensures room { OnOk result (places ≤ spare map.new) }
 {
     let_go(map);
@@ -61,10 +62,10 @@ fn make_room<V: Tally + Drop>(map: &mut HashMap<Name, V>, places: usize) -> Resu
     map.reserve(places)
 }
 
-/// Lets the entries go in which no call counts.
+/// Lets the entries without calls go.
 fn let_go<V: Tally + Drop>(map: &mut HashMap<Name, V>)
     ensures { (name : _) → lookup (bytes_eq name) map.new.entries
-        ≡ that_counts V.counts (lookup (bytes_eq name) map.old.entries) }
+        ≡ that_has_calls V.has_calls (lookup (bytes_eq name) map.old.entries) }
 {
-    map.retain(|_, value| value.counts());
+    map.retain(|_, value| value.has_calls());
 }

@@ -11,9 +11,9 @@ use gk_terms::Name;
 use std::collections::HashMap;
 
 impl Tally for usize {
-    ghost counts = { nat_lt 0 };
+    ghost has_calls = { nat_lt 0 };
 
-    fn counts(&self) -> bool {
+    fn has_calls(&self) -> bool {
         *self > 0
     }
 }

@@ -1,7 +1,7 @@
 //! The running sums: the calls of each owner, the bandwidth in each zone, and that of all calls to
 //! remote zones.
 
-ghost use Rattle.std.specs.Prelude.{◌≡◌, ◌<◌, ◌≤◌, [], true, None, nat_lt, OnOk};
+ghost use Rattle.std.specs.Prelude.{◌≡◌, ◌<◌, ◌≤◌, [], true, None, nat_lt, IsOk, OnOk};
 ghost use Rattle.std.specs.HashMap.{spare};
 ghost use Rattle.bandwidth.specs.Use.{touches};
 ghost use Rattle.bandwidth.specs.Sums.{AllCounted, AllUsed, AreBare, CountsPass, MayPass, UsesPass, count_at, count_found, remote_after, use_at, use_found};
@@ -60,18 +60,24 @@ impl Sums {
 
     /// Makes room for a call more, whose owner and two zones may be new. If it is not there,
     /// the entries without calls go. If memory runs out there may be no room. No sum changes.
+    /// At an error of the owners' map the zones' map is not looked at.
     pub fn reserve(&mut self) -> Result<(), AllocError>
         requires { AreBare self.old.zones.entries }
         ensures owners { (id : _) → count_at self.new.owners.entries id
             ≡ count_at self.old.owners.entries id }
         ensures zones { (zone : _) → use_at self.new.zones.entries zone
             ≡ use_at self.old.zones.entries zone }
+        ensures owners_kept { 1 ≤ spare self.old.owners → (id : _)
+            → count_found self.new.owners.entries id ≡ count_found self.old.owners.entries id }
+        ensures zones_kept { 2 ≤ spare self.old.zones → (zone : _)
+            → use_found self.new.zones.entries zone ≡ use_found self.old.zones.entries zone }
         ensures owners_left { spare self.old.owners < 1 → AllCounted self.new.owners.entries }
         ensures zones_left { OnOk result (spare self.old.zones < 2
             → AllUsed self.new.zones.entries) }
         ensures remote { self.new.remote ≡ self.old.remote }
         ensures owners_room { OnOk result (1 ≤ spare self.new.owners) }
         ensures zones_room { OnOk result (2 ≤ spare self.new.zones) }
+        ensures succeeds { 1 ≤ spare self.old.owners → 2 ≤ spare self.old.zones → IsOk result }
     {
         named::reserve(&mut self.owners, 1)?;
         named::reserve(&mut self.zones, 2)

@@ -53,9 +53,9 @@ impl ZoneUse {
 }
 
 impl Tally for ZoneUse {
-    ghost counts = { λ used. nat_lt 0 used.calls };
+    ghost has_calls = { λ used. nat_lt 0 used.calls };
 
-    fn counts(&self) -> bool {
+    fn has_calls(&self) -> bool {
         self.calls > 0
     }
 }

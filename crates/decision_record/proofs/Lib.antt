@@ -1,4 +1,5 @@
 pub mod RecordLemmas
+pub mod PastLemmas
 pub mod ReloadLemmas
 pub mod SlotListLemmas
 pub mod StoredLemmas

@@ -1,9 +1,10 @@
 -- How the reloads of a record are held. A reader of the contracts need not know it.
-use Rattle.std.specs.Prelude.{ℕ, List, [], ◌++◌, map, Option}
-use Rattle.std.specs.Option.{option_map}
-use Rattle.std.specs.List.{cons_option}
+use Rattle.std.specs.Prelude.{◌≡◌, ◌<◌, ◌≤◌, ℕ, ◌+◌, List, [], ◌++◌, length, map, slice_get, Option, Some, None, IfSome}
+use Rattle.std.specs.Option.{option_map, unwrap_or}
+use Rattle.std.specs.List.{AllByRecursion, cons_option}
 use Rattle.std.specs.Arc.{arc_value}
 use Rattle.command_reader.specs.declared.commands.Command.{Command}
+use Rattle.pieces.specs.Pieces.{PiecesParts}
 use Rattle.rulings.specs.Events.{Reloading}
 use Rattle.decision_record.specs.History.{PlainEntry}
 use Rattle.decision_record.specs.declared.reloads.PastConfiguration.{PastConfiguration}
@@ -18,21 +19,40 @@ pub record ReloadsParts : Type 0 where
   pub last : Option (List Command)
   pub room : ℕ
 
+-- what the known lines say
+abbrev pub Texts : Type 0
+Texts = List (List Command)
+
 -- the commands that were in force
-abbrev pub commands_past : PastConfiguration → List Command
-commands_past (past.Shared lines) = arc_value lines
-commands_past (past.Lines lines) = lines
-commands_past (past.Commands commands) = commands.commands
-commands_past (past.Tables tables) = (arc_value tables).commands
+abbrev pub commands_past : Texts → PastConfiguration → List Command
+commands_past texts (past.Lines place) = unwrap_or (slice_get texts place) []
+commands_past texts (past.Commands commands) = commands.commands
+commands_past texts (past.Tables tables) = (arc_value tables).commands
+
+-- the place of its lines among the known ones
+abbrev pub place_of : PastConfiguration → Option ℕ
+place_of (past.Lines place) = Some place
+place_of (past.Commands commands) = None
+place_of (past.Tables tables) = None
+
+abbrev pub IsPlaced : Texts → PastConfiguration → Type 0
+IsPlaced texts configuration = IfSome (place_of configuration) (λ place. place < length texts)
+
+-- each text that was known has its place still, and of the room one place may be taken
+pub record KeepsTexts (old new : PiecesParts (List Command)) : Type 0 where
+  pub kept : (place : ℕ) → place < length old.items
+      → slice_get new.items place ≡ slice_get old.items place
+  pub more : length old.items ≤ length new.items
+  pub room : old.room ≤ new.room + 1
 
 -- those that are
 abbrev pub commands_last : LastReload → List Command
 commands_last reload = (arc_value reload.tables).commands
 
 -- the values of their entries
-abbrev pub plain_past : PastReload → PlainEntry
-plain_past reload = record {
-  event = Reloading (commands_past reload.configuration);
+abbrev pub plain_past : Texts → PastReload → PlainEntry
+plain_past texts reload = record {
+  event = Reloading (commands_past texts reload.configuration);
   reply = reload.reply;
   zone = reload.zone;
   route = reload.route;
@@ -47,5 +67,10 @@ plain_last reload = record {
 }
 
 -- the entries in order
-abbrev pub reloads_told : List PastReload → Option LastReload → List PlainEntry
-reloads_told past last = map plain_past past ++ cons_option (option_map plain_last last) []
+abbrev pub reloads_told : Texts → List PastReload → Option LastReload → List PlainEntry
+reloads_told texts past last =
+    map (plain_past texts) past ++ cons_option (option_map plain_last last) []
+
+-- the lines of each past one have a place among the known ones
+abbrev pub ArePlaced : Texts → List PastReload → Type 0
+ArePlaced texts past = AllByRecursion (λ reload. IsPlaced texts reload.configuration) past

@@ -1,72 +1,145 @@
 //! Lines of configurations that are kept once.
 
-ghost use Rattle.std.specs.Prelude.{◌≡◌, IfSome, MatchResult};
-ghost use Rattle.std.specs.Arc.{arc_value};
+ghost use Rattle.std.specs.Prelude.{◌≡◌, ◌<◌, ◌≤◌, ◌+◌, [], true, length, slice_get, Some, IfSome, OnOk};
+ghost use Rattle.pieces.specs.declared.list.TheConstants.{PIECE_ITEMS};
+ghost use Rattle.decision_record.specs.Reloads.{KeepsTexts};
 
 use command_reader::CommandLines;
-use std::alloc::{AllocFailed, Global};
-use std::collections::HashMap;
-use std::sync::Arc;
+use pieces::Pieces;
+use std::alloc::{AllocError, Global};
+use std::marker::Model;
 
-/// The lines of past configurations by a hash of them, so that lines that come again are kept once.
-/// No contract says which ones are known: to share lines only saves memory, and only those that are
-/// the same byte by byte are shared. Of two texts with the same hash the later one is known.
+/// How many of the last texts are looked at for the same one.
+const LOOKED_AT: usize = 16;
+
+/// Lines of a configuration, with a hash of them. A contract sees the commands that they say.
+#[derive(Drop)]
+struct KnownText {
+    hash: u64,
+    lines: CommandLines,
+}
+
+impl Model for KnownText {
+    ghost use Rattle.std.specs.Prelude.{List};
+    ghost use Rattle.command_reader.specs.declared.commands.Command.{Command};
+
+    ghost Value = { List Command };
+
+    ghost view = { λ t. t.lines };
+}
+
+impl KnownText {
+    /// That of these lines.
+    fn of(lines: CommandLines) -> KnownText
+        ensures { result ≡ lines }
+    {
+        let hash = lines.text_hash();
+        KnownText { hash, lines }
+    }
+
+    /// The lines.
+    fn lines(&self) -> &CommandLines
+        ensures { result.now ≡ self.now }
+    {
+        &self.lines
+    }
+
+    /// Whether its lines are the same as those of the other one, byte by byte.
+    fn is_same(&self, other: &KnownText) -> bool
+        ensures { result ≡ true → self.now ≡ other.now }
+    {
+        self.hash == other.hash && self.lines.is_same_text(&other.lines)
+    }
+}
+
+/// The lines of past configurations, so that lines that come again are kept once: if the same text,
+/// byte by byte, is among the last 16. No contract says that any are shared, since that only saves
+/// memory. A contract sees what the texts say, in order, and for how many further ones there is
+/// room without memory.
 #[derive(Drop)]
 pub struct KnownLines {
-    by_hash: HashMap<u64, Arc<CommandLines>>,
-    alloc: Global,
+    texts: Pieces<KnownText>,
+}
+
+impl Model for KnownLines {
+    ghost use Rattle.std.specs.Prelude.{List};
+    ghost use Rattle.command_reader.specs.declared.commands.Command.{Command};
+    ghost use Rattle.pieces.specs.Pieces.{PiecesParts};
+
+    ghost Value = { PiecesParts (List Command) };
+
+    ghost view = { λ k. k.texts };
 }
 
 impl KnownLines {
-    /// No lines. It takes no memory.
-    pub fn new(alloc: Global) -> KnownLines {
+    /// No lines, and no room. It takes no memory.
+    pub fn new(alloc: Global) -> KnownLines
+        ensures { result ≡ record { items = []; room = 0 } }
+    {
         KnownLines {
-            by_hash: HashMap::new(alloc),
-            alloc,
+            texts: Pieces::new(alloc),
         }
     }
 
-    /// These lines in a block that others may have too: that of the same lines, if they are known.
-    /// If memory runs out the lines are handed back.
-    pub fn shared(&mut self, lines: CommandLines) -> Result<Arc<CommandLines>, CommandLines>
-        ensures { MatchResult result (λ shared. arc_value shared ≡ lines) (λ own. own ≡ lines) }
+    /// The lines at this place.
+    pub fn get(&self, place: usize) -> &CommandLines
+        requires { place < length self.now.items }
+        ensures { slice_get self.now.items place ≡ Some result.now }
     {
-        let hash = lines.text_hash();
-        match self.known(hash, &lines) {
-            Some(shared) => Ok(shared),
-            None => self.put(hash, lines),
+        match self.texts.get(place) {
+            Some(text) => text.lines(),
+            None => unreachable!(),
         }
     }
 
-    /// The block of the same lines, if they are known.
-    fn known(&self, hash: u64, lines: &CommandLines) -> Option<Arc<CommandLines>>
-        ensures { IfSome result (λ shared. arc_value shared ≡ lines.now) }
+    /// Makes room for this many further texts. If memory runs out, nothing changes.
+    pub fn reserve(&mut self, places: usize) -> Result<(), AllocError>
+        requires near { places ≤ self.old.room + PIECE_ITEMS }
+        ensures texts { self.new.items ≡ self.old.items }
+        ensures room { self.old.room ≤ self.new.room }
+        ensures ok { OnOk result (places ≤ self.new.room) }
     {
-        let known = self.by_hash.get(&hash)?;
-        if known.is_same_text(lines) {
-            known.clone().ok()
-        } else {
-            None
-        }
+        self.texts.reserve(places)
     }
 
-    /// These lines in a block of their own, which is known from now on.
-    fn put(&mut self, hash: u64, lines: CommandLines) -> Result<Arc<CommandLines>, CommandLines>
-        ensures { MatchResult result (λ shared. arc_value shared ≡ lines) (λ own. own ≡ lines) }
+    /// The place of these lines: that of the same text, or else at the end, in room that was
+    /// reserved. It takes no memory.
+    pub fn put(&mut self, lines: CommandLines) -> usize
+        requires { 1 ≤ self.old.room }
+        ensures there { slice_get self.new.items result ≡ Some lines }
+        ensures kept { KeepsTexts self.old self.new }
     {
-        match Arc::new(self.alloc, lines) {
-            Ok(shared) => {
-                self.learn(hash, &shared);
-                Ok(shared)
+        let text = KnownText::of(lines);
+        match self.place_of(&text) {
+            Some(place) => place,
+            None => {
+                let place = self.texts.len();
+                self.texts.push(text);
+                place
             }
-            Err(AllocFailed { value }) => Err(value),
         }
     }
 
-    /// Makes this block known, if there is memory for it.
-    fn learn(&mut self, hash: u64, shared: &Arc<CommandLines>) {
-        if let Ok(known) = shared.clone() {
-            drop(self.by_hash.insert(hash, known));
+    /// The place of the same text, if it is among the last ones.
+    fn place_of(&self, text: &KnownText) -> Option<usize>
+        ensures { IfSome result (λ place. slice_get self.now.items place ≡ Some text.now) }
+    {
+        let end = self.texts.len();
+        for place in end.saturating_sub(LOOKED_AT)..end {
+            if self.is_at(place, text) {
+                return Some(place);
+            }
+        }
+        None
+    }
+
+    /// Whether the same text stands at this place.
+    fn is_at(&self, place: usize, text: &KnownText) -> bool
+        ensures { result ≡ true → slice_get self.now.items place ≡ Some text.now }
+    {
+        match self.texts.get(place) {
+            Some(known) => known.is_same(text),
+            None => false,
         }
     }
 }

@@ -4,8 +4,8 @@ ghost use Rattle.std.specs.Prelude.{◌≡◌};
 
 use std::marker::Model;
 
-/// A number, its low byte first. Single bytes may stand at any address, so that an enum of such
-/// numbers takes 5 bytes, and not 8. A contract sees the number.
+/// A number, its low byte first. A u32 stands at a multiple of 4, and single bytes stand anywhere,
+/// so an enum that holds one such number takes 5 bytes in place of 8. A contract sees the number.
 #[derive(Clone, Copy)]
 pub struct NumberBytes {
     bytes: [u8; 4],

@@ -61,8 +61,7 @@ impl Record {
 
     /// Puts at the end, in a place that was kept, the entry of an event that has no slot in few
     /// bytes, with its reply. It needs no memory: for the lists of an endpoint it asks for smaller
-    /// blocks, and keeps the larger ones if it gets none; and for the lines of the reload before
-    /// this one, for a block that further reloads of the same lines may have too.
+    /// blocks, and keeps the larger ones if it gets none.
     #[inline(never)]
     pub fn push(&mut self, event: Event, reply: &Reply, told: &Told)
         requires kept { 1 ≤ self.old.kept }

@@ -1,14 +1,14 @@
 //! The reloads of a record.
 
-ghost use Rattle.std.specs.Prelude.{◌≡◌, ◌≤◌, ◌+◌, ◌++◌, ◌∷◌, [], Some, None, length, slice_get, option_map, OnOk};
+ghost use Rattle.std.specs.Prelude.{◌≡◌, ◌<◌, ◌≤◌, ◌+◌, ◌++◌, ◌∷◌, [], Some, None, length, slice_get, option_map, OnOk};
 ghost use Rattle.std.specs.Arc.{arc_value};
 ghost use Rattle.pieces.specs.declared.list.TheConstants.{PIECE_ITEMS};
 ghost use Rattle.decision_record.specs.History.{plain_entry, commands_reloaded};
-ghost use Rattle.decision_record.specs.Reloads.{commands_past, commands_last, plain_past, plain_last};
+ghost use Rattle.decision_record.specs.Reloads.{ArePlaced, IsPlaced, KeepsTexts, commands_past, commands_last, plain_past, plain_last};
 
 use crate::entries::{Entry, EntryEvent, ReloadedCommands};
 use crate::known_lines::KnownLines;
-use command_reader::{CommandLines, Commands};
+use command_reader::Commands;
 use compiler::Tables;
 use gk_terms::Name;
 use pieces::Pieces;
@@ -18,14 +18,12 @@ use std::marker::Model;
 use std::mem;
 use std::sync::Arc;
 
-/// A configuration that was in force: the lines that said its commands, in a block that other
-/// reloads of the same lines have too, or alone, if memory ran out for the block; the commands, if
-/// their lines were not kept, because memory ran out as they were read; or its tables, if somebody
-/// else still had them as another one was put in force.
+/// A configuration that was in force: the place of the lines that said its commands among the known
+/// ones; the commands, if their lines were not kept, because memory ran out as they were read; or
+/// its tables, if somebody else still had them as another one was put in force.
 #[derive(Drop)]
 pub enum PastConfiguration {
-    Shared(Arc<CommandLines>),
-    Lines(CommandLines),
+    Lines { place: usize },
     Commands(Commands),
     Tables(Arc<Tables>),
 }
@@ -53,8 +51,8 @@ pub struct LastReload {
 ///
 /// `last` is the last one, and `past` are those before it. As one more follows, the tables of the
 /// last one are let go and the lines of its commands stay, so that the record of a long run holds
-/// no tables but those in force and the opening ones. `known` finds lines that were in force
-/// before, so that they are kept once.
+/// no tables but those in force and the opening ones. The lines stand in `known`, where those that
+/// come again are kept once.
 #[derive(Drop)]
 pub struct Reloads {
     past: Pieces<PastReload>,
@@ -63,22 +61,27 @@ pub struct Reloads {
 }
 
 impl Model for Reloads {
-    ghost use Rattle.std.specs.Prelude.{option_map};
-    ghost use Rattle.decision_record.specs.Reloads.{ReloadsParts, reloads_told, commands_last};
+    ghost use Rattle.std.specs.Prelude.{min, option_map};
+    ghost use Rattle.decision_record.specs.Reloads.{ArePlaced, ReloadsParts, reloads_told, commands_last};
 
     ghost Value = { ReloadsParts };
 
     ghost view = { λ r. record {
-      entries = reloads_told r.past.items r.last;
+      entries = reloads_told r.known.items r.past.items r.last;
       last = option_map commands_last r.last;
-      room = r.past.room;
+      room = min r.past.room r.known.room;
     } };
+
+    ghost invariant = { λ r. ArePlaced r.known.items r.past.items };
 }
 
 impl PastConfiguration {
     /// That of these tables.
     fn of(tables: Arc<Tables>, known: &mut KnownLines) -> PastConfiguration
-        ensures { commands_past result ≡ (arc_value tables).commands }
+        requires { 1 ≤ known.old.room }
+        ensures said { commands_past known.new.items result ≡ (arc_value tables).commands }
+        ensures placed { IsPlaced known.new.items result }
+        ensures kept { KeepsTexts known.old known.new }
     {
         match Arc::try_unwrap(tables) {
             Ok(tables) => PastConfiguration::of_commands(tables.into_commands(), known),
@@ -88,31 +91,26 @@ impl PastConfiguration {
 
     /// That of these commands: their lines, if they were kept.
     fn of_commands(commands: Commands, known: &mut KnownLines) -> PastConfiguration
-        ensures { commands_past result ≡ commands.commands }
+        requires { 1 ≤ known.old.room }
+        ensures said { commands_past known.new.items result ≡ commands.commands }
+        ensures placed { IsPlaced known.new.items result }
+        ensures kept { KeepsTexts known.old known.new }
     {
         match commands.into_lines() {
-            Ok(lines) => PastConfiguration::of_lines(lines, known),
+            Ok(lines) => PastConfiguration::Lines {
+                place: known.put(lines),
+            },
             Err(commands) => PastConfiguration::Commands(commands),
         }
     }
 
-    /// That of these lines.
-    fn of_lines(lines: CommandLines, known: &mut KnownLines) -> PastConfiguration
-        ensures { commands_past result ≡ lines }
-    {
-        match known.shared(lines) {
-            Ok(shared) => PastConfiguration::Shared(shared),
-            Err(lines) => PastConfiguration::Lines(lines),
-        }
-    }
-
     /// Its commands.
-    fn commands(&self) -> ReloadedCommands<'_>
-        ensures { commands_reloaded result ≡ commands_past self.now }
+    fn commands<'a>(&'a self, known: &'a KnownLines) -> ReloadedCommands<'a>
+        requires { IsPlaced known.now.items self.now }
+        ensures { commands_reloaded result ≡ commands_past known.now.items self.now }
     {
         match self {
-            PastConfiguration::Shared(lines) => ReloadedCommands::Lines(lines),
-            PastConfiguration::Lines(lines) => ReloadedCommands::Lines(lines),
+            PastConfiguration::Lines { place } => ReloadedCommands::Lines(known.get(*place)),
             PastConfiguration::Commands(commands) => ReloadedCommands::Commands(commands),
             PastConfiguration::Tables(tables) => ReloadedCommands::Commands(tables.commands()),
         }
@@ -121,11 +119,12 @@ impl PastConfiguration {
 
 impl PastReload {
     /// The entry, with its commands lent.
-    fn lent(&self) -> Entry<'_>
-        ensures { plain_entry result ≡ plain_past self.now }
+    fn lent<'a>(&'a self, known: &'a KnownLines) -> Entry<'a>
+        requires { IsPlaced known.now.items self.now.configuration }
+        ensures { plain_entry result ≡ plain_past known.now.items self.now }
     {
         Entry {
-            event: EntryEvent::Reload(self.configuration.commands()),
+            event: EntryEvent::Reload(self.configuration.commands(known)),
             reply: self.reply,
             zone: self.zone,
             route: self.route,
@@ -148,7 +147,10 @@ impl LastReload {
 
     /// The same after another reload.
     fn past(self, known: &mut KnownLines) -> PastReload
-        ensures { plain_past result ≡ plain_last self }
+        requires { 1 ≤ known.old.room }
+        ensures said { plain_past known.new.items result ≡ plain_last self }
+        ensures placed { IsPlaced known.new.items result.configuration }
+        ensures kept { KeepsTexts known.old known.new }
     {
         let LastReload {
             tables,
@@ -192,7 +194,7 @@ impl Reloads {
         ensures { option_map plain_entry result ≡ slice_get self.now.entries place }
     {
         if place < self.past.len() {
-            return past_at(&self.past, place);
+            return past_at(&self.past, &self.known, place);
         }
         if place > self.past.len() {
             return None;
@@ -221,11 +223,11 @@ impl Reloads {
         ensures room { self.old.room ≤ self.new.room }
         ensures ok { OnOk result (places ≤ self.new.room) }
     {
+        self.known.reserve(places)?;
         self.past.reserve(places)
     }
 
-    /// Puts a reload at the end, in room that was reserved: the last one. It needs no memory; it
-    /// takes some, if there is any, so that lines that come again are kept once.
+    /// Puts a reload at the end, in room that was reserved: the last one. It takes no memory.
     pub fn push(&mut self, reload: LastReload)
         requires { 1 ≤ self.old.room }
         ensures entries { self.new.entries ≡ self.old.entries ++ plain_last reload ∷ [] }
@@ -239,12 +241,17 @@ impl Reloads {
 }
 
 /// The entry of the past reload at this place.
-fn past_at(past: &Pieces<PastReload>, place: usize) -> Option<Entry<'_>>
-    ensures { option_map plain_entry result ≡ option_map plain_past
+fn past_at<'a>(
+    past: &'a Pieces<PastReload>,
+    known: &'a KnownLines,
+    place: usize,
+) -> Option<Entry<'a>>
+    requires { ArePlaced known.now.items past.now.items }
+    ensures { option_map plain_entry result ≡ option_map (plain_past known.now.items)
         (slice_get past.now.items place) }
 {
     match past.get(place) {
-        Some(reload) => Some(reload.lent()),
+        Some(reload) => Some(reload.lent(known)),
         None => None,
     }
 }

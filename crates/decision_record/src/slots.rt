@@ -64,8 +64,6 @@ pub enum BriefSlot {
     },
 }
 
-const _: () = prove!(size_of::<BriefSlot>() == 30);
-
 /// A refusal for a limit that takes more bytes, since the limit may have to be named with its zone.
 #[derive(Clone, Copy)]
 pub enum WideSlot {
@@ -82,6 +80,15 @@ pub enum WideSlot {
         over: NamedOver,
     },
 }
+
+// What docs/DECISIONS.md says of the size of a record.
+const _: () = prove!(size_of::<RoutedAdmission>() == 92);
+
+const _: () = prove!(size_of::<RefusedAdmission>() == 68);
+
+const _: () = prove!(size_of::<BriefSlot>() == 30);
+
+const _: () = prove!(size_of::<WideSlot>() == 120);
 
 /// An entry in few bytes, if the names in it are short: of an admission, of a change, of a granted
 /// release or unregistration; or the place of a registration's endpoint

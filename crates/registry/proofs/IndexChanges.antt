@@ -18,7 +18,7 @@ use Rattle.indexmap.specs.IndexMap.{insert_entry}
 use Rattle.gk_terms.proofs.ChoiceLemmas.{find_passes}
 use Rattle.registry.specs.Endpoint.{EndpointParts, has_alias, share_alias}
 use Rattle.registry.specs.Registration.{has_id, alias_is_taken, with_endpoint, without_endpoint}
-use Rattle.registry.specs.RegistryIndex.{Owners, number_of_alias, found_with, aliases_of, lists, AreOwnersOf, Forgets, LeadTo, IsIndexed}
+use Rattle.registry.specs.RegistryIndex.{AliasNumbers, number_of_alias, found_with, aliases_of, lists, AreNumbersOfAliases, Forgets, LeadTo, IsIndexed}
 use Rattle.registry.specs.Roll.{Entries, Numbered, RollParts, at_number, by_id, is_number, found_with_id, IsChangedAt}
 use Rattle.registry.proofs.FindLemmas.{found-none, also_passes}
 use Rattle.registry.proofs.LookUpLemmas.{Keyed, same_id, entry_missed}
@@ -77,24 +77,26 @@ values-insert e (f ∷ es) h =
         ap (λ xs. f.1 ∷ xs) rest
         ∙ sym (put_later e f.1 (values_of es) (position_or_len (has_id e.id) (values_of es)))
 
--- ---- owners of aliases
+-- ---- alias_numbers of aliases
 -- the aliases that were found are those of the endpoint
 found_lists : (alias : List ℕ) (entry : Option EndpointParts)
     → found_with alias entry ≡ lists (aliases_of entry) alias
 found_lists alias None = refl
 found_lists alias (Some e) = refl
 
-module _ (entries : Numbered) (owners : Owners) (owned : AreOwnersOf owners entries) where
+module _ (entries : Numbered) (alias_numbers : AliasNumbers) (owned : AreNumbersOfAliases
+    alias_numbers entries) where
   -- an alias that leads to a number leads to no other
   leads_once : (alias : List ℕ) (n m : ℕ) → found_with alias (at_number entries n) ≡ true
       → is_at (nat_cmp n) m ≡ false → found_with alias (at_number entries m) ≡ false
   leads_once alias n m has apart =
       sym (owned alias m)
-      ∙ ap (is_number m) (only_number n (number_of_alias owners alias) (owned alias n ∙ has))
+      ∙ ap (is_number m) (only_number n (number_of_alias alias_numbers alias) (owned alias n ∙ has))
       ∙ sym (unsigned_tied n m) ∙ apart
 
   -- if the aliases of a number's endpoint are forgotten, the rest stand for the others
-  others_owned : (n : ℕ) (rest : Owners) → Forgets owners rest (aliases_of (at_number entries n))
+  others_owned : (n : ℕ) (rest : AliasNumbers) → Forgets alias_numbers rest (aliases_of
+      (at_number entries n))
       → (alias : List ℕ) (m : ℕ)
       → is_number m (number_of_alias rest alias)
       ≡ found_with alias (cond (is_at (nat_cmp n) m) None (at_number entries m))
@@ -104,7 +106,7 @@ module _ (entries : Numbered) (owners : Owners) (owned : AreOwnersOf owners entr
     where
       by : (c : Bool) → lists (aliases_of (at_number entries n)) alias ≡ c → (b : Bool)
           → is_at (nat_cmp n) m ≡ b
-          → is_number m (if c then None else number_of_alias owners alias)
+          → is_number m (if c then None else number_of_alias alias_numbers alias)
           ≡ found_with alias (cond b None (at_number entries m))
       by true k true l = refl
       by true k false l =
@@ -145,32 +147,35 @@ module _ (entries : Numbered) (owners : Owners) (owned : AreOwnersOf owners entr
           (shared f its (find (bytes_eq alias) e.aliases) refl)))
 
 -- after a removal: the aliases of the one that was found are forgotten
-pub indexed-remove : (old : RollParts) (new : Numbered) (owners rest : Owners) (id : List ℕ)
+pub indexed-remove : (old : RollParts) (new : Numbered) (alias_numbers rest : AliasNumbers) (id :
+    List ℕ)
     (number : ℕ) (found : Option EndpointParts)
-    → IsIndexed old.entries owners → IsChangedAt old new id number found None
-    → Forgets owners rest (aliases_of found) → IsDistinct bytes_eq (keys_of (by_id new))
+    → IsIndexed old.entries alias_numbers → IsChangedAt old new id number found None
+    → Forgets alias_numbers rest (aliases_of found) → IsDistinct bytes_eq (keys_of (by_id new))
     → IsIndexed new rest
-indexed-remove old new owners rest id number found h change forgets distinct =
+indexed-remove old new alias_numbers rest id number found h change forgets distinct =
     record {
       sorted = change.sorted;
       distinct = distinct;
       owned =
           λ alias m.
-          others_owned old.entries owners h.owned number rest
-          (subst (λ entry. Forgets owners rest (aliases_of entry)) change.had forgets) alias m
+          others_owned old.entries alias_numbers h.owned number rest
+          (subst (λ entry. Forgets alias_numbers rest (aliases_of entry)) change.had forgets)
+          alias m
           ∙ ap (found_with alias) (sym (change.set m));
     }
 
 -- after a registration: the aliases of the one that was found are forgotten, and then the new ones
 -- lead to its number
-pub indexed-insert : (old : RollParts) (new : Numbered) (owners rest all : Owners)
+pub indexed-insert : (old : RollParts) (new : Numbered) (alias_numbers rest all : AliasNumbers)
     (e : EndpointParts) (number : ℕ) (found : Option EndpointParts)
-    → IsIndexed old.entries owners → IsChangedAt old new e.id number found (Some e)
+    → IsIndexed old.entries alias_numbers → IsChangedAt old new e.id number found (Some e)
     → alias_is_taken (values_of old.entries) e ≡ false
-    → Forgets owners rest (aliases_of found) → LeadTo rest all e.aliases number
+    → Forgets alias_numbers rest (aliases_of found) → LeadTo rest all e.aliases number
     → IsDistinct bytes_eq (keys_of (by_id new))
     → IsIndexed new all
-indexed-insert old new owners rest all e number found h change free forgets leads_to distinct =
+indexed-insert old new alias_numbers rest all e number found h change free forgets leads_to
+    distinct =
     record {
       sorted = change.sorted;
       distinct = distinct;
@@ -184,8 +189,8 @@ indexed-insert old new owners rest all e number found h change free forgets lead
     others : (alias : List ℕ) (m : ℕ)
         → is_number m (number_of_alias rest alias)
         ≡ found_with alias (cond (is_at (nat_cmp number) m) None (at_number old.entries m))
-    others = others_owned old.entries owners h.owned number rest
-        (subst (λ entry. Forgets owners rest (aliases_of entry)) change.had forgets)
+    others = others_owned old.entries alias_numbers h.owned number rest
+        (subst (λ entry. Forgets alias_numbers rest (aliases_of entry)) change.had forgets)
 
     other_id : (m : ℕ) → is_at (nat_cmp number) m ≡ false
         → found_with_id e.id (at_number old.entries m) ≡ false
@@ -201,7 +206,7 @@ indexed-insert old new owners rest all e number found h change free forgets lead
     by alias m true k true l = sym (unsigned_tied number m) ∙ l ∙ sym k
     by alias m true k false l =
         sym (unsigned_tied number m) ∙ l
-        ∙ sym (free_alias old.entries owners h.owned e alias m free k (other_id m l))
+        ∙ sym (free_alias old.entries alias_numbers h.owned e alias m free k (other_id m l))
     by alias m false k true l =
         others alias m
         ∙ ap (λ b. found_with alias (cond b None (at_number old.entries m))) l
@@ -211,10 +216,11 @@ indexed-insert old new owners rest all e number found h change free forgets lead
         ∙ ap (λ b. found_with alias (cond b None (at_number old.entries m))) l
 
 -- after a change of the room alone
-pub indexed-reordered : (entries : Numbered) (owners old : Owners) → IsIndexed entries old
-    → ((alias : List ℕ) → number_of_alias owners alias ≡ number_of_alias old alias)
-    → IsIndexed entries owners
-indexed-reordered entries owners old h reordered =
+pub indexed-reordered : (entries : Numbered) (alias_numbers old : AliasNumbers) → IsIndexed
+    entries old
+    → ((alias : List ℕ) → number_of_alias alias_numbers alias ≡ number_of_alias old alias)
+    → IsIndexed entries alias_numbers
+indexed-reordered entries alias_numbers old h reordered =
     record {
       sorted = h.sorted;
       distinct = h.distinct;

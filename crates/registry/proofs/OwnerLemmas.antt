@@ -11,31 +11,31 @@ use Rattle.std.proofs.lemmas.Option.{none-some, same_Some}
 use Rattle.gk_terms.proofs.ChoiceLemmas.{find_passes}
 use Rattle.registry.specs.Endpoint.{EndpointParts, has_alias}
 use Rattle.registry.specs.Registration.{has_id, by_alias, alias_is_taken, ShareNoAlias}
-use Rattle.registry.specs.RegistryIndex.{Owners, number_of_alias, found_with, IsIndexed, owner_of, is_anothers}
+use Rattle.registry.specs.RegistryIndex.{AliasNumbers, number_of_alias, found_with, IsIndexed, owner_of, is_of_another}
 use Rattle.registry.specs.Roll.{Numbered, at_number}
 use Rattle.registry.proofs.FindLemmas.{is_some-find, found-none, missed, any_pair}
 use Rattle.registry.proofs.LookUpLemmas.{entry_missed, found_and}
 use Rattle.registry.proofs.SoundLemmas.{stands_at, leads, led}
 
 -- ---- where an alias leads
-module _ (entries : Numbered) (owners : Owners) (h : IsIndexed entries owners)
+module _ (entries : Numbered) (alias_numbers : AliasNumbers) (h : IsIndexed entries alias_numbers)
     (alias : List ℕ) where
   -- the owner stands under the number to which the alias leads
   owner_stands : (f : EndpointParts) → owner_of (values_of entries) alias ≡ Some f
-      → (number : ℕ) × (number_of_alias owners alias ≡ Some number)
+      → (number : ℕ) × (number_of_alias alias_numbers alias ≡ Some number)
       × (at_number entries number ≡ Some f)
   owner_stands f found =
-      let under = stands_at entries owners h f
+      let under = stands_at entries alias_numbers h f
       (position_or_len (λ e. has_alias e alias) (values_of entries))
       (sym (find_at (λ e. has_alias e alias) (values_of entries)) ∙ found) in (
         under.number,
-        leads entries owners h alias under.number f under.there
+        leads entries alias_numbers h alias under.number f under.there
             (find_passes (λ e. has_alias e alias) (values_of entries) f found),
         under.there,
       )
 
   -- an alias leads to the number of its owner
-  pub led_to_owner : (number : ℕ) → number_of_alias owners alias ≡ Some number
+  pub led_to_owner : (number : ℕ) → number_of_alias alias_numbers alias ≡ Some number
       → at_number entries number ≡ owner_of (values_of entries) alias
   led_to_owner number leads_there = by (owner_of (values_of entries) alias) refl
     where
@@ -51,13 +51,14 @@ module _ (entries : Numbered) (owners : Owners) (h : IsIndexed entries owners)
       by : (found : Option EndpointParts) → owner_of (values_of entries) alias ≡ found
           → at_number entries number ≡ found
       by None k =
-          none k (at_number entries number) refl (led entries owners h alias number leads_there)
+          none k (at_number entries number) refl (led entries alias_numbers h alias number
+          leads_there)
       by (Some f) k =
           let own = owner_stands f k in
           ap (at_number entries) (same_Some number own.0 (sym leads_there ∙ own.1)) ∙ own.2
 
   -- one that leads nowhere has no owner
-  pub led_nowhere : number_of_alias owners alias ≡ None
+  pub led_nowhere : number_of_alias alias_numbers alias ≡ None
       → owner_of (values_of entries) alias ≡ None
   led_nowhere nowhere = by (owner_of (values_of entries) alias) refl
     where
@@ -130,7 +131,7 @@ module _ (endpoints : List EndpointParts) (unshared : ShareNoAlias endpoints)
 
   -- whether the alias is that of an endpoint with another ID
   pub anothers : (id : List ℕ)
-      → is_anothers endpoints id alias
+      → is_of_another endpoints id alias
       ≡ found_and (λ e. not (has_id id e)) (owner_of endpoints alias)
   anothers id =
       sym (is_some-find (λ e. not (has_id id e) && has_alias e alias) endpoints)
@@ -149,6 +150,6 @@ module _ (endpoints : List EndpointParts) (unshared : ShareNoAlias endpoints)
 
 -- an endpoint's aliases, looked at one by one
 pub aliases_taken : (endpoints : List EndpointParts) (e : EndpointParts)
-    → alias_is_taken endpoints e ≡ list_any (is_anothers endpoints e.id) e.aliases
+    → alias_is_taken endpoints e ≡ list_any (is_of_another endpoints e.id) e.aliases
 aliases_taken endpoints e =
     any_pair (λ f. not (has_id e.id f)) (λ f. has_alias f) endpoints e.aliases

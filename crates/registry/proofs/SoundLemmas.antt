@@ -9,7 +9,7 @@ use Rattle.std.proofs.lemmas.Option.{none-some, same_Some}
 use Rattle.std.proofs.lemmas.Map.Keys.{IsDistinct-head, IsDistinct-tail}
 use Rattle.registry.specs.Endpoint.{EndpointParts, has_alias}
 use Rattle.registry.specs.Registration.{HaveDifferentIds, ShareNoAlias}
-use Rattle.registry.specs.RegistryIndex.{Owners, number_of_alias, found_with, IsIndexed}
+use Rattle.registry.specs.RegistryIndex.{AliasNumbers, number_of_alias, found_with, IsIndexed}
 use Rattle.registry.specs.Roll.{Entries, Numbered, at_number, by_id}
 use Rattle.registry.proofs.LookUpLemmas.{Keyed, Keyed-by_id, values-by_id, listed_entry}
 use Rattle.registry.proofs.RollLemmas.{StandsUnder, stands_under, distinct_numbers, only_number, number_found}
@@ -41,7 +41,8 @@ one_place (g ∷ gs) h d e f (suc i) zero at_i at_j same =
 one_place (g ∷ gs) h d e f (suc i) (suc j) at_i at_j same =
     ap suc (one_place gs h.1 (IsDistinct-tail bytes_eq g.0 (keys_of gs) d) e f i j at_i at_j same)
 
-module _ (entries : Numbered) (owners : Owners) (h : IsIndexed entries owners) where
+module _ (entries : Numbered) (alias_numbers : AliasNumbers) (h : IsIndexed entries
+    alias_numbers) where
   pub different_ids : HaveDifferentIds (values_of entries)
   different_ids e f i j at_i at_j same =
       one_place (by_id entries) (Keyed-by_id entries) h.distinct e f i j
@@ -59,13 +60,13 @@ module _ (entries : Numbered) (owners : Owners) (h : IsIndexed entries owners) w
   -- an alias of an endpoint leads to its number
   pub leads : (alias : List ℕ) (number : ℕ) (f : EndpointParts)
       → at_number entries number ≡ Some f → has_alias f alias ≡ true
-      → number_of_alias owners alias ≡ Some number
+      → number_of_alias alias_numbers alias ≡ Some number
   leads alias number f there has =
-      only_number number (number_of_alias owners alias)
+      only_number number (number_of_alias alias_numbers alias)
       (h.owned alias number ∙ ap (found_with alias) there ∙ has)
 
   -- an alias that leads to a number is one of its endpoint
-  pub led : (alias : List ℕ) (number : ℕ) → number_of_alias owners alias ≡ Some number
+  pub led : (alias : List ℕ) (number : ℕ) → number_of_alias alias_numbers alias ≡ Some number
       → found_with alias (at_number entries number) ≡ true
   led alias number there = sym (h.owned alias number) ∙ number_found number _ there
 

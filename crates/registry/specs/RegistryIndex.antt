@@ -9,12 +9,12 @@ use Rattle.registry.specs.Registration.{has_id}
 use Rattle.registry.specs.Roll.{Numbered, at_number, by_id, is_number}
 
 -- the numbers by alias
-abbrev pub Owners : Type 0
-Owners = List (List ℕ × ℕ)
+abbrev pub AliasNumbers : Type 0
+AliasNumbers = List (List ℕ × ℕ)
 
 -- the number to which an alias leads
-abbrev pub number_of_alias : Owners → List ℕ → Option ℕ
-number_of_alias owners alias = lookup (bytes_eq alias) owners
+abbrev pub number_of_alias : AliasNumbers → List ℕ → Option ℕ
+number_of_alias alias_numbers alias = lookup (bytes_eq alias) alias_numbers
 
 -- whether an endpoint was found, and it has the alias
 abbrev pub found_with : List ℕ → Option EndpointParts → Bool
@@ -31,31 +31,32 @@ abbrev pub lists : List (List ℕ) → List ℕ → Bool
 lists aliases alias = list_any (bytes_eq alias) aliases
 
 -- an alias leads to a number exactly if the endpoint of that number has the alias
-abbrev pub AreOwnersOf : Owners → Numbered → Type 0
-AreOwnersOf owners entries =
+abbrev pub AreNumbersOfAliases : AliasNumbers → Numbered → Type 0
+AreNumbersOfAliases alias_numbers entries =
     (alias : List ℕ) (number : ℕ)
-    → is_number number (number_of_alias owners alias) ≡ found_with alias (at_number entries number)
+    → is_number number (number_of_alias alias_numbers alias) ≡ found_with alias (at_number
+    entries number)
 
 -- in new these aliases lead nowhere, and each other alias leads where it does in old
-abbrev pub Forgets : Owners → Owners → List (List ℕ) → Type 0
+abbrev pub Forgets : AliasNumbers → AliasNumbers → List (List ℕ) → Type 0
 Forgets old new aliases =
     (alias : List ℕ)
     → number_of_alias new alias
     ≡ (if lists aliases alias then None else number_of_alias old alias)
 
 -- in new these aliases lead to this number, and each other alias leads where it does in old
-abbrev pub LeadTo : Owners → Owners → List (List ℕ) → ℕ → Type 0
+abbrev pub LeadTo : AliasNumbers → AliasNumbers → List (List ℕ) → ℕ → Type 0
 LeadTo old new aliases number =
     (alias : List ℕ)
     → number_of_alias new alias
     ≡ (if lists aliases alias then Some number else number_of_alias old alias)
 
--- the map stands for the aliases of the endpoints: their numbers ascend, no two IDs are equal, and
--- an alias leads to the number of its owner, so none leads to a number that is not in use
-pub record IsIndexed (entries : Numbered) (owners : Owners) : Type 0 where
+-- the endpoints' numbers ascend, no two have the same ID, and an alias leads to the number of the
+-- endpoint that has it, or else nowhere
+pub record IsIndexed (entries : Numbered) (alias_numbers : AliasNumbers) : Type 0 where
   pub sorted : IsStrictlySortedBy nat_cmp (keys_of entries)
   pub distinct : IsDistinct bytes_eq (keys_of (by_id entries))
-  pub owned : AreOwnersOf owners entries
+  pub owned : AreNumbersOfAliases alias_numbers entries
 
 -- ---- what the map finds
 -- the endpoint with the alias, in whatever zone
@@ -63,5 +64,5 @@ abbrev pub owner_of : List EndpointParts → List ℕ → Option EndpointParts
 owner_of endpoints alias = find (λ e. has_alias e alias) endpoints
 
 -- whether the alias is that of an endpoint with another ID
-abbrev pub is_anothers : List EndpointParts → List ℕ → List ℕ → Bool
-is_anothers endpoints id alias = list_any (λ e. not (has_id id e) && has_alias e alias) endpoints
+abbrev pub is_of_another : List EndpointParts → List ℕ → List ℕ → Bool
+is_of_another endpoints id alias = list_any (λ e. not (has_id id e) && has_alias e alias) endpoints

@@ -9,7 +9,7 @@ ghost use Rattle.std.specs.Map.{keys_of};
 ghost use Rattle.std.specs.HashMap.{spare};
 ghost use Rattle.compiler.specs.Priority.{named_priority};
 ghost use Rattle.registry.specs.Registration.{HaveDifferentIds, ShareNoAlias, endpoint_of, by_alias, is_registered, id_is_taken, alias_is_taken, with_endpoint, without_endpoint};
-ghost use Rattle.registry.specs.RegistryIndex.{Forgets, LeadTo, aliases_of, is_anothers, owner_of};
+ghost use Rattle.registry.specs.RegistryIndex.{Forgets, LeadTo, aliases_of, is_of_another, owner_of};
 ghost use Rattle.registry.specs.Gateway.{gateway_by};
 ghost use Rattle.registry.specs.Roll.{IsNextFrom, IsNumberFor, IsSetAt, NoneFrom, endpoints_of};
 
@@ -28,7 +28,7 @@ use std::marker::Model;
 #[derive(Drop)]
 pub struct Shelf {
     listing: Listing,
-    owners: HashMap<Dialled, u32>,
+    alias_numbers: HashMap<Dialled, u32>,
 }
 
 impl Model for Shelf {
@@ -39,7 +39,7 @@ impl Model for Shelf {
 
     ghost view = { λ s. s.listing };
 
-    ghost invariant = { λ s. IsIndexed s.listing.entries s.owners.entries };
+    ghost invariant = { λ s. IsIndexed s.listing.entries s.alias_numbers.entries };
 }
 
 impl Shelf {
@@ -49,7 +49,7 @@ impl Shelf {
     {
         Shelf {
             listing: Listing::new(alloc),
-            owners: HashMap::new(alloc),
+            alias_numbers: HashMap::new(alloc),
         }
     }
 
@@ -143,7 +143,7 @@ impl Shelf {
     pub fn alias_is_taken(&self, endpoint: &Endpoint) -> bool
         ensures { result ≡ alias_is_taken (endpoints_of self.now) endpoint.now }
     {
-        self.is_any_anothers(endpoint.aliases(), endpoint.id())
+        self.is_any_of_another(endpoint.aliases(), endpoint.id())
     }
 
     /// Puts the endpoint in the place of the one with its ID, or else at the end. None of its
@@ -187,10 +187,14 @@ impl Shelf {
         ensures err { OnErr result (endpoints_of self.new ≡ endpoints_of self.old) }
         ensures next { self.new.next ≤ self.old.next + 1 }
     {
-        self.owners.reserve(endpoint.aliases().len())?;
+        self.alias_numbers.reserve(endpoint.aliases().len())?;
         let (number, replaced) = self.listing.insert(endpoint)?;
-        forget_aliases_of(&mut self.owners, endpoint_in(replaced.as_ref()));
-        lead_aliases_of(&mut self.owners, self.listing.at_number(number), number);
+        forget_aliases_of(&mut self.alias_numbers, endpoint_in(replaced.as_ref()));
+        lead_aliases_of(
+            &mut self.alias_numbers,
+            self.listing.at_number(number),
+            number,
+        );
         Ok(())
     }
 
@@ -204,7 +208,7 @@ impl Shelf {
         ensures next { self.new.next ≡ self.old.next }
     {
         let removed = self.listing.remove(id);
-        forget_aliases_of(&mut self.owners, endpoint_in(removed.as_ref()));
+        forget_aliases_of(&mut self.alias_numbers, endpoint_in(removed.as_ref()));
         removed
     }
 
@@ -225,13 +229,13 @@ impl Shelf {
         ensures found { option_copied result ≡ owner_of (endpoints_of self.now) alias.now }
         ensures unshared { ShareNoAlias (endpoints_of self.now) }
     {
-        self.listing.at_number(*self.owners.get(alias)?)
+        self.listing.at_number(*self.alias_numbers.get(alias)?)
     }
 
     #[tactic(auto, using(crate::proofs::OwnerLemmas::anothers))]
     /// Whether the alias is that of an endpoint with another ID.
-    fn is_anothers(&self, alias: &Dialled, id: &Name) -> bool
-        ensures { result ≡ is_anothers (endpoints_of self.now) id.now alias.now }
+    fn is_of_another(&self, alias: &Dialled, id: &Name) -> bool
+        ensures { result ≡ is_of_another (endpoints_of self.now) id.now alias.now }
     {
         match self.owner(alias) {
             Some(owner) => *owner.id() != *id,
@@ -240,53 +244,57 @@ impl Shelf {
     }
 
     /// Whether one of the aliases is that of an endpoint with another ID.
-    fn is_any_anothers(&self, aliases: &[Dialled], id: &Name) -> bool
-        ensures { result ≡ list_any (is_anothers (endpoints_of self.now) id.now) aliases.now }
+    fn is_any_of_another(&self, aliases: &[Dialled], id: &Name) -> bool
+        ensures { result ≡ list_any (is_of_another (endpoints_of self.now) id.now) aliases.now }
     {
-        aliases.iter().any(|alias| self.is_anothers(alias, id))
+        aliases.iter().any(|alias| self.is_of_another(alias, id))
     }
 }
 
 /// Takes the aliases of the endpoint, if there is one, out of the map.
-fn forget_aliases_of(owners: &mut HashMap<Dialled, u32>, endpoint: Option<&Endpoint>)
-    ensures forgets { Forgets owners.old.entries owners.new.entries
+fn forget_aliases_of(alias_numbers: &mut HashMap<Dialled, u32>, endpoint: Option<&Endpoint>)
+    ensures forgets { Forgets alias_numbers.old.entries alias_numbers.new.entries
         (aliases_of (option_copied endpoint.entry)) }
-    ensures room { spare owners.old ≤ spare owners.new }
+    ensures room { spare alias_numbers.old ≤ spare alias_numbers.new }
 {
     if let Some(endpoint) = endpoint {
-        forget(owners, endpoint.aliases());
+        forget(alias_numbers, endpoint.aliases());
     }
 }
 
 /// Makes the aliases of the endpoint, if there is one, lead to this number. The map has room for
 /// them.
-fn lead_aliases_of(owners: &mut HashMap<Dialled, u32>, endpoint: Option<&Endpoint>, number: u32)
-    requires room { length (aliases_of (option_copied endpoint)) ≤ spare owners.old }
-    ensures { LeadTo owners.old.entries owners.new.entries
+fn lead_aliases_of(
+    alias_numbers: &mut HashMap<Dialled, u32>,
+    endpoint: Option<&Endpoint>,
+    number: u32,
+)
+    requires room { length (aliases_of (option_copied endpoint)) ≤ spare alias_numbers.old }
+    ensures { LeadTo alias_numbers.old.entries alias_numbers.new.entries
         (aliases_of (option_copied endpoint.entry)) number }
 {
     if let Some(endpoint) = endpoint {
-        lead(owners, endpoint.aliases(), number);
+        lead(alias_numbers, endpoint.aliases(), number);
     }
 }
 
 /// Takes these aliases out of the map.
-fn forget(owners: &mut HashMap<Dialled, u32>, aliases: &[Dialled])
-    ensures forgets { Forgets owners.old.entries owners.new.entries aliases.now }
-    ensures room { spare owners.old ≤ spare owners.new }
+fn forget(alias_numbers: &mut HashMap<Dialled, u32>, aliases: &[Dialled])
+    ensures forgets { Forgets alias_numbers.old.entries alias_numbers.new.entries aliases.now }
+    ensures room { spare alias_numbers.old ≤ spare alias_numbers.new }
 {
     for alias in aliases {
-        let _ = owners.remove(alias);
+        let _ = alias_numbers.remove(alias);
     }
 }
 
 /// Makes these aliases lead to this number. The map has room for them.
-fn lead(owners: &mut HashMap<Dialled, u32>, aliases: &[Dialled], number: u32)
-    requires room { length aliases.now ≤ spare owners.old }
-    ensures { LeadTo owners.old.entries owners.new.entries aliases.now number }
+fn lead(alias_numbers: &mut HashMap<Dialled, u32>, aliases: &[Dialled], number: u32)
+    requires room { length aliases.now ≤ spare alias_numbers.old }
+    ensures { LeadTo alias_numbers.old.entries alias_numbers.new.entries aliases.now number }
 {
     for alias in aliases {
-        let inserted: Result<_, _> = owners.insert(*alias, number);
+        let inserted: Result<_, _> = alias_numbers.insert(*alias, number);
         let _ = inserted.unwrap();
     }
 }

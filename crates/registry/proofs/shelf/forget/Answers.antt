@@ -12,6 +12,7 @@ loop-alias-preserved c =
           c.remove.ensures.updates.0 alias
           ∙ ap (cond (bytes_eq next alias) None) (c.loop-alias.invariant.forgets alias)
           ∙ listed_more c.args.aliases.now c.loop-alias.alias-index next alias None
-          (number_of_alias c.args.owners.now.entries alias) c.loop-alias-test.true c.alias-item.is;
+          (number_of_alias c.args.alias_numbers.now.entries alias) c.loop-alias-test.true
+          c.alias-item.is;
       room = omega (arith, c.loop-alias.invariant.room, c.remove.ensures.spare);
     }

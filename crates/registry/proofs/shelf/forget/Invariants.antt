@@ -5,6 +5,7 @@ use Rattle.registry.proofs.shelf.forget.Given as goal
 
 abbrev pub invariant-loop-alias : goal.invariant-loop-alias
 invariant-loop-alias l = record {
-  forgets : Forgets l.fn.owners.entries l.owners.entries (take l.alias-index l.aliases);
-  room : spare l.fn.owners ≤ spare l.owners;
+  forgets : Forgets l.fn.alias_numbers.entries l.alias_numbers.entries (take l.alias-index
+      l.aliases);
+  room : spare l.fn.alias_numbers ≤ spare l.alias_numbers;
 }

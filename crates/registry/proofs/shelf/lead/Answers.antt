@@ -15,6 +15,7 @@ loop-alias-preserved c =
           ∙ ap (cond (bytes_eq next alias) (Some c.args.number))
           (c.loop-alias.invariant.leads_to alias)
           ∙ listed_more c.args.aliases.now c.loop-alias.alias-index next alias (Some c.args.number)
-          (number_of_alias c.args.owners.now.entries alias) c.loop-alias-test.true c.alias-item.is;
+          (number_of_alias c.args.alias_numbers.now.entries alias) c.loop-alias-test.true
+          c.alias-item.is;
       room = omega (arith, c.loop-alias.invariant.room, c.insert-inserted.ensures.spare);
     }

@@ -5,6 +5,7 @@ use Rattle.registry.proofs.shelf.lead.Given as goal
 
 abbrev pub invariant-loop-alias : goal.invariant-loop-alias
 invariant-loop-alias l = record {
-  leads_to : LeadTo l.fn.owners.entries l.owners.entries (take l.alias-index l.aliases) l.number;
-  room : length l.aliases ≤ spare l.owners + l.alias-index;
+  leads_to : LeadTo l.fn.alias_numbers.entries l.alias_numbers.entries (take l.alias-index
+      l.aliases) l.number;
+  room : length l.aliases ≤ spare l.alias_numbers + l.alias-index;
 }

@@ -10,11 +10,13 @@ invariant_of-self c =
     let longer = ap length pushed ∙ length-append c.self.inside.technologies.items _ in
     let room = c.if-len-ge-MOST_TECHNOLOGIES.false in
     let count = c.len.ensures in
-    let free = ap (λ e. has_technology e c.args.prefix) c.self.view_is ∙ sym c.has_technology.ensures
+    let free = ap (λ e. has_technology e c.args.prefix) c.self.view_is ∙ sym
+    c.has_technology.ensures
     ∙ c.if-has_technology.false in
     record {
       technologies = omega (arith, longer, room, count);
       aliases = c.self.invariant.aliases;
-      different_technologies = distinct_more _ _ _ c.self.invariant.different_technologies free pushed;
+      different_technologies = distinct_more _ _ _ c.self.invariant.different_technologies free
+          pushed;
       different_aliases = c.self.invariant.different_aliases;
     }

@@ -9,40 +9,40 @@ pub put_numbered-requires-clause-free : goal.put_numbered-requires-clause-free
 put_numbered-requires-clause-free c =
     let of_all = ap endpoints_of c.self.view_is in
     let entries = c.self.inside.listing.entries in
-    let owners = c.self.inside.owners.entries in
+    let alias_numbers = c.self.inside.alias_numbers.entries in
     copy_free (endpoints_of c.args.self.now) (endpoints_of c.loop-held.copy)
     c.loop-held.held-iterator c.next.new.self c.in_ok-copy.field-0
     c.loop-held.copy.next c.loop-held.invariant
     (c.in-Some.ensures.steps ∙ ap (λ e. e ∷ c.next.new.self)
     (sym (c.in_ok-copy.ensures ∙ c.endpoint.ensures)))
-    (subst HaveDifferentIds of_all (different_ids entries owners c.self.invariant))
-    (subst ShareNoAlias of_all (no_shared_alias entries owners c.self.invariant))
+    (subst HaveDifferentIds of_all (different_ids entries alias_numbers c.self.invariant))
+    (subst ShareNoAlias of_all (no_shared_alias entries alias_numbers c.self.invariant))
 
 pub put_numbered-requires-clause-room : goal.put_numbered-requires-clause-room
 put_numbered-requires-clause-room c =
     let of_all = ap endpoints_of c.self.view_is in
     let entries = c.self.inside.listing.entries in
-    let owners = c.self.inside.owners.entries in
+    let alias_numbers = c.self.inside.alias_numbers.entries in
     copy_room (endpoints_of c.args.self.now) (endpoints_of c.loop-held.copy)
     c.loop-held.held-iterator c.next.new.self c.in_ok-copy.field-0
     c.loop-held.copy.next c.loop-held.invariant
     (c.in-Some.ensures.steps ∙ ap (λ e. e ∷ c.next.new.self)
     (sym (c.in_ok-copy.ensures ∙ c.endpoint.ensures)))
-    (subst HaveDifferentIds of_all (different_ids entries owners c.self.invariant))
-    (subst ShareNoAlias of_all (no_shared_alias entries owners c.self.invariant))
+    (subst HaveDifferentIds of_all (different_ids entries alias_numbers c.self.invariant))
+    (subst ShareNoAlias of_all (no_shared_alias entries alias_numbers c.self.invariant))
     c.requires.few
 
 pub loop-held-preserved : goal.loop-held-preserved
 loop-held-preserved c =
     let of_all = ap endpoints_of c.self.view_is in
     let entries = c.self.inside.listing.entries in
-    let owners = c.self.inside.owners.entries in
+    let alias_numbers = c.self.inside.alias_numbers.entries in
     copy_more (endpoints_of c.args.self.now) (endpoints_of c.loop-held.copy)
     c.loop-held.held-iterator c.next.new.self c.in_ok-copy.field-0
     c.loop-held.copy.next c.loop-held.invariant
     (c.in-Some.ensures.steps ∙ ap (λ e. e ∷ c.next.new.self)
     (sym (c.in_ok-copy.ensures ∙ c.endpoint.ensures)))
-    (subst HaveDifferentIds of_all (different_ids entries owners c.self.invariant))
-    (subst ShareNoAlias of_all (no_shared_alias entries owners c.self.invariant))
+    (subst HaveDifferentIds of_all (different_ids entries alias_numbers c.self.invariant))
+    (subst ShareNoAlias of_all (no_shared_alias entries alias_numbers c.self.invariant))
     (endpoints_of c.put_numbered.new.self) c.put_numbered.new.self.next
     c.in_ok-put_numbered.ensures.ok c.put_numbered.ensures.next

@@ -7,9 +7,11 @@ use Rattle.registry.proofs.shelf.Shelf.len.Goals as goal
 pub returns-clause-different : goal.returns-clause-different
 returns-clause-different c =
     subst HaveDifferentIds (ap endpoints_of c.self.view_is)
-    (different_ids c.self.inside.listing.entries c.self.inside.owners.entries c.self.invariant)
+    (different_ids c.self.inside.listing.entries c.self.inside.alias_numbers.entries
+    c.self.invariant)
 
 pub returns-clause-unshared : goal.returns-clause-unshared
 returns-clause-unshared c =
     subst ShareNoAlias (ap endpoints_of c.self.view_is)
-    (no_shared_alias c.self.inside.listing.entries c.self.inside.owners.entries c.self.invariant)
+    (no_shared_alias c.self.inside.listing.entries c.self.inside.alias_numbers.entries
+    c.self.invariant)

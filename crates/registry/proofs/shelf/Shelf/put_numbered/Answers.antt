@@ -10,23 +10,24 @@ pub invariant_of-self-in_err-number : goal.invariant_of-self-in_err-number
 invariant_of-self-in_err-number c =
     subst (λ r. IsIndexed r.entries c.reserve.new.self.entries) (sym c.in_err-number.ensures.err)
     (indexed-reordered c.self.inside.listing.entries c.reserve.new.self.entries
-    c.self.inside.owners.entries c.self.invariant c.reserve.ensures.entries.2)
+    c.self.inside.alias_numbers.entries c.self.invariant c.reserve.ensures.entries.2)
 
 pub invariant_of-self-2 : goal.invariant_of-self-2
 invariant_of-self-2 c =
     let e = c.args.endpoint in
     let old = c.self.inside.listing in
     let new = c.insert.new.self.entries in
-    let owners = c.reserve.new.self.entries in
-    let rest = c.forget_aliases_of.new.owners.entries in
-    let all = c.lead_aliases_of.new.owners.entries in
+    let alias_numbers = c.reserve.new.self.entries in
+    let rest = c.forget_aliases_of.new.alias_numbers.entries in
+    let all = c.lead_aliases_of.new.alias_numbers.entries in
     let number = c.in_ok-number.number in
-    indexed-insert old new owners rest all e number c.in_ok-number.replaced
-    (indexed-reordered old.entries owners c.self.inside.owners.entries c.self.invariant
+    indexed-insert old new alias_numbers rest all e number c.in_ok-number.replaced
+    (indexed-reordered old.entries alias_numbers c.self.inside.alias_numbers.entries
+    c.self.invariant
     c.reserve.ensures.entries.2)
     c.in_ok-number.ensures.changed
     (ap (λ r. alias_is_taken (endpoints_of r) e) c.self.view_is ∙ c.requires.free)
-    (subst (λ found. Forgets owners rest (aliases_of found))
+    (subst (λ found. Forgets alias_numbers rest (aliases_of found))
     (c.endpoint_in.ensures ∙ c.as_ref.ensures.value) c.forget_aliases_of.ensures.forgets)
     (subst (λ found. LeadTo rest all (aliases_of found) number)
     (c.at_number.ensures ∙ c.in_ok-number.ensures.numbered) c.lead_aliases_of.ensures)

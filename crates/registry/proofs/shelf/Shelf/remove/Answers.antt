@@ -9,12 +9,12 @@ use Rattle.registry.proofs.shelf.Shelf.remove.Goals as goal
 
 pub invariant_of-self : goal.invariant_of-self
 invariant_of-self c =
-    let owners = c.self.inside.owners.entries in
-    let rest = c.forget_aliases_of.new.owners.entries in
+    let alias_numbers = c.self.inside.alias_numbers.entries in
+    let rest = c.forget_aliases_of.new.alias_numbers.entries in
     let changed = c.remove-removed.ensures.changed in
-    indexed-remove c.self.inside.listing c.remove-removed.new.self.entries owners rest
+    indexed-remove c.self.inside.listing c.remove-removed.new.self.entries alias_numbers rest
     c.args.id.now changed.0 c.remove-removed.result c.self.invariant changed.1
-    (subst (λ found. Forgets owners rest (aliases_of found))
+    (subst (λ found. Forgets alias_numbers rest (aliases_of found))
     (c.endpoint_in.ensures ∙ c.as_ref.ensures.value) c.forget_aliases_of.ensures.forgets)
     c.remove-removed.ensures.entries.unique
 

@@ -1,0 +1,53 @@
+-- The past reloads of a record, as one more is past and one more text may be known.
+use Rattle.std.proofs.Common.{◌≡◌, List, [], ◌∷◌, ◌++◌, map, refl, ap, ◌∙◌, arith}
+use Rattle.std.specs.Option.{unwrap_or}
+use Rattle.pieces.specs.Pieces.{PiecesParts}
+use Rattle.command_reader.specs.declared.commands.Command.{Command}
+use Rattle.rulings.specs.Events.{Reloading}
+use Rattle.decision_record.specs.History.{PlainEntry}
+use Rattle.decision_record.specs.declared.reloads.PastConfiguration.{PastConfiguration}
+use Rattle.decision_record.specs.declared.reloads.PastConfiguration.TheVariants as past
+use Rattle.decision_record.specs.declared.reloads.PastReload.{PastReload}
+use Rattle.decision_record.specs.Reloads.{ArePlaced, IsPlaced, KeepsTexts, commands_past, plain_past}
+
+module _ (old new : PiecesParts (List Command)) (keeps : KeepsTexts old new) where
+  -- one that was past says what it said
+  placed_still : (c : PastConfiguration) → IsPlaced old.items c → IsPlaced new.items c
+  placed_still (past.Lines place) within = let more = keeps.more in omega (arith, within, more)
+  placed_still (past.Commands commands) within = tt
+  placed_still (past.Tables tables) within = tt
+
+  said_still : (c : PastConfiguration) → IsPlaced old.items c
+      → commands_past new.items c ≡ commands_past old.items c
+  said_still (past.Lines place) within = ap (λ found. unwrap_or found []) (keeps.kept place within)
+  said_still (past.Commands commands) within = refl
+  said_still (past.Tables tables) within = refl
+
+  told_still : (r : PastReload) → IsPlaced old.items r.configuration
+      → plain_past new.items r ≡ plain_past old.items r
+  told_still r within =
+      ap (λ commands. entry commands) (said_still r.configuration within)
+    where
+      entry : List Command → PlainEntry
+      entry commands = record {
+        event = Reloading commands;
+        reply = r.reply;
+        zone = r.zone;
+        route = r.route;
+      }
+
+  -- one more is past
+  pub placed_more : (reloads : List PastReload) (last : PastReload) → ArePlaced old.items reloads
+      → IsPlaced new.items last.configuration → ArePlaced new.items (reloads ++ last ∷ [])
+  placed_more [] last placed within = (within, tt)
+  placed_more (r ∷ rs) last placed within =
+      (placed_still r.configuration placed.0, placed_more rs last placed.1 within)
+
+  pub told_more : (reloads : List PastReload) (last : PastReload) (e : PlainEntry)
+      → ArePlaced old.items reloads → plain_past new.items last ≡ e
+      → map (plain_past new.items) (reloads ++ last ∷ [])
+      ≡ map (plain_past old.items) reloads ++ e ∷ []
+  told_more [] last e placed said = ap (λ f. f ∷ []) said
+  told_more (r ∷ rs) last e placed said =
+      ap (λ f. f ∷ map (plain_past new.items) (rs ++ last ∷ [])) (told_still r placed.0)
+      ∙ ap (λ fs. plain_past old.items r ∷ fs) (told_more rs last e placed.1 said)
