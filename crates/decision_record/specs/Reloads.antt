@@ -38,12 +38,14 @@ place_of (past.Tables tables) = None
 abbrev pub IsPlaced : Texts → PastConfiguration → Type 0
 IsPlaced texts configuration = IfSome (place_of configuration) (λ place. place < length texts)
 
--- each text that was known has its place still, and of the room one place may be taken
+-- each text that was known has its place still; at most one place of the room is taken, and none
+-- is added
 pub record KeepsTexts (old new : PiecesParts (List Command)) : Type 0 where
   pub kept : (place : ℕ) → place < length old.items
       → slice_get new.items place ≡ slice_get old.items place
   pub more : length old.items ≤ length new.items
   pub room : old.room ≤ new.room + 1
+  pub most : new.room ≤ old.room
 
 -- those that are
 abbrev pub commands_last : LastReload → List Command

@@ -1,6 +1,6 @@
 //! Lines of configurations that are kept once.
 
-ghost use Rattle.std.specs.Prelude.{◌≡◌, ◌<◌, ◌≤◌, ◌+◌, [], true, length, slice_get, Some, IfSome, OnOk};
+ghost use Rattle.std.specs.Prelude.{◌≡◌, ◌<◌, ◌≤◌, ◌+◌, [], true, length, slice_get, Some, IfSome, OnOk, OnErr};
 ghost use Rattle.pieces.specs.declared.list.TheConstants.{PIECE_ITEMS};
 ghost use Rattle.decision_record.specs.Reloads.{KeepsTexts};
 
@@ -52,10 +52,10 @@ impl KnownText {
     }
 }
 
-/// The lines of past configurations, so that lines that come again are kept once: if the same text,
-/// byte by byte, is among the last 16. No contract says that any are shared, since that only saves
-/// memory. A contract sees what the texts say, in order, and for how many further ones there is
-/// room without memory.
+/// The lines of past configurations. Lines that come again are not kept again if the same text,
+/// byte by byte, is among the 16 that were kept last. No contract says that any are shared, since
+/// that only saves memory. A contract sees what the texts say, in order, and for how many further
+/// ones there is room without memory.
 #[derive(Drop)]
 pub struct KnownLines {
     texts: Pieces<KnownText>,
@@ -98,6 +98,9 @@ impl KnownLines {
         ensures texts { self.new.items ≡ self.old.items }
         ensures room { self.old.room ≤ self.new.room }
         ensures ok { OnOk result (places ≤ self.new.room) }
+        ensures still { places ≤ self.old.room → self.new ≡ self.old }
+        ensures most { OnOk result (self.new.room ≤ self.old.room + PIECE_ITEMS) }
+        ensures err { OnErr result ((self.new ≡ self.old) × (self.old.room < places)) }
     {
         self.texts.reserve(places)
     }

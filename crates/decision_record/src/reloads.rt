@@ -1,6 +1,6 @@
 //! The reloads of a record.
 
-ghost use Rattle.std.specs.Prelude.{◌≡◌, ◌<◌, ◌≤◌, ◌+◌, ◌++◌, ◌∷◌, [], Some, None, length, slice_get, option_map, OnOk};
+ghost use Rattle.std.specs.Prelude.{◌≡◌, ◌<◌, ◌≤◌, ◌+◌, ◌++◌, ◌∷◌, [], Some, None, length, slice_get, option_map, OnOk, OnErr};
 ghost use Rattle.std.specs.Arc.{arc_value};
 ghost use Rattle.pieces.specs.declared.list.TheConstants.{PIECE_ITEMS};
 ghost use Rattle.decision_record.specs.History.{plain_entry, commands_reloaded};
@@ -215,13 +215,15 @@ impl Reloads {
         }
     }
 
-    /// Makes room for this many further reloads. If memory runs out, nothing changes.
+    /// Makes room for this many further reloads. If memory runs out, the entries stay; one of the
+    /// two lists may have got room.
     pub fn reserve(&mut self, places: usize) -> Result<(), AllocError>
         requires near { places ≤ self.old.room + PIECE_ITEMS }
         ensures entries { self.new.entries ≡ self.old.entries }
         ensures last { self.new.last ≡ self.old.last }
         ensures room { self.old.room ≤ self.new.room }
         ensures ok { OnOk result (places ≤ self.new.room) }
+        ensures err { OnErr result (self.old.room < places) }
     {
         self.known.reserve(places)?;
         self.past.reserve(places)
@@ -233,6 +235,7 @@ impl Reloads {
         ensures entries { self.new.entries ≡ self.old.entries ++ plain_last reload ∷ [] }
         ensures last { self.new.last ≡ Some (commands_last reload) }
         ensures room { self.old.room ≤ self.new.room + 1 }
+        ensures most { self.new.room ≤ self.old.room }
     {
         if let Some(before) = mem::replace(&mut self.last, Some(reload)) {
             self.past.push(before.past(&mut self.known));

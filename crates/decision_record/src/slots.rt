@@ -81,7 +81,7 @@ pub enum WideSlot {
     },
 }
 
-// What docs/DECISIONS.md says of the size of a record.
+// The sizes that docs/DECISIONS.md states.
 const _: () = prove!(size_of::<RoutedAdmission>() == 92);
 
 const _: () = prove!(size_of::<RefusedAdmission>() == 68);

@@ -1,7 +1,6 @@
 //! The events that the requests of endpoints ask a core for.
 //!
-//! What is large is lent to these functions, and they are never inlined: else the compiler takes
-//! each name apart and puts it together again.
+//! What is large is lent to these functions.
 
 ghost use Rattle.std.specs.Prelude.{◌≡◌};
 ghost use Rattle.rulings.specs.Events.{plain, Unregistering, Admitting, Changing, Releasing};
@@ -10,7 +9,6 @@ use admission::Event;
 use gk_terms::{Dialled, Name, Units};
 
 /// An endpoint asks to be unregistered.
-#[inline(never)]
 pub(crate) fn unregistration(id: &Name) -> Event
     ensures { plain result ≡ Unregistering id.now }
 {
@@ -18,7 +16,6 @@ pub(crate) fn unregistration(id: &Name) -> Event
 }
 
 /// An endpoint asks for a call to what it dialled.
-#[inline(never)]
 pub(crate) fn admission(id: &Name, call: u32, digits: &Dialled, units: Units) -> Event
     ensures { plain result ≡ Admitting id.now call digits.now units }
 {
@@ -31,7 +28,6 @@ pub(crate) fn admission(id: &Name, call: u32, digits: &Dialled, units: Units) ->
 }
 
 /// An endpoint asks for another bandwidth of an open call.
-#[inline(never)]
 pub(crate) fn change(id: &Name, call: u32, units: Units) -> Event
     ensures { plain result ≡ Changing id.now call units }
 {
@@ -43,7 +39,6 @@ pub(crate) fn change(id: &Name, call: u32, units: Units) -> Event
 }
 
 /// An endpoint asks to be released from an open call.
-#[inline(never)]
 pub(crate) fn release(id: &Name, call: u32) -> Event
     ensures { plain result ≡ Releasing id.now call }
 {
