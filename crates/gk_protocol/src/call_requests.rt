@@ -16,7 +16,6 @@ use gk_terms::words::Words;
 use std::alloc::Global;
 
 /// Answers `ARQ seq id call digits units`, after its first word, or gives back its first fault.
-#[inline(never)]
 pub(crate) fn admit<A: Answerer>(
     alloc: Global,
     words: &mut Words<'_>,
@@ -43,7 +42,6 @@ pub(crate) fn admit<A: Answerer>(
 }
 
 /// Answers `BRQ seq id call units`, after its first word, or gives back its first fault.
-#[inline(never)]
 pub(crate) fn change<A: Answerer>(
     alloc: Global,
     words: &mut Words<'_>,
@@ -69,7 +67,6 @@ pub(crate) fn change<A: Answerer>(
 }
 
 /// Answers `DRQ seq id call`, after its first word, or gives back its first fault.
-#[inline(never)]
 pub(crate) fn release<A: Answerer>(
     alloc: Global,
     words: &mut Words<'_>,

@@ -73,7 +73,6 @@ impl From<RequestFault> for NoRequest {
 
 /// Answers `RRQ seq KIND id zone addr [e164=D] [tech=P] ..`, after its first word, or gives back
 /// its first fault.
-#[inline(never)]
 pub(crate) fn register<A: Answerer>(
     alloc: Global,
     words: &mut Words<'_>,
@@ -120,7 +119,6 @@ fn no_memory(sequence: u32, id: Name) -> Answer
 }
 
 /// Answers `URQ seq id`, after its first word, or gives back its first fault.
-#[inline(never)]
 pub(crate) fn unregister<A: Answerer>(
     alloc: Global,
     words: &mut Words<'_>,
@@ -152,7 +150,6 @@ fn bare_endpoint(alloc: Global, words: &mut Words<'_>) -> Result<Endpoint, Reque
 }
 
 /// The endpoint with the aliases and technology prefixes of its options.
-#[inline(never)]
 fn with_options(
     sequence: u32,
     mut endpoint: Endpoint,
