@@ -13,6 +13,7 @@ use Rattle.rulings.specs.declared.replies.ReloadRefusal.TheVariants.{NoMemory}
 use Rattle.rulings.specs.Step.{is_recorded, reload_refusal, count_refusal, state_after, Outcome, outcome_of, step, no_memory_reply_of}
 use Rattle.decision_record.specs.History.{entry_of, IsLegal, replay, CoreParts, RecordParts, in_force, in_force_of, generations_of, state_of, receipt_of, unrecorded_reply, IsRecorded, IsUnrecorded}
 use Rattle.rulings.specs.Ruling.{Ruling}
+use Rattle.decision_record.specs.Slots.{other_entry}
 use Rattle.rulings.specs.declared.replies.Reply.{Reply}
 use Rattle.decision_record.specs.declared.entries.Receipt.{Receipt}
 use Rattle.admission.proofs.VersionLemmas.{all_more}
@@ -64,6 +65,13 @@ step_unrecorded s event free unrecorded =
       recorded = t;
       state = cond t (state_after s event (ruling_of s event)) s;
     }) unrecorded
+
+-- what is recorded of a reload
+pub reload_entry : (s : State) (commands : List Command) (reply : Reply)
+    → reply ≡ (ruling_of s (Reloading commands)).verdict
+    → other_entry (Reloading commands) reply ≡ entry_of s (Reloading commands)
+unfolding ruling_of
+reload_entry s commands reply is = ap (other_entry (Reloading commands)) is
 
 module _ (machine : State) (event : PlainEvent) (core : CoreParts)
     (same : machine ≡ state_of core) where
@@ -247,6 +255,15 @@ module _ (machine : MachineParts) (history : RecordParts) (reserved : Bool)
   unfolding ruling_of count_refusal
   counted found given is =
       ap (λ (r : Ruling). reload_refusal (bare machine) r.effect) (sym given) ∙ is
+
+  -- what is ruled by the machine is ruled by the state
+  pub reload_ruled : ruling ≡ reload_ruling (bare machine)
+      → ruling ≡ ruling_of (state_of core) (Reloading commands)
+  unfolding ruling_of
+  reload_ruled given =
+      given
+      ∙ ap (λ s. ruling_of s (Reloading commands))
+      (stands_as machine history reserved kept core same)
 
   recorded_verdict : is_recorded (verdict_of (state_for machine history) (Reloading commands))
       ≡ true

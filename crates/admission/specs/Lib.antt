@@ -1,3 +1,4 @@
 pub mod CoreInvariant
 pub mod HistoryLaws
+pub mod Replying
 pub mod RouteLaws

@@ -223,19 +223,13 @@ impl Core {
     }
 
     /// Answers an event as `answer` does, for a caller that keeps no receipt.
-    #[inline(never)]
     pub fn reply(&mut self, event: Event) -> Reply
         ensures reply { MayReply self.old (Events.plain event) result self.new }
         ensures reserved { self.old.reserved ≡ true → IsSome (put_in_force (Events.plain event))
             → (step (state_of self.old) (Events.plain event)).recorded ≡ true
             → self.new ≡ with_entry self.old (Events.plain event) }
     {
-        // As `reply_by` does, which would have the event copied: an event is large.
-        if event.is_of_names_alone() {
-            self.reply_lent(None, &event)
-        } else {
-            self.reply_owned(event)
-        }
+        self.reply_by(None, event)
     }
 
     /// What the tables in force say of the digits.

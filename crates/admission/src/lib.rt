@@ -3,13 +3,15 @@
 
 mod answering;
 pub mod cores;
+mod entering;
 pub mod laws;
+mod replying;
 mod settling;
 
 pub use cores::{Core, OpeningFault};
 pub use decision_record::{Entry, EntryEvent, Receipt, Record, ReloadedCommands};
 pub use rulings::{
-    AdmitRefusal, ChangeRefusal, Destination, Duplicate, Event, EventKind, Limits, RegisterRefusal,
-    ReleaseRefusal, ReloadRefusal, Reply, Route, RouteRefusal, STATED_LIMITS, UnregisterRefusal,
-    route,
+    AdmitRefusal, ChangeRefusal, Destination, DestinationKind, Duplicate, Event, EventKind,
+    LentRuling, Limits, RegisterRefusal, ReleaseRefusal, ReloadRefusal, Reply, ReplyTaker, Route,
+    RouteRefusal, STATED_LIMITS, UnregisterRefusal, route,
 };

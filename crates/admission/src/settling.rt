@@ -1,7 +1,7 @@
 //! What is done for an event that no count refuses, before its entry is put: room and effect.
 
 ghost use Rattle.std.specs.Prelude.{◌≡◌, ◌≤◌, ◌<◌, ◌+◌, ◌^◌, true, false, None, length, OnOk, OnErr, IfOk, IsOk};
-ghost use Rattle.rulings.specs.Events.{plain};
+ghost use Rattle.rulings.specs.Events.{event_meant};
 ghost use Rattle.rulings.specs.Ruling.{ruling_of};
 ghost use Rattle.rulings.specs.State.{under};
 ghost use Rattle.rulings.specs.Step.{count_refusal, is_recorded, state_after, places_needed};
@@ -10,7 +10,7 @@ ghost use Rattle.admission.specs.HistoryLaws.{IsWithinLimits};
 ghost use Rattle.rulings.specs.Founded.{IsUnder, IsFallible, takes_memory};
 
 use decision_record::Record;
-use rulings::{Effect, Event, Machine};
+use rulings::{Effect, LentEvent, Machine};
 use std::alloc::AllocError;
 
 #[tactic(auto, unfolding(rulings::specs::Step::state_after))]
@@ -21,25 +21,25 @@ use std::alloc::AllocError;
 pub(crate) fn prepare(
     history: &mut Record,
     machine: &mut Machine,
-    event: &Event,
+    event: &LentEvent<'_>,
     effect: &Effect,
     reserved: usize,
 ) -> Result<u32, AllocError>
     requires ruled { effect.now ≡ (ruling_of (under (in_force history.old) machine.old)
-        (plain event.now)).effect }
+        (event_meant event.now)).effect }
     requires recordable { count_refusal (under (in_force history.old) machine.old)
-        (plain event.now) (ruling_of (under (in_force history.old) machine.old)
-        (plain event.now)) ≡ None }
+        (event_meant event.now) (ruling_of (under (in_force history.old) machine.old)
+        (event_meant event.now)) ≡ None }
     requires recorded { is_recorded (ruling_of (under (in_force history.old) machine.old)
-        (plain event.now)).verdict ≡ true }
+        (event_meant event.now)).verdict ≡ true }
     requires kept { length machine.old.calls + reserved ≤ history.old.kept }
     requires one { reserved ≤ 1 }
     requires counted { machine.old.records ≡ length history.old.entries }
     requires within { IsWithinLimits (under (in_force history.old) machine.old) }
     ensures number { IfOk result (λ number. number ≡ machine.old.records + 1) }
     ensures state { OnOk result (IsUnder machine.new
-        (state_after (under (in_force history.old) machine.old) (plain event.now)
-        (ruling_of (under (in_force history.old) machine.old) (plain event.now)))) }
+        (state_after (under (in_force history.old) machine.old) (event_meant event.now)
+        (ruling_of (under (in_force history.old) machine.old) (event_meant event.now)))) }
     ensures entries { OnOk result (history.new.entries ≡ history.old.entries) }
     ensures opening { OnOk result (history.new.opening ≡ history.old.opening) }
     ensures few { OnOk result (length history.new.entries < 2 ^ 32) }
@@ -47,7 +47,7 @@ pub(crate) fn prepare(
     ensures kept { OnOk result (history.new.kept + reserved
         ≡ history.old.kept + places_needed effect.now) }
     ensures err { OnErr result ((machine.new ≡ machine.old) × (history.new ≡ history.old)
-        × IsFallible (plain event.now)) }
+        × IsFallible (event_meant event.now)) }
     ensures unfailing { takes_memory effect.now ≡ false
         → places_needed effect.now ≤ reserved → IsOk result }
 {

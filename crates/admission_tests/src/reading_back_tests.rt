@@ -18,7 +18,7 @@ fn entries_with_short_names_are_kept_in_few_bytes(rt: HostRuntime) -> Result<(),
 fn assert_kept(rt: &impl Abort, alloc: Global, core: &mut Core) -> Result<(), Fail> {
     assert!(rt; are_twelve_recorded(core, alloc)?);
     for number in 1..=12 {
-        let want = number <= 5 || number == 12;
+        let want = number <= 6 || number == 12;
         let is_brief = is_brief(core.record(), number);
         assert!(rt; is_brief == Some(want), "entry {number}");
     }

@@ -8,6 +8,7 @@ use Rattle.decision_record.specs.History.{PlainEntry}
 use Rattle.decision_record.specs.declared.reloads.PastConfiguration.{PastConfiguration}
 use Rattle.decision_record.specs.declared.reloads.PastConfiguration.TheVariants as past
 use Rattle.decision_record.specs.declared.reloads.PastReload.{PastReload}
+use Rattle.decision_record.specs.Slots.{other_entry}
 use Rattle.decision_record.specs.Reloads.{ArePlaced, IsPlaced, KeepsTexts, commands_past, plain_past}
 
 module _ (old new : PiecesParts (List Command)) (keeps : KeepsTexts old new) where
@@ -26,15 +27,7 @@ module _ (old new : PiecesParts (List Command)) (keeps : KeepsTexts old new) whe
   told_still : (r : PastReload) → IsPlaced old.items r.configuration
       → plain_past new.items r ≡ plain_past old.items r
   told_still r within =
-      ap (λ commands. entry commands) (said_still r.configuration within)
-    where
-      entry : List Command → PlainEntry
-      entry commands = record {
-        event = Reloading commands;
-        reply = r.reply;
-        zone = r.zone;
-        route = r.route;
-      }
+      ap (λ commands. other_entry (Reloading commands) r.reply) (said_still r.configuration within)
 
   -- one more is past
   pub placed_more : (reloads : List PastReload) (last : PastReload) → ArePlaced old.items reloads

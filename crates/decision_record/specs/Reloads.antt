@@ -7,6 +7,7 @@ use Rattle.command_reader.specs.declared.commands.Command.{Command}
 use Rattle.pieces.specs.Pieces.{PiecesParts}
 use Rattle.rulings.specs.Events.{Reloading}
 use Rattle.decision_record.specs.History.{PlainEntry}
+use Rattle.decision_record.specs.Slots.{other_entry}
 use Rattle.decision_record.specs.declared.reloads.PastConfiguration.{PastConfiguration}
 use Rattle.decision_record.specs.declared.reloads.PastConfiguration.TheVariants as past
 use Rattle.decision_record.specs.declared.reloads.PastReload.{PastReload}
@@ -53,20 +54,11 @@ commands_last reload = (arc_value reload.tables).commands
 
 -- the values of their entries
 abbrev pub plain_past : Texts → PastReload → PlainEntry
-plain_past texts reload = record {
-  event = Reloading (commands_past texts reload.configuration);
-  reply = reload.reply;
-  zone = reload.zone;
-  route = reload.route;
-}
+plain_past texts reload =
+    other_entry (Reloading (commands_past texts reload.configuration)) reload.reply
 
 abbrev pub plain_last : LastReload → PlainEntry
-plain_last reload = record {
-  event = Reloading (commands_last reload);
-  reply = reload.reply;
-  zone = reload.zone;
-  route = reload.route;
-}
+plain_last reload = other_entry (Reloading (commands_last reload)) reload.reply
 
 -- the entries in order
 abbrev pub reloads_told : Texts → List PastReload → Option LastReload → List PlainEntry

@@ -5,7 +5,7 @@ use Rattle.bandwidth.specs.declared.over.Over.{Over}
 use Rattle.bandwidth.specs.declared.over.Over.TheVariants as over
 use Rattle.gk_terms.specs.Address.{AddressParts}
 use Rattle.registry.specs.Endpoint.{EndpointParts}
-use Rattle.rulings.specs.Events.{PlainEvent, Registering, Admitting, Changing, Releasing, Unregistering, endpoint_asking}
+use Rattle.rulings.specs.Events.{PlainEvent, Registering, Admitting, Changing, Releasing, Unregistering}
 use Rattle.decision_record.specs.History.{PlainEntry}
 use Rattle.decision_record.specs.declared.slot_parts.Asked.{Asked}
 use Rattle.rulings.specs.declared.replies.AdmitRefusal.{AdmitRefusal}
@@ -133,10 +133,6 @@ other_entry event replied =
 abbrev pub register_entry : ShortReply → EndpointParts → PlainEntry
 register_entry replied endpoint =
     other_entry (Registering endpoint) (register_reply replied endpoint.id endpoint.zone)
-
--- of an event, if it is a registration whose names in the reply are those that it gave
-abbrev pub registration_meant : ShortReply → PlainEvent → Option PlainEntry
-registration_meant replied event = option_map (register_entry replied) (endpoint_asking event)
 
 -- of a slot that is no admission; these are the endpoints that asked to be registered
 abbrev pub brief_entry : List EndpointParts → BriefSlot → Option PlainEntry

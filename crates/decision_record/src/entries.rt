@@ -17,11 +17,10 @@ use std::borrow::Cow;
 /// What was asked, as the record keeps it.
 #[derive(Drop)]
 pub enum EntryEvent<'a> {
-    /// An event other than a reload; a registration only if its ID or its zone has more than 19
-    /// characters, or if the reply names another zone.
+    /// An event other than a reload; a registration only if the reply names another zone than the
+    /// endpoint does.
     Asked(Cow<'a, Event>),
-    /// An endpoint with shorter names asked to be registered, in the zone that the reply names, if
-    /// it names one.
+    /// An endpoint asked to be registered, in the zone that the reply names, if it names one.
     Registration(&'a BriefEndpoint),
     /// A reload of these commands.
     Reload(ReloadedCommands<'a>),

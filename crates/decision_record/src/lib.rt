@@ -19,5 +19,6 @@ mod told;
 
 pub use entries::{Entry, EntryEvent, Receipt, ReloadedCommands};
 pub use record::Record;
+pub use slot_parts::ShortReply;
 pub use slots::Slot;
 pub use told::Told;

@@ -1,7 +1,7 @@
 //! What was ruled on an event, put into few bytes.
 
 ghost use Rattle.std.specs.Prelude.{◌≡◌, ◌≢◌, [], Some, None, IfSome, IfNone};
-ghost use Rattle.rulings.specs.Events.{plain, Registering, Unregistering, Admitting, Changing, Releasing};
+ghost use Rattle.rulings.specs.Events.{event_meant, Registering, Unregistering, Admitting, Changing, Releasing};
 ghost use Rattle.rulings.specs.declared.replies.Reply.TheVariants as Reply;
 ghost use Rattle.decision_record.specs.History.{entry_by};
 ghost use Rattle.rulings.specs.Lent.{destination_meant, ruling_meant};
@@ -15,66 +15,51 @@ use crate::slots::{BriefSlot, RefusedAdmission, RoutedAdmission, Slot, WideSlot}
 use bandwidth::Over;
 use gk_terms::{Dialled, Name, Units};
 use registry::Endpoint;
-use rulings::{ChangeRefusal, DestinationKind, Event, LentRuling};
+use rulings::{ChangeRefusal, DestinationKind, LentEvent, LentRuling};
 use short_texts::{PackedDigits, ShortName};
 
 impl Slot {
     /// What was ruled on the event, in few bytes; nothing of a registration, of a reload, or if a
     /// name is too long for it.
     #[inline(never)]
-    pub fn of(event: &Event, ruling: &LentRuling<'_>) -> Option<Slot>
+    pub fn of(event: &LentEvent<'_>, ruling: &LentRuling<'_>) -> Option<Slot>
         ensures { IfSome result (λ slot. Spec.entry_meant [] [] [] slot
-            ≡ Some (entry_by (plain event.now) (ruling_meant ruling.now))) }
+            ≡ Some (entry_by (event_meant event.now) (ruling_meant ruling.now))) }
     {
         match event {
-            Event::Register(_) | Event::Reload(_) => None,
-            Event::Unregister { id } => unregistration(id, ruling),
-            Event::Admit {
+            LentEvent::Register(_) | LentEvent::Reload(_) => None,
+            LentEvent::Unregister { id } => unregistration(id, ruling),
+            LentEvent::Admit {
                 id,
                 call,
                 digits,
                 units,
             } => admission(id, *call, digits, *units, ruling),
-            Event::Change { id, call, units } => change(id, *call, *units, ruling),
-            Event::Release { id, call } => release(id, *call, ruling),
+            LentEvent::Change { id, call, units } => change(id, *call, *units, ruling),
+            LentEvent::Release { id, call } => release(id, *call, ruling),
         }
     }
 }
 
 impl ShortReply {
-    /// The reply to the event, if it is a registration and the names in the reply are those of the
-    /// endpoint that asked: nothing only if no short reply tells the entry.
-    pub fn of(event: &Event, ruling: &LentRuling<'_>) -> Option<ShortReply>
-        ensures told { IfSome result (λ replied. Spec.registration_meant replied (plain event.now)
-            ≡ Some (entry_by (plain event.now) (ruling_meant ruling.now))) }
-        ensures none { IfNone result ((replied : _) → Spec.registration_meant replied
-            (plain event.now) ≢ Some (entry_by (plain event.now) (ruling_meant ruling.now))) }
+    /// The reply to a registration, if the names in it are those of the endpoint that asked:
+    /// nothing only if no short reply tells the entry.
+    pub fn of(endpoint: &Endpoint, ruling: &LentRuling<'_>) -> Option<ShortReply>
+        ensures told { IfSome result (λ replied. Spec.register_entry replied endpoint.now
+            ≡ entry_by (Registering endpoint.now) (ruling_meant ruling.now)) }
+        ensures none { IfNone result ((replied : _) → Spec.register_entry replied endpoint.now
+            ≢ entry_by (Registering endpoint.now) (ruling_meant ruling.now)) }
     {
-        match event {
-            Event::Register(endpoint) => registration(endpoint, ruling),
-            Event::Unregister { .. }
-            | Event::Admit { .. }
-            | Event::Change { .. }
-            | Event::Release { .. }
-            | Event::Reload(_) => None,
+        match ruling {
+            LentRuling::Registered { id, zone }
+                if **id == *endpoint.id() && *zone == *endpoint.zone() => {
+                Some(ShortReply::Granted)
+            }
+            LentRuling::RegisterRefused { id, reason } if **id == *endpoint.id() => {
+                Some(ShortReply::Refused { reason: *reason })
+            }
+            _ => None,
         }
-    }
-}
-
-/// The reply to a registration, if the names in it are those of the endpoint that asked.
-fn registration(endpoint: &Endpoint, ruling: &LentRuling<'_>) -> Option<ShortReply>
-    ensures told { IfSome result (λ replied. Spec.register_entry replied endpoint.now
-        ≡ entry_by (Registering endpoint.now) (ruling_meant ruling.now)) }
-    ensures none { IfNone result ((replied : _) → Spec.register_entry replied endpoint.now
-        ≢ entry_by (Registering endpoint.now) (ruling_meant ruling.now)) }
-{
-    match ruling {
-        LentRuling::Registered { id, zone }
-            if **id == *endpoint.id() && *zone == *endpoint.zone() => { Some(ShortReply::Granted) }
-        LentRuling::RegisterRefused { id, reason } if **id == *endpoint.id() => {
-            Some(ShortReply::Refused { reason: *reason })
-        }
-        _ => None,
     }
 }
 

@@ -22,11 +22,11 @@ use std::sync::Arc;
 /// ones find room without memory: the places that are kept.
 ///
 /// `slots` has one slot for each entry, in the bytes that its kind needs. The endpoint of a
-/// registration stands in `registrations` if its ID and its zone have at most 19 characters and the
-/// reply names no others, and its slot has its place there; the entry of a reload stands in
-/// `reloads`, and its slot has its place there; any other entry that does not fit into a slot
-/// stands whole in `aside`, and its slot has its place there. All four grow piece by piece, so that
-/// no entry but that of the last reload is ever moved, and each has room for every kept place.
+/// registration stands in `registrations` if the reply names no other zone, and its slot has its
+/// place there; the entry of a reload stands in `reloads`, and its slot has its place there; any
+/// other entry that does not fit into a slot stands whole in `aside`, and its slot has its place
+/// there. All four grow piece by piece, so that no entry but that of the last reload is ever moved,
+/// and each has room for every kept place.
 ///
 /// `opening` are the tables that were in force before the first entry. `reloads` owns the tables of
 /// the last reload, so that the tables in force are found at once, and the core needs no second

@@ -1,12 +1,11 @@
 //! How entries are put at the end of a record, in places that were kept.
 
-ghost use Rattle.std.specs.Prelude.{◌≡◌, ◌<◌, ◌≤◌, ◌+◌, ◌-◌, ◌^◌, ◌++◌, ◌∷◌, [], length, OnOk, OnErr, IsSome, None, MatchResult};
+ghost use Rattle.std.specs.Prelude.{◌≡◌, ◌<◌, ◌≤◌, ◌+◌, ◌-◌, ◌^◌, ◌++◌, ◌∷◌, [], length, OnOk, OnErr, IsSome, None};
 ghost use Rattle.std.specs.List.{cons_option};
 ghost use Rattle.rulings.specs.Events.{plain, put_in_force, Reloading};
-ghost use Rattle.decision_record.specs.Reloads.{plain_last};
-ghost use Rattle.decision_record.specs.Slots.{entry_meant, register_entry, registration_meant};
-ghost use Rattle.decision_record.specs.Told.{told_meant};
-ghost use Rattle.decision_record.specs.RecordIndex.{plain_whole, IsRoomier};
+ghost use Rattle.decision_record.specs.Slots.{entry_meant, other_entry, register_entry};
+ghost use Rattle.decision_record.specs.RecordIndex.{IsRoomier};
+ghost use Rattle.decision_record.specs.Told.{told_entry};
 ghost use Rattle.pieces.specs.declared.list.TheConstants.{PIECE_ITEMS};
 ghost use Rattle.std.specs.Arc.{arc_value};
 
@@ -18,10 +17,9 @@ use crate::slot_parts::ShortReply;
 use crate::slots::Slot;
 use crate::told::Told;
 use compiler::Tables;
-use gk_terms::Name;
 use pieces::Pieces;
-use registry::{BriefEndpoint, Endpoint};
-use rulings::{Event, Reply, Route};
+use registry::BriefEndpoint;
+use rulings::{Event, Reply};
 use std::alloc::AllocError;
 use std::sync::Arc;
 
@@ -59,61 +57,60 @@ impl Record {
         self.kept -= places;
     }
 
-    /// Puts at the end, in a place that was kept, the entry of an event that has no slot in few
-    /// bytes, with its reply. It needs no memory: for the lists of an endpoint it asks for smaller
-    /// blocks, and keeps the larger ones if it gets none.
-    #[inline(never)]
-    pub fn push(&mut self, event: Event, reply: &Reply, told: &Told)
+    /// Puts the entry of a registration at the end, in a place that was kept. It takes no memory.
+    pub fn push_registration(&mut self, endpoint: BriefEndpoint, replied: &ShortReply)
         requires kept { 1 ≤ self.old.kept }
         requires few { length self.old.entries < 2 ^ 32 }
-        requires meant { IsSome (told_meant told.now (plain event) reply.now) }
         ensures { self.new ≡ record self.old {
-          entries = self.old.entries
-              ++ cons_option (told_meant told.now (plain event) reply.now) [];
+          entries = self.old.entries ++ register_entry replied.now endpoint ∷ [];
           kept = self.old.kept - 1;
         } }
     {
-        match &told.replied {
-            Some(replied) => self.push_registration(event, replied),
-            None => self.push_event(event, reply, &told.zone, &told.route),
-        }
+        let place = self.registrations.len() as u32;
+        self.slots.push(&Slot::of_registration(replied, place));
+        self.registrations.push(endpoint);
+        self.kept -= 1;
     }
 
-    /// Puts an entry at the end that stands apart from its slot: of a reload among the reloads, and
-    /// any other whole.
-    fn push_event(
-        &mut self,
-        event: Event,
-        reply: &Reply,
-        zone: &Option<Name>,
-        route: &Option<Route>,
-    )
+    /// Puts a whole entry at the end, in a place that was kept: that of an event other than a
+    /// reload. It takes no memory.
+    pub fn push_whole(&mut self, event: Event, told: &Told)
         requires kept { 1 ≤ self.old.kept }
         requires few { length self.old.entries < 2 ^ 32 }
+        requires other { put_in_force (plain event) ≡ None }
         ensures { self.new ≡ record self.old {
-          entries = self.old.entries ++ record {
-            event = plain event;
-            reply = reply.now;
-            zone = zone.now;
-            route = route.now;
-          } ∷ [];
+          entries = self.old.entries ++ told_entry (plain event) told.now ∷ [];
           kept = self.old.kept - 1;
         } }
     {
-        match tables_asked_for(event) {
-            Ok(tables) => self.push_reload(LastReload {
-                tables,
-                reply: *reply,
-                zone: *zone,
-                route: *route,
-            }),
-            Err(event) => self.push_whole(WholeEntry {
-                event,
-                reply: *reply,
-                zone: *zone,
-                route: *route,
-            }),
-        }
+        let place = self.aside.len() as u32;
+        self.slots.push(&Slot::Aside { place });
+        self.aside.push(WholeEntry {
+            event,
+            reply: told.reply,
+            zone: told.zone,
+            route: told.route,
+        });
+        self.kept -= 1;
+    }
+
+    /// Puts the entry of a reload at the end, in a place that was kept. It takes no memory.
+    pub fn push_reloaded(&mut self, tables: Arc<Tables>, reply: &Reply)
+        requires kept { 1 ≤ self.old.kept }
+        requires few { length self.old.entries < 2 ^ 32 }
+        ensures { self.new ≡ record self.old {
+          entries = self.old.entries
+              ++ other_entry (Reloading (arc_value tables).commands) reply.now ∷ [];
+          kept = self.old.kept - 1;
+        } }
+    {
+        let place = self.reloads.len() as u32;
+        self.slots.push(&Slot::Reload { place });
+        self.reloads.push(LastReload {
+            tables,
+            reply: *reply,
+        });
+        self.kept -= 1;
     }
 
     /// Puts an entry at the end in few bytes, in a place that was kept.
@@ -128,115 +125,6 @@ impl Record {
     {
         self.slots.push(slot);
         self.kept -= 1;
-    }
-
-    /// Puts the entry of a registration at the end.
-    fn push_registration(&mut self, event: Event, replied: &ShortReply)
-        requires kept { 1 ≤ self.old.kept }
-        requires few { length self.old.entries < 2 ^ 32 }
-        requires meant { IsSome (registration_meant replied.now (plain event)) }
-        ensures { self.new ≡ record self.old {
-          entries = self.old.entries
-              ++ cons_option (registration_meant replied.now (plain event)) [];
-          kept = self.old.kept - 1;
-        } }
-    {
-        match event {
-            Event::Register(endpoint) => self.push_endpoint(endpoint, replied),
-            Event::Unregister { .. }
-            | Event::Admit { .. }
-            | Event::Change { .. }
-            | Event::Release { .. }
-            | Event::Reload(_) => unreachable!(),
-        }
-    }
-
-    /// Puts the entry of an endpoint that asked to be registered at the end: whole if its ID or its
-    /// zone has more than 19 characters.
-    fn push_endpoint(&mut self, endpoint: Endpoint, replied: &ShortReply)
-        requires kept { 1 ≤ self.old.kept }
-        requires few { length self.old.entries < 2 ^ 32 }
-        ensures { self.new ≡ record self.old {
-          entries = self.old.entries ++ register_entry replied.now endpoint ∷ [];
-          kept = self.old.kept - 1;
-        } }
-    {
-        match BriefEndpoint::of(endpoint) {
-            Ok(endpoint) => self.push_brief_endpoint(endpoint, replied),
-            Err(endpoint) => self.push_whole(replied.whole_entry(endpoint)),
-        }
-    }
-
-    /// Puts an endpoint at the end of the list of registrations, and its place there into a slot.
-    fn push_brief_endpoint(&mut self, endpoint: BriefEndpoint, replied: &ShortReply)
-        requires kept { 1 ≤ self.old.kept }
-        requires few { length self.old.entries < 2 ^ 32 }
-        ensures { self.new ≡ record self.old {
-          entries = self.old.entries ++ register_entry replied.now endpoint ∷ [];
-          kept = self.old.kept - 1;
-        } }
-    {
-        let place = self.registrations.len() as u32;
-        self.slots.push(&Slot::of_registration(replied, place));
-        self.registrations.push(endpoint);
-        self.kept -= 1;
-    }
-
-    /// Puts a reload at the end of the list of reloads, and its place there into a slot.
-    fn push_reload(&mut self, reload: LastReload)
-        requires kept { 1 ≤ self.old.kept }
-        requires few { length self.old.entries < 2 ^ 32 }
-        ensures { self.new ≡ record self.old {
-          entries = self.old.entries ++ plain_last reload ∷ [];
-          kept = self.old.kept - 1;
-        } }
-    {
-        let place = self.reloads.len() as u32;
-        self.slots.push(&Slot::Reload { place });
-        self.reloads.push(reload);
-        self.kept -= 1;
-    }
-
-    /// Puts an entry at the end of the list of whole entries, and its place there into a slot.
-    fn push_whole(&mut self, entry: WholeEntry)
-        requires kept { 1 ≤ self.old.kept }
-        requires few { length self.old.entries < 2 ^ 32 }
-        requires other { put_in_force (plain_whole entry).event ≡ None }
-        ensures { self.new ≡ record self.old {
-          entries = self.old.entries ++ plain_whole entry ∷ [];
-          kept = self.old.kept - 1;
-        } }
-    {
-        let place = self.aside.len() as u32;
-        self.slots.push(&Slot::Aside { place });
-        self.aside.push(entry);
-        self.kept -= 1;
-    }
-}
-
-/// The tables, if the event is a reload; else the event.
-fn tables_asked_for(event: Event) -> Result<Arc<Tables>, Event>
-    ensures { MatchResult result
-        (λ tables. plain event ≡ Reloading (arc_value tables).commands)
-        (λ other. (other ≡ event) × (put_in_force (plain event) ≡ None)) }
-{
-    match event {
-        Event::Register(endpoint) => Err(Event::Register(endpoint)),
-        Event::Unregister { id } => Err(Event::Unregister { id }),
-        Event::Admit {
-            id,
-            call,
-            digits,
-            units,
-        } => Err(Event::Admit {
-            id,
-            call,
-            digits,
-            units,
-        }),
-        Event::Change { id, call, units } => Err(Event::Change { id, call, units }),
-        Event::Release { id, call } => Err(Event::Release { id, call }),
-        Event::Reload(tables) => Ok(tables),
     }
 }
 

@@ -2,15 +2,14 @@
 
 ghost use Rattle.std.specs.Prelude.{◌≡◌, slice_get, option_map};
 ghost use Rattle.decision_record.specs.History.{plain_entry};
-ghost use Rattle.decision_record.specs.RecordIndex.{plain_whole};
 ghost use Rattle.decision_record.specs.Slots as Spec;
 
-use crate::entries::{Entry, EntryEvent, WholeEntry};
+use crate::entries::{Entry, EntryEvent};
 use crate::slot_parts::ShortReply;
 use gk_terms::Name;
 use pieces::Pieces;
-use registry::{BriefEndpoint, Endpoint};
-use rulings::{Event, Reply};
+use registry::BriefEndpoint;
+use rulings::Reply;
 
 impl ShortReply {
     /// The reply to an endpoint of this ID in this zone.
@@ -33,19 +32,6 @@ impl ShortReply {
         Entry {
             event: EntryEvent::Registration(endpoint),
             reply: self.reply(endpoint.id(), endpoint.zone()),
-            zone: None,
-            route: None,
-        }
-    }
-
-    /// The same of an endpoint that is to stand whole.
-    pub fn whole_entry(&self, endpoint: Endpoint) -> WholeEntry
-        ensures { plain_whole result ≡ Spec.register_entry self.now endpoint }
-    {
-        let reply = self.reply(*endpoint.id(), *endpoint.zone());
-        WholeEntry {
-            event: Event::Register(endpoint),
-            reply,
             zone: None,
             route: None,
         }

@@ -10,9 +10,8 @@ use crate::entries::{Entry, EntryEvent, ReloadedCommands};
 use crate::known_lines::KnownLines;
 use command_reader::Commands;
 use compiler::Tables;
-use gk_terms::Name;
 use pieces::Pieces;
-use rulings::{Reply, Route};
+use rulings::Reply;
 use std::alloc::{AllocError, Global};
 use std::marker::Model;
 use std::mem;
@@ -33,8 +32,6 @@ pub enum PastConfiguration {
 pub struct PastReload {
     configuration: PastConfiguration,
     reply: Reply,
-    zone: Option<Name>,
-    route: Option<Route>,
 }
 
 /// The entry of the last reload, whose tables are in force.
@@ -42,8 +39,6 @@ pub struct PastReload {
 pub struct LastReload {
     pub tables: Arc<Tables>,
     pub reply: Reply,
-    pub zone: Option<Name>,
-    pub route: Option<Route>,
 }
 
 /// The entries of reloads in order. A contract sees their values, the commands that the last one
@@ -126,8 +121,8 @@ impl PastReload {
         Entry {
             event: EntryEvent::Reload(self.configuration.commands(known)),
             reply: self.reply,
-            zone: self.zone,
-            route: self.route,
+            zone: None,
+            route: None,
         }
     }
 }
@@ -140,8 +135,8 @@ impl LastReload {
         Entry {
             event: EntryEvent::Reload(ReloadedCommands::Commands(self.tables.commands())),
             reply: self.reply,
-            zone: self.zone,
-            route: self.route,
+            zone: None,
+            route: None,
         }
     }
 
@@ -152,17 +147,10 @@ impl LastReload {
         ensures placed { IsPlaced known.new.items result.configuration }
         ensures kept { KeepsTexts known.old known.new }
     {
-        let LastReload {
-            tables,
-            reply,
-            zone,
-            route,
-        } = self;
+        let LastReload { tables, reply } = self;
         PastReload {
             configuration: PastConfiguration::of(tables, known),
             reply,
-            zone,
-            route,
         }
     }
 }

@@ -1,3 +1,4 @@
+pub mod AnswerLemmas
 pub mod AskedLemmas
 pub mod HandedLemmas
 pub mod LineGroupLemmas

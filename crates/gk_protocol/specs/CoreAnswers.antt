@@ -1,5 +1,5 @@
 -- The answers of a core to requests.
-use Rattle.std.specs.Prelude.{◌≡◌, ◌≢◌, ◌⊎◌, ℕ, Bool, true, false, List, Result, Ok, Err}
+use Rattle.std.specs.Prelude.{◌≡◌, ◌≢◌, ◌⊎◌, ℕ, List, Result, Ok, Err}
 use Rattle.gk_terms.specs.Text.{lines_of}
 use Rattle.command_reader.specs.declared.faults.LineFault.{LineFault}
 use Rattle.command_reader.specs.declared.faults.FaultKind.TheVariants as fault_kind
@@ -55,15 +55,6 @@ IsNoTablesFor fault (none.Faulty other) = (other ≡ fault) × (fault.kind ≢ f
 IsNoTablesFor fault none.NoMemory = fault.kind ≡ fault_kind.NoMemory
 
 -- ---- requests
--- whether it asks for a registration
-abbrev pub is_registration : Request → Bool
-is_registration (Register sequence endpoint) = true
-is_registration (Unregister sequence id) = false
-is_registration (Admit sequence id call digits units) = false
-is_registration (Change sequence id call units) = false
-is_registration (Release sequence id call) = false
-is_registration (Reload sequence lines) = false
-
 -- a core may answer a request so and be the new one after it
 abbrev pub MayAnswer : CoreParts → Request → Answer → CoreParts → Type 0
 MayAnswer old (Register sequence endpoint) answer new =

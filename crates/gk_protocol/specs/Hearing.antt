@@ -28,6 +28,11 @@ LacksOptions (NoMemory sequence id) heard reply =
     (heard ≡ Ok Answered) × (reply ≡ answer_line_of (no_memory_to (sequence, id)))
 
 module _ {S : Type 0} (MayAnswer : S → Request → Answer → S → Type 0) where
+  -- a request may get an answer of which this is the line
+  abbrev pub AnswersInto : S → Request → List ℕ → S → Type 0
+  AnswersInto old request line new =
+      (answer : Answer) × MayAnswer old request answer new × (line ≡ answer_line_of answer)
+
   -- the request that was read is answered, and the reply is the line of its answer
   abbrev pub AnswersRequest : S → Result Request RequestFault → List ℕ → S → Type 0
   AnswersRequest old read reply new =

@@ -3,6 +3,7 @@
 ghost use Rattle.std.specs.Prelude.{◌≡◌, ◌<◌, ◌∷◌, ◌++◌, [], codes, decimal};
 ghost use Rattle.gk_terms.specs.Address.{address_text};
 ghost use Rattle.gk_lines.specs.LineBuffer.{ROOM_BYTES, with_words, line_of_words, room_of};
+ghost use Rattle.rulings.specs.Lent.{destination_meant};
 ghost use Rattle.rulings.specs.Routes as RouteSpec;
 ghost use Rattle.gk_protocol.specs.Answers as Spec;
 
@@ -13,8 +14,8 @@ use crate::refusal_words::{
 };
 use crate::request_faults::RequestFault;
 use admission::{
-    AdmitRefusal, ChangeRefusal, Destination, RegisterRefusal, ReleaseRefusal, ReloadRefusal,
-    Reply, UnregisterRefusal,
+    AdmitRefusal, ChangeRefusal, Destination, DestinationKind, RegisterRefusal, ReleaseRefusal,
+    ReloadRefusal, Reply, UnregisterRefusal,
 };
 use command_reader::LineFault;
 use gk_lines::LineBuffer;
@@ -42,7 +43,7 @@ fn show_words(line: &mut LineBuffer, answer: &Answer)
 }
 
 /// Makes it the words of a core's reply.
-fn show_reply(line: &mut LineBuffer, sequence: u32, reply: &Reply)
+pub(crate) fn show_reply(line: &mut LineBuffer, sequence: u32, reply: &Reply)
     ensures words { line.new ≡ line_of_words (Spec.reply_words sequence reply.now) }
     ensures room { room_of (Spec.reply_words sequence reply.now) < ROOM_BYTES }
 {
@@ -57,10 +58,10 @@ fn show_reply(line: &mut LineBuffer, sequence: u32, reply: &Reply)
             call,
             destination,
             units,
-        } => admitted(line, sequence, *call, destination, *units),
-        Reply::AdmitRefused { call, reason } => admit_refused(line, sequence, *call, *reason),
+        } => admitted_to(line, sequence, *call, destination, *units),
+        Reply::AdmitRefused { call, reason } => admit_refused(line, sequence, *call, reason),
         Reply::Changed { call, units } => changed(line, sequence, *call, *units),
-        Reply::ChangeRefused { call, reason } => change_refused(line, sequence, *call, *reason),
+        Reply::ChangeRefused { call, reason } => change_refused(line, sequence, *call, reason),
         Reply::Released { call } => released(line, sequence, *call),
         Reply::ReleaseRefused { call, reason } => release_refused(line, sequence, *call, *reason),
         Reply::Reloaded { version } => reloaded(line, sequence, *version),
@@ -69,7 +70,7 @@ fn show_reply(line: &mut LineBuffer, sequence: u32, reply: &Reply)
 }
 
 /// `RCF seq id zone`
-fn registered(line: &mut LineBuffer, sequence: u32, id: &Name, zone: &Name)
+pub(crate) fn registered(line: &mut LineBuffer, sequence: u32, id: &Name, zone: &Name)
     ensures words { line.new
         ≡ line_of_words (codes "RCF" ∷ decimal sequence ∷ id.now ∷ zone.now ∷ []) }
     ensures room { room_of (codes "RCF" ∷ decimal sequence ∷ id.now ∷ zone.now ∷ []) < ROOM_BYTES }
@@ -81,7 +82,12 @@ fn registered(line: &mut LineBuffer, sequence: u32, id: &Name, zone: &Name)
 }
 
 /// `RRJ seq id` and why
-fn register_refused(line: &mut LineBuffer, sequence: u32, id: &Name, reason: RegisterRefusal)
+pub(crate) fn register_refused(
+    line: &mut LineBuffer,
+    sequence: u32,
+    id: &Name,
+    reason: RegisterRefusal,
+)
     ensures words { line.new ≡ line_of_words
         (codes "RRJ" ∷ decimal sequence ∷ id.now ∷ Spec.register_refusal_words reason) }
     ensures room { room_of
@@ -95,7 +101,7 @@ fn register_refused(line: &mut LineBuffer, sequence: u32, id: &Name, reason: Reg
 }
 
 /// `UCF seq id`
-fn unregistered(line: &mut LineBuffer, sequence: u32, id: &Name)
+pub(crate) fn unregistered(line: &mut LineBuffer, sequence: u32, id: &Name)
     ensures words { line.new ≡ line_of_words (codes "UCF" ∷ decimal sequence ∷ id.now ∷ []) }
     ensures room { room_of (codes "UCF" ∷ decimal sequence ∷ id.now ∷ []) < ROOM_BYTES }
 {
@@ -105,7 +111,12 @@ fn unregistered(line: &mut LineBuffer, sequence: u32, id: &Name)
 }
 
 /// `URJ seq id` and why
-fn unregister_refused(line: &mut LineBuffer, sequence: u32, id: &Name, reason: UnregisterRefusal)
+pub(crate) fn unregister_refused(
+    line: &mut LineBuffer,
+    sequence: u32,
+    id: &Name,
+    reason: UnregisterRefusal,
+)
     ensures words { line.new ≡ line_of_words
         (codes "URJ" ∷ decimal sequence ∷ id.now ∷ Spec.unregister_refusal_words reason) }
     ensures room { room_of
@@ -118,8 +129,8 @@ fn unregister_refused(line: &mut LineBuffer, sequence: u32, id: &Name, reason: U
     unregister_refusal(line, reason);
 }
 
-/// `ACF seq call DEST units`
-fn admitted(
+/// `ACF seq call DEST units`, to a destination that is a value.
+fn admitted_to(
     line: &mut LineBuffer,
     sequence: u32,
     call: u32,
@@ -131,29 +142,55 @@ fn admitted(
     ensures room { room_of (codes "ACF" ∷ decimal sequence ∷ decimal call
         ∷ RouteSpec.destination_words destination.now ++ decimal units ∷ []) < ROOM_BYTES }
 {
+    let (kind, name, address) = match destination {
+        Destination::Gateway { id, address } => (DestinationKind::Gateway, id, address),
+        Destination::Terminal { id, address } => (DestinationKind::Terminal, id, address),
+        Destination::Zone { name, address } => (DestinationKind::Zone, name, address),
+    };
+    admitted(line, sequence, call, kind, name, address, units);
+}
+
+/// `ACF seq call DEST units`
+pub(crate) fn admitted(
+    line: &mut LineBuffer,
+    sequence: u32,
+    call: u32,
+    kind: DestinationKind,
+    name: &Name,
+    address: &Address,
+    units: Units,
+)
+    ensures words { line.new ≡ line_of_words (codes "ACF" ∷ decimal sequence ∷ decimal call
+        ∷ RouteSpec.destination_words (destination_meant kind name.now address.now)
+        ++ decimal units ∷ []) }
+    ensures room { room_of (codes "ACF" ∷ decimal sequence ∷ decimal call
+        ∷ RouteSpec.destination_words (destination_meant kind name.now address.now)
+        ++ decimal units ∷ []) < ROOM_BYTES }
+{
     line.begin(b"ACF");
     line.number(sequence);
     line.number(call);
-    show_destination(line, destination);
+    show_destination(line, kind, name, address);
     line.number(units.value());
 }
 
 /// `ARJ seq call` and why
-fn admit_refused(line: &mut LineBuffer, sequence: u32, call: u32, reason: AdmitRefusal)
+#[inline(never)]
+pub(crate) fn admit_refused(line: &mut LineBuffer, sequence: u32, call: u32, reason: &AdmitRefusal)
     ensures words { line.new ≡ line_of_words
-        (codes "ARJ" ∷ decimal sequence ∷ decimal call ∷ Spec.admit_refusal_words reason) }
+        (codes "ARJ" ∷ decimal sequence ∷ decimal call ∷ Spec.admit_refusal_words reason.now) }
     ensures room { room_of
-        (codes "ARJ" ∷ decimal sequence ∷ decimal call ∷ Spec.admit_refusal_words reason)
+        (codes "ARJ" ∷ decimal sequence ∷ decimal call ∷ Spec.admit_refusal_words reason.now)
         < ROOM_BYTES }
 {
     line.begin(b"ARJ");
     line.number(sequence);
     line.number(call);
-    admit_refusal(line, reason);
+    admit_refusal(line, *reason);
 }
 
 /// `BCF seq call units`
-fn changed(line: &mut LineBuffer, sequence: u32, call: u32, granted: Units)
+pub(crate) fn changed(line: &mut LineBuffer, sequence: u32, call: u32, granted: Units)
     ensures words { line.new ≡ line_of_words
         (codes "BCF" ∷ decimal sequence ∷ decimal call ∷ decimal granted ∷ []) }
     ensures room { room_of (codes "BCF" ∷ decimal sequence ∷ decimal call ∷ decimal granted ∷ [])
@@ -166,21 +203,27 @@ fn changed(line: &mut LineBuffer, sequence: u32, call: u32, granted: Units)
 }
 
 /// `BRJ seq call` and why
-fn change_refused(line: &mut LineBuffer, sequence: u32, call: u32, reason: ChangeRefusal)
+#[inline(never)]
+pub(crate) fn change_refused(
+    line: &mut LineBuffer,
+    sequence: u32,
+    call: u32,
+    reason: &ChangeRefusal,
+)
     ensures words { line.new ≡ line_of_words
-        (codes "BRJ" ∷ decimal sequence ∷ decimal call ∷ Spec.change_refusal_words reason) }
+        (codes "BRJ" ∷ decimal sequence ∷ decimal call ∷ Spec.change_refusal_words reason.now) }
     ensures room { room_of
-        (codes "BRJ" ∷ decimal sequence ∷ decimal call ∷ Spec.change_refusal_words reason)
+        (codes "BRJ" ∷ decimal sequence ∷ decimal call ∷ Spec.change_refusal_words reason.now)
         < ROOM_BYTES }
 {
     line.begin(b"BRJ");
     line.number(sequence);
     line.number(call);
-    change_refusal(line, reason);
+    change_refusal(line, *reason);
 }
 
 /// `DCF seq call`
-fn released(line: &mut LineBuffer, sequence: u32, call: u32)
+pub(crate) fn released(line: &mut LineBuffer, sequence: u32, call: u32)
     ensures words { line.new
         ≡ line_of_words (codes "DCF" ∷ decimal sequence ∷ decimal call ∷ []) }
     ensures room { room_of (codes "DCF" ∷ decimal sequence ∷ decimal call ∷ []) < ROOM_BYTES }
@@ -191,7 +234,12 @@ fn released(line: &mut LineBuffer, sequence: u32, call: u32)
 }
 
 /// `DRJ seq call` and why
-fn release_refused(line: &mut LineBuffer, sequence: u32, call: u32, reason: ReleaseRefusal)
+pub(crate) fn release_refused(
+    line: &mut LineBuffer,
+    sequence: u32,
+    call: u32,
+    reason: ReleaseRefusal,
+)
     ensures words { line.new ≡ line_of_words
         (codes "DRJ" ∷ decimal sequence ∷ decimal call ∷ Spec.release_refusal_words reason) }
     ensures room { room_of
@@ -205,7 +253,7 @@ fn release_refused(line: &mut LineBuffer, sequence: u32, call: u32, reason: Rele
 }
 
 /// `CCF seq version`
-fn reloaded(line: &mut LineBuffer, sequence: u32, version: Version)
+pub(crate) fn reloaded(line: &mut LineBuffer, sequence: u32, version: Version)
     ensures words { line.new
         ≡ line_of_words (codes "CCF" ∷ decimal sequence ∷ decimal version ∷ []) }
     ensures room { room_of (codes "CCF" ∷ decimal sequence ∷ decimal version ∷ []) < ROOM_BYTES }
@@ -254,14 +302,16 @@ fn malformed(line: &mut LineBuffer, fault: RequestFault)
 }
 
 /// Adds a destination: its kind, its name and its address.
-fn show_destination(line: &mut LineBuffer, destination: &Destination)
-    ensures words { line.new ≡ with_words line.old (RouteSpec.destination_words destination.now) }
-    ensures room { room_of (RouteSpec.destination_words destination.now) < 256 }
+fn show_destination(line: &mut LineBuffer, kind: DestinationKind, name: &Name, address: &Address)
+    ensures words { line.new ≡ with_words line.old
+        (RouteSpec.destination_words (destination_meant kind name.now address.now)) }
+    ensures room { room_of
+        (RouteSpec.destination_words (destination_meant kind name.now address.now)) < 256 }
 {
-    match destination {
-        Destination::Gateway { id, address } => place(line, b"GW", id, address),
-        Destination::Terminal { id, address } => place(line, b"TERM", id, address),
-        Destination::Zone { name, address } => place(line, b"ZONE", name, address),
+    match kind {
+        DestinationKind::Gateway => place(line, b"GW", name, address),
+        DestinationKind::Terminal => place(line, b"TERM", name, address),
+        DestinationKind::Zone => place(line, b"ZONE", name, address),
     }
 }
 

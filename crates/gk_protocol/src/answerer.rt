@@ -1,15 +1,14 @@
 //! Who answers requests.
 
-ghost use Rattle.std.specs.Prelude.{◌≡◌, true};
-ghost use Rattle.rulings.specs.Events.{plain, Unregistering, Admitting, Changing, Releasing};
-ghost use Rattle.gk_protocol.specs.CoreAnswers.{MayAnswer, Replies, is_registration};
+ghost use Rattle.rulings.specs.Events.{plain};
+ghost use Rattle.gk_protocol.specs.CoreAnswers.{MayAnswer, Replies};
+ghost use Rattle.gk_protocol.specs.Hearing.{AnswersInto};
 
 use crate::answers::Answer;
-use crate::core_events::{admission, change, release, unregistration};
 use crate::reloads::reload;
+use crate::reply_lines::ReplyLine;
 use crate::requests::Request;
 use admission::{Core, Event};
-use gk_terms::{Dialled, Name, Units};
 use std::alloc::Global;
 
 /// Who answers the requests of a session, as a core does.
@@ -24,94 +23,94 @@ pub trait Answerer {
     /// answer says so.
     fn answer(&mut self, alloc: Global, request: Request) -> Answer
         ensures { may_answer self.old request result self.new };
+
+    /// Answers a request as `answer` does, and makes the reply the line of the answer: this is what
+    /// a session asks. An answerer may make the line without the answer.
+    fn answer_into(&mut self, alloc: Global, request: Request, reply: &mut ReplyLine)
+        ensures { AnswersInto may_answer self.old request reply.new.line self.new }
+    {
+        reply.show(&self.answer(alloc, request));
+    }
 }
 
 impl Answerer for Core {
     ghost may_answer = { MayAnswer };
 
     fn answer(&mut self, alloc: Global, request: Request) -> Answer {
-        match &request {
-            Request::Register { .. } => register(self, request),
-            Request::Unregister { sequence, id } => unregister(self, *sequence, id),
+        match request {
+            Request::Register { sequence, endpoint } => {
+                replied(self, sequence, Event::Register(endpoint))
+            }
+            Request::Unregister { sequence, id } => {
+                replied(self, sequence, Event::Unregister { id })
+            }
             Request::Admit {
                 sequence,
                 id,
                 call,
                 digits,
                 units,
-            } => admit(self, *sequence, id, *call, digits, *units),
+            } => {
+                let event = Event::Admit {
+                    id,
+                    call,
+                    digits,
+                    units,
+                };
+                replied(self, sequence, event)
+            }
             Request::Change {
                 sequence,
                 id,
                 call,
                 units,
-            } => change_call(self, *sequence, id, *call, *units),
-            Request::Release { sequence, id, call } => release_call(self, *sequence, id, *call),
+            } => replied(self, sequence, Event::Change { id, call, units }),
+            Request::Release { sequence, id, call } => {
+                replied(self, sequence, Event::Release { id, call })
+            }
             Request::Reload { sequence, lines } => {
-                reload(self, alloc, *sequence, lines.as_bytes())
+                reload(self, alloc, sequence, lines.as_bytes())
             }
         }
     }
-}
 
-/// Answers `RRQ`. The other requests are lent to their functions: an endpoint is moved into the
-/// record.
-fn register(core: &mut Core, request: Request) -> Answer
-    requires { is_registration request ≡ true }
-    ensures { MayAnswer core.old request result core.new }
-{
-    match request {
-        Request::Register { sequence, endpoint } => {
-            replied(core, sequence, Event::Register(endpoint))
+    fn answer_into(&mut self, alloc: Global, request: Request, reply: &mut ReplyLine) {
+        match &request {
+            Request::Register { sequence, endpoint } => {
+                reply.repeat(*sequence);
+                self.register_into(endpoint, reply);
+            }
+            Request::Unregister { sequence, id } => {
+                reply.repeat(*sequence);
+                self.unregister_into(id, reply);
+            }
+            Request::Admit {
+                sequence,
+                id,
+                call,
+                digits,
+                units,
+            } => {
+                reply.repeat(*sequence);
+                self.admit_into(id, *call, digits, *units, reply);
+            }
+            Request::Change {
+                sequence,
+                id,
+                call,
+                units,
+            } => {
+                reply.repeat(*sequence);
+                self.change_into(id, *call, *units, reply);
+            }
+            Request::Release { sequence, id, call } => {
+                reply.repeat(*sequence);
+                self.release_into(id, *call, reply);
+            }
+            Request::Reload { sequence, lines } => {
+                reply.show(&reload(self, alloc, *sequence, lines.as_bytes()));
+            }
         }
-        _ => unreachable!(),
-    }
-}
-
-/// Answers `URQ`.
-fn unregister(core: &mut Core, sequence: u32, id: &Name) -> Answer
-    ensures { Replies core.old sequence (Unregistering id.now) result core.new }
-{
-    Answer::Reply {
-        sequence,
-        reply: core.reply(unregistration(id)),
-    }
-}
-
-/// Answers `ARQ`.
-fn admit(
-    core: &mut Core,
-    sequence: u32,
-    id: &Name,
-    call: u32,
-    digits: &Dialled,
-    units: Units,
-) -> Answer
-    ensures { Replies core.old sequence (Admitting id.now call digits.now units) result core.new }
-{
-    Answer::Reply {
-        sequence,
-        reply: core.reply(admission(id, call, digits, units)),
-    }
-}
-
-/// Answers `BRQ`.
-fn change_call(core: &mut Core, sequence: u32, id: &Name, call: u32, units: Units) -> Answer
-    ensures { Replies core.old sequence (Changing id.now call units) result core.new }
-{
-    Answer::Reply {
-        sequence,
-        reply: core.reply(change(id, call, units)),
-    }
-}
-
-/// Answers `DRQ`.
-fn release_call(core: &mut Core, sequence: u32, id: &Name, call: u32) -> Answer
-    ensures { Replies core.old sequence (Releasing id.now call) result core.new }
-{
-    Answer::Reply {
-        sequence,
-        reply: core.reply(release(id, call)),
     }
 }
 

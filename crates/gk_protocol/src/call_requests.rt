@@ -4,13 +4,12 @@ ghost use Rattle.gk_terms.specs.Text.{words_of};
 ghost use Rattle.gk_protocol.specs.Hearing.{HearsRequest};
 ghost use Rattle.gk_protocol.specs.Requests as Spec;
 
-use crate::answer_lines::show;
 use crate::answerer::Answerer;
+use crate::reply_lines::ReplyLine;
 use crate::request_faults::RequestFault;
 use crate::request_fields::{call_field, nothing_after, sequence_field, units_field};
 use crate::request_lines::Heard;
 use crate::requests::Request;
-use gk_lines::LineBuffer;
 use gk_terms::fields::{dialled_field, name_field};
 use gk_terms::words::Words;
 use std::alloc::Global;
@@ -20,10 +19,10 @@ pub(crate) fn admit<A: Answerer>(
     alloc: Global,
     words: &mut Words<'_>,
     answerer: &mut A,
-    reply: &mut LineBuffer,
+    reply: &mut ReplyLine,
 ) -> Result<Heard, RequestFault>
     ensures { HearsRequest A.may_answer answerer.old (Spec.admit_at (words_of words.old)) result
-        reply.new answerer.new }
+        reply.new.line answerer.new }
 {
     let sequence = sequence_field(words)?;
     let id = name_field(words, RequestFault::BadName)?;
@@ -37,7 +36,7 @@ pub(crate) fn admit<A: Answerer>(
         digits,
         units,
     };
-    show(reply, &answerer.answer(alloc, request));
+    answerer.answer_into(alloc, request, reply);
     Ok(Heard::Answered)
 }
 
@@ -46,10 +45,10 @@ pub(crate) fn change<A: Answerer>(
     alloc: Global,
     words: &mut Words<'_>,
     answerer: &mut A,
-    reply: &mut LineBuffer,
+    reply: &mut ReplyLine,
 ) -> Result<Heard, RequestFault>
     ensures { HearsRequest A.may_answer answerer.old (Spec.change_at (words_of words.old)) result
-        reply.new answerer.new }
+        reply.new.line answerer.new }
 {
     let sequence = sequence_field(words)?;
     let id = name_field(words, RequestFault::BadName)?;
@@ -62,7 +61,7 @@ pub(crate) fn change<A: Answerer>(
         call,
         units,
     };
-    show(reply, &answerer.answer(alloc, request));
+    answerer.answer_into(alloc, request, reply);
     Ok(Heard::Answered)
 }
 
@@ -71,15 +70,15 @@ pub(crate) fn release<A: Answerer>(
     alloc: Global,
     words: &mut Words<'_>,
     answerer: &mut A,
-    reply: &mut LineBuffer,
+    reply: &mut ReplyLine,
 ) -> Result<Heard, RequestFault>
     ensures { HearsRequest A.may_answer answerer.old (Spec.release_at (words_of words.old)) result
-        reply.new answerer.new }
+        reply.new.line answerer.new }
 {
     let sequence = sequence_field(words)?;
     let id = name_field(words, RequestFault::BadName)?;
     let call = nothing_after(call_field(words)?, words)?;
     let request = Request::Release { sequence, id, call };
-    show(reply, &answerer.answer(alloc, request));
+    answerer.answer_into(alloc, request, reply);
     Ok(Heard::Answered)
 }

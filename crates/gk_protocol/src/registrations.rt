@@ -11,15 +11,14 @@ ghost use Rattle.gk_protocol.specs.Requests.{unregister_at};
 ghost use Rattle.gk_protocol.specs.Registrations as Spec;
 ghost use Rattle.gk_protocol.specs.RegistrationOptions.{IsBare, HasRoomFor, with_registration_option, AreNoOptionsAt};
 
-use crate::answer_lines::show;
 use crate::answerer::Answerer;
 use crate::answers::Answer;
+use crate::reply_lines::ReplyLine;
 use crate::request_faults::RequestFault;
 use crate::request_fields::{SIGNALLING_PORT, kind_field, nothing_after, sequence_field};
 use crate::request_lines::Heard;
 use crate::requests::Request;
 use admission::{RegisterRefusal, Reply};
-use gk_lines::LineBuffer;
 use gk_terms::fields::{address_field, name_field};
 use gk_terms::limits::{MOST_ALIASES, MOST_TECHNOLOGIES};
 use gk_terms::words::Words;
@@ -77,9 +76,9 @@ pub(crate) fn register<A: Answerer>(
     alloc: Global,
     words: &mut Words<'_>,
     answerer: &mut A,
-    reply: &mut LineBuffer,
+    reply: &mut ReplyLine,
 ) -> Result<Heard, RequestFault>
-    ensures { HearsRegistration A.may_answer answerer.old (words_of words.old) result reply.new
+    ensures { HearsRegistration A.may_answer answerer.old (words_of words.old) result reply.new.line
         answerer.new }
 {
     let sequence = sequence_field(words)?;
@@ -87,7 +86,7 @@ pub(crate) fn register<A: Answerer>(
     match with_options(sequence, bare, words) {
         Ok(endpoint) => {
             let request = Request::Register { sequence, endpoint };
-            show(reply, &answerer.answer(alloc, request));
+            answerer.answer_into(alloc, request, reply);
             Ok(Heard::Answered)
         }
         Err(none) => lack_options(none, reply),
@@ -97,13 +96,13 @@ pub(crate) fn register<A: Answerer>(
 /// Answers a registration that lacks the memory for its options, or gives back the first fault of
 /// them. In a function of its own, so that other registrations do not clear the room of its answer.
 #[inline(never)]
-fn lack_options(none: NoRequest, reply: &mut LineBuffer) -> Result<Heard, RequestFault>
-    ensures { LacksOptions none result reply.new }
+fn lack_options(none: NoRequest, reply: &mut ReplyLine) -> Result<Heard, RequestFault>
+    ensures { LacksOptions none result reply.new.line }
 {
     match none {
         NoRequest::Fault(fault) => Err(fault),
         NoRequest::NoMemory { sequence, id } => {
-            show(reply, &no_memory(sequence, id));
+            reply.show(&no_memory(sequence, id));
             Ok(Heard::Answered)
         }
     }
@@ -123,16 +122,16 @@ pub(crate) fn unregister<A: Answerer>(
     alloc: Global,
     words: &mut Words<'_>,
     answerer: &mut A,
-    reply: &mut LineBuffer,
+    reply: &mut ReplyLine,
 ) -> Result<Heard, RequestFault>
     ensures { HearsRequest A.may_answer answerer.old (unregister_at (words_of words.old))
-        result reply.new answerer.new }
+        result reply.new.line answerer.new }
 {
     let sequence = sequence_field(words)?;
     let id = name_field(words, RequestFault::BadName)?;
     nothing_after((), words)?;
     let request = Request::Unregister { sequence, id };
-    show(reply, &answerer.answer(alloc, request));
+    answerer.answer_into(alloc, request, reply);
     Ok(Heard::Answered)
 }
 

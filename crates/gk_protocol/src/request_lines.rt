@@ -7,9 +7,9 @@ ghost use Rattle.gk_protocol.specs.Requests as Spec;
 use crate::answerer::Answerer;
 use crate::call_requests::{admit, change, release};
 use crate::registrations::{register, unregister};
+use crate::reply_lines::ReplyLine;
 use crate::request_faults::RequestFault;
 use crate::request_fields::{count_field, nothing_after, sequence_field};
-use gk_lines::LineBuffer;
 use gk_terms::limits::MOST_LINE_BYTES;
 use gk_terms::words::Words;
 use std::alloc::Global;
@@ -47,9 +47,9 @@ pub fn hear<A: Answerer>(
     alloc: Global,
     line: &[u8],
     answerer: &mut A,
-    reply: &mut LineBuffer,
+    reply: &mut ReplyLine,
 ) -> Result<Heard, RequestFault>
-    ensures { Hears A.may_answer answerer.old line.now result reply.new answerer.new }
+    ensures { Hears A.may_answer answerer.old line.now result reply.new.line answerer.new }
 {
     if line.len() > MOST_LINE_BYTES {
         return Err(RequestFault::LineTooLong);

@@ -9,11 +9,11 @@ ghost use Rattle.gk_protocol.specs.Answers.{answer_line_of};
 ghost use Rattle.gk_protocol.specs.Session.{IsReadAhead, Ends, is_read_fault, is_write_fault};
 ghost use Rattle.gk_protocol.specs.AnswersLine.{AnswersLine, AnswersReload};
 
-use crate::answer_lines::show;
 use crate::answerer::Answerer;
 use crate::answers::Answer;
 use crate::owned_lines::{TakenLines, take_lines};
 use crate::reloads::no_memory;
+use crate::reply_lines::ReplyLine;
 use crate::request_faults::RequestFault;
 use crate::request_lines::{Heard, hear};
 use crate::requests::Request;
@@ -94,7 +94,7 @@ pub fn session_from<R: Source, W: Sink, A: Answerer>(
     // Each reply takes a line, and each line a turn or a byte: so the count of replies fits.
     let _turns = lines.turns();
     let mut line = LineBuffer::new();
-    let mut reply = LineBuffer::new();
+    let mut reply = ReplyLine::new();
     let mut replies = 0u64;
     while lines.next_line(reader, &mut line)? {
         match progress_with(alloc, lines, reader, &mut line, answerer, &mut reply)? {
@@ -138,13 +138,13 @@ fn progress_with<R: Source, A: Answerer>(
     reader: &mut R,
     line: &mut LineBuffer,
     answerer: &mut A,
-    reply: &mut LineBuffer,
+    reply: &mut ReplyLine,
 ) -> Result<Progress, ReadFault>
     requires { AtEndIfEnded lines.old (R.remaining reader.old) }
     ensures progress { KnownStep (left_of lines.old (R.remaining reader.old))
         (left_of lines.new (R.remaining reader.new))
         (AnswersLine A.may_answer lines.old.ended lines.new.ended answerer.old
-        (content_of line.old) result reply.new answerer.new) }
+        (content_of line.old) result reply.new.line answerer.new) }
     ensures ended { AtEndIfEnded lines.new (R.remaining reader.new) }
     ensures part_read { IfErr result (λ _. lines.new.pending ≡ []) }
     ensures nothing_left { IfOk result (λ progress. progress ≡ Progress.CutShort
@@ -179,23 +179,23 @@ fn answer_reload<A: Answerer>(
     sequence: u32,
     lines: TakenLines,
     answerer: &mut A,
-    reply: &mut LineBuffer,
+    reply: &mut ReplyLine,
 ) -> Progress
-    ensures { AnswersReload A.may_answer answerer.old sequence lines result reply.new
+    ensures { AnswersReload A.may_answer answerer.old sequence lines result reply.new.line
         answerer.new }
 {
     match lines {
         TakenLines::Whole(lines) => {
             let reload = Request::Reload { sequence, lines };
-            show(reply, &answerer.answer(alloc, reload));
+            answerer.answer_into(alloc, reload, reply);
             Progress::Answered
         }
         TakenLines::NoMemory => {
-            show(reply, &no_memory(sequence));
+            reply.show(&no_memory(sequence));
             Progress::Answered
         }
         TakenLines::CutShort => {
-            show(reply, &Answer::Malformed(RequestFault::CutShort));
+            reply.show(&Answer::Malformed(RequestFault::CutShort));
             Progress::CutShort
         }
     }
@@ -203,18 +203,18 @@ fn answer_reload<A: Answerer>(
 
 /// Answers a line that is not a request. In a function of its own, likewise.
 #[inline(never)]
-fn show_fault(fault: RequestFault, reply: &mut LineBuffer)
-    ensures { reply.new ≡ answer_line_of (Answer.Malformed fault) }
+fn show_fault(fault: RequestFault, reply: &mut ReplyLine)
+    ensures { reply.new.line ≡ answer_line_of (Answer.Malformed fault) }
 {
-    show(reply, &Answer::Malformed(fault));
+    reply.show(&Answer::Malformed(fault));
 }
 
 /// Writes a reply, in one call of the writer if it takes the whole.
-fn send<W: Sink>(reply: &LineBuffer, writer: &mut W) -> Result<(), WriteFault>
+fn send<W: Sink>(reply: &ReplyLine, writer: &mut W) -> Result<(), WriteFault>
     ensures whole { OnOk result
-        (Appends (W.contents writer.old) (W.contents writer.new) reply.now) }
+        (Appends (W.contents writer.old) (W.contents writer.new) reply.now.line) }
     ensures front { OnErr result
-        (AppendsFront (W.contents writer.old) (W.contents writer.new) reply.now) }
+        (AppendsFront (W.contents writer.old) (W.contents writer.new) reply.now.line) }
     ensures noted { Notes (W.has_failed writer.old) (W.has_failed writer.new) result }
 {
     write_whole(writer, reply.as_bytes())

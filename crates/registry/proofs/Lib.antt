@@ -13,6 +13,7 @@ pub mod ListingLemmas
 pub mod ShelfLemmas
 pub mod KeepingLemmas
 pub mod CopyLemmas
+pub mod BriefTextLemmas
 pub mod NamedLemmas
 pub mod UnnamedLemmas
 pub mod GatewayLemmas

@@ -8,3 +8,4 @@ pub mod Roll
 pub mod Listing
 pub mod Chosen
 pub mod GatewayLaws
+pub mod BriefTexts

@@ -1,81 +1,76 @@
-//! An endpoint in fewer bytes.
+//! An endpoint in few bytes.
 
-ghost use Rattle.std.specs.Prelude.{◌≡◌, ◌<◌, ◌≤◌, ◌⊎◌, length, IfOk, MatchResult};
-ghost use Rattle.gk_terms.specs.declared.limits.TheConstants.{MOST_ALIASES, MOST_TECHNOLOGIES};
+ghost use Rattle.std.specs.Prelude.{◌≡◌, ◌≤◌, length, IfOk, IsOk};
+ghost use Rattle.short_texts.specs.declared.compact_text.TheConstants.{COMPACT_BYTES};
+ghost use Rattle.registry.specs.BriefTexts.{texts_of};
 
+use crate::brief_reading::{after_counted, after_text, aliases_in, name_in, technologies_in};
+use crate::brief_writing::texts_of;
 use crate::endpoints::{Endpoint, EndpointKind};
-use gk_terms::{Address, Dialled, Name, TechPrefix};
-use short_texts::ShortName;
-use std::alloc::AllocError;
+use gk_terms::{Address, Name};
+use short_texts::CompactText;
+use std::alloc::{AllocError, Global};
 use std::marker::Model;
+use std::mem::size_of;
 
-/// An endpoint whose ID and zone have at most 19 characters, in 96 bytes in place of 320, its lists
-/// beside them: for whoever keeps very many of them. A contract sees the endpoint.
+/// An endpoint in 56 bytes in place of 320 and its lists: for whoever keeps very many of them. A
+/// contract sees the endpoint.
+///
+/// Its ID, its zone, its aliases and its technology prefixes are one text of bytes: each of them
+/// after its length in one byte, and before the aliases and before the technology prefixes their
+/// count in one byte. A text of at most 46 bytes stands in place.
 #[derive(Drop)]
 pub struct BriefEndpoint {
     kind: EndpointKind,
-    id: ShortName,
-    zone: ShortName,
     address: Address,
-    aliases: Vec<Dialled>,
-    technologies: Vec<TechPrefix>,
+    texts: CompactText,
+    alloc: Global,
 }
 
+const _: () = prove!(size_of::<BriefEndpoint>() == 56);
+
 impl Model for BriefEndpoint {
-    ghost use Rattle.registry.specs.Endpoint.{EndpointParts, KeepsCounts};
+    ghost use Rattle.registry.specs.Endpoint.{EndpointParts};
+    ghost use Rattle.registry.specs.BriefTexts.{IsWhole, endpoint_read};
 
     ghost Value = { EndpointParts };
 
-    ghost view = { λ e. record {
-      kind = e.kind;
-      id = e.id;
-      zone = e.zone;
-      address = e.address;
-      aliases = e.aliases.items;
-      technologies = e.technologies.items;
-    } };
+    ghost view = { λ b. endpoint_read b.kind b.address b.texts };
 
-    ghost invariant = { λ e. KeepsCounts (record {
-      kind = e.kind;
-      id = e.id;
-      zone = e.zone;
-      address = e.address;
-      aliases = e.aliases.items;
-      technologies = e.technologies.items;
-    }) };
+    ghost invariant = { λ b. IsWhole (endpoint_read b.kind b.address b.texts) };
 }
 
 impl BriefEndpoint {
-    /// The endpoint in fewer bytes; or the endpoint as it is, if its ID or its zone has more than
-    /// 19 characters. It needs no memory: it asks for smaller blocks for the lists, and keeps the
-    /// larger ones if it gets none.
-    pub fn of(endpoint: Endpoint) -> Result<BriefEndpoint, Endpoint>
-        ensures { MatchResult result
-            (λ brief. (brief ≡ endpoint)
-            × (length endpoint.id ≤ 19) × (length endpoint.zone ≤ 19))
-            (λ long. (long ≡ endpoint)
-            × ((19 < length endpoint.id) ⊎ (19 < length endpoint.zone))) }
+    /// The endpoint in few bytes. It takes no memory if its texts are at most 46 bytes; else
+    /// `AllocError` comes only if memory runs out.
+    pub fn of(endpoint: &Endpoint) -> Result<BriefEndpoint, AllocError>
+        ensures same { IfOk result (λ brief. brief ≡ endpoint.now) }
+        ensures short { length (texts_of endpoint.now) ≤ COMPACT_BYTES → IsOk result }
     {
-        match ShortName::of(&endpoint.id) {
-            None => Err(endpoint),
-            Some(id) => match ShortName::of(&endpoint.zone) {
-                None => Err(endpoint),
-                Some(zone) => Ok(with_names(endpoint, id, zone)),
-            },
-        }
+        let alloc = *endpoint.aliases.allocator();
+        Ok(BriefEndpoint {
+            kind: endpoint.kind,
+            address: endpoint.address,
+            texts: texts_of(endpoint, alloc)?,
+            alloc,
+        })
     }
 
-    /// The endpoint. Its lists are copied: `AllocError` comes only if memory runs out.
+    /// The endpoint. `AllocError` comes only if memory for its lists runs out.
     pub fn endpoint(&self) -> Result<Endpoint, AllocError>
         ensures { IfOk result (λ endpoint. endpoint ≡ self.now) }
     {
+        let id = self.texts.as_bytes();
+        let zone = after_text(id);
+        let aliases = after_text(zone);
+        let technologies = after_counted(aliases);
         Ok(Endpoint {
             kind: self.kind,
-            id: self.id.name(),
-            zone: self.zone.name(),
             address: self.address,
-            aliases: self.aliases.clone()?,
-            technologies: self.technologies.clone()?,
+            zone: name_in(zone),
+            id: name_in(id),
+            aliases: aliases_in(aliases, self.alloc)?,
+            technologies: technologies_in(technologies, self.alloc)?,
         })
     }
 
@@ -90,14 +85,14 @@ impl BriefEndpoint {
     pub fn id(&self) -> Name
         ensures { result ≡ self.now.id }
     {
-        self.id.name()
+        name_in(self.texts.as_bytes())
     }
 
     /// The zone in which it registers.
     pub fn zone(&self) -> Name
         ensures { result ≡ self.now.zone }
     {
-        self.zone.name()
+        name_in(after_text(self.texts.as_bytes()))
     }
 
     /// Its call signalling address.
@@ -105,47 +100,5 @@ impl BriefEndpoint {
         ensures { result ≡ self.now.address }
     {
         self.address
-    }
-
-    /// Its E.164 aliases, at most 16, in the order in which they were given.
-    pub fn aliases(&self) -> &[Dialled]
-        ensures value { result.now ≡ self.now.aliases }
-        ensures within { length result.now ≤ MOST_ALIASES }
-    {
-        &self.aliases
-    }
-
-    /// Its technology prefixes, at most 8, in the order in which they were given.
-    pub fn technologies(&self) -> &[TechPrefix]
-        ensures value { result.now ≡ self.now.technologies }
-        ensures within { length result.now ≤ MOST_TECHNOLOGIES }
-    {
-        &self.technologies
-    }
-}
-
-/// The endpoint with its names in few bytes, and with no more room in its lists than they need, if
-/// the smaller blocks are given.
-fn with_names(endpoint: Endpoint, id: ShortName, zone: ShortName) -> BriefEndpoint
-    requires id { id ≡ endpoint.id }
-    requires zone { zone ≡ endpoint.zone }
-    ensures { result ≡ endpoint }
-{
-    let Endpoint {
-        kind,
-        address,
-        mut aliases,
-        mut technologies,
-        ..
-    } = endpoint;
-    aliases.shrink_to_fit();
-    technologies.shrink_to_fit();
-    BriefEndpoint {
-        kind,
-        id,
-        zone,
-        address,
-        aliases,
-        technologies,
     }
 }

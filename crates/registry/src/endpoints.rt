@@ -114,8 +114,9 @@ impl Endpoint {
         if self.aliases.len() >= MOST_ALIASES {
             return Err(RegistryFault::TooMany);
         }
-        // No more room than it needs: an endpoint stays, and few have more than one.
-        match self.aliases.reserve_exact(1) {
+        // The first alias makes room for four: this is an endpoint that is being read, and its copy
+        // among those that are registered takes no more room than it needs.
+        match self.aliases.reserve(1) {
             Ok(()) => {
                 self.aliases.push_reserved(alias);
                 Ok(())
@@ -138,7 +139,7 @@ impl Endpoint {
         if self.technologies.len() >= MOST_TECHNOLOGIES {
             return Err(RegistryFault::TooMany);
         }
-        match self.technologies.reserve_exact(1) {
+        match self.technologies.reserve(1) {
             Ok(()) => {
                 self.technologies.push_reserved(prefix);
                 Ok(())
@@ -203,13 +204,5 @@ impl Endpoint {
         ensures within { length result.now ≤ MOST_TECHNOLOGIES }
     {
         &self.technologies
-    }
-
-    /// The same endpoint in another zone.
-    pub fn in_zone(mut self, zone: Name) -> Endpoint
-        ensures { result ≡ record self { zone = zone } }
-    {
-        self.zone = zone;
-        self
     }
 }

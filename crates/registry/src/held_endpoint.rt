@@ -1,10 +1,11 @@
 //! A registered endpoint in a place of its own.
 
-ghost use Rattle.std.specs.Prelude.{◌≡◌, IfOk, IfErr};
+ghost use Rattle.std.specs.Prelude.{◌≡◌, IfOk};
 ghost use Rattle.std.specs.Option.{option_copied};
 
 use crate::endpoints::Endpoint;
-use std::alloc::Global;
+use gk_terms::Name;
+use std::alloc::{AllocError, Global};
 use std::marker::Model;
 
 /// An endpoint in a place of its own, so that a map of endpoints is small enough to be searched in
@@ -23,15 +24,27 @@ impl Model for HeldEndpoint {
 }
 
 impl HeldEndpoint {
-    /// The endpoint in a place of its own. If memory runs out it is given back.
-    pub fn new(alloc: Global, endpoint: Endpoint) -> Result<HeldEndpoint, Endpoint>
-        ensures held { IfOk result (λ held. held ≡ endpoint) }
-        ensures back { IfErr result (λ back. back ≡ endpoint) }
+    /// A copy of the endpoint in this zone, in a place of its own. Its lists get the room that they
+    /// need and no more, since a registered endpoint stays. `AllocError` comes only if memory runs
+    /// out.
+    pub fn copied(
+        alloc: Global,
+        endpoint: &Endpoint,
+        zone: &Name,
+    ) -> Result<HeldEndpoint, AllocError>
+        ensures { IfOk result (λ held. held ≡ record endpoint.now { zone = zone.now }) }
     {
-        match Box::new(alloc, endpoint) {
-            Ok(endpoint) => Ok(HeldEndpoint { endpoint }),
-            Err(failed) => Err(failed.value),
-        }
+        let copy = Endpoint {
+            kind: endpoint.kind,
+            address: endpoint.address,
+            zone: *zone,
+            id: endpoint.id,
+            aliases: Vec::from_slice(alloc, &endpoint.aliases)?,
+            technologies: Vec::from_slice(alloc, &endpoint.technologies)?,
+        };
+        Ok(HeldEndpoint {
+            endpoint: Box::new(alloc, copy)?,
+        })
     }
 
     /// The endpoint.

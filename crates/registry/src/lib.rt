@@ -3,6 +3,8 @@
 #![tactic(auto)]
 
 pub mod brief_endpoint;
+mod brief_reading;
+mod brief_writing;
 mod choosing;
 mod endpoint_number;
 pub mod endpoints;

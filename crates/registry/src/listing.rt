@@ -11,7 +11,7 @@ ghost use Rattle.registry.specs.Roll.{IsChangedAt, IsNextFrom, IsNumberFor, IsPu
 
 use crate::endpoint_number::EndpointNumber;
 use crate::endpoints::Endpoint;
-use crate::held_endpoint::{HeldEndpoint, endpoint_in};
+use crate::held_endpoint::HeldEndpoint;
 use crate::roll::Roll;
 use crate::served::Served;
 use gk_terms::{Name, TechPrefix};
@@ -126,31 +126,33 @@ impl Listing {
 
     /// Puts the endpoint in the place of the one with its ID, or else at the end. Gives its number,
     /// and the endpoint that it replaces, if there was one. If memory runs out nothing has changed.
-    pub fn insert(&mut self, endpoint: Endpoint) -> Result<(u32, Option<HeldEndpoint>), AllocError>
+    pub fn insert(
+        &mut self,
+        held: HeldEndpoint,
+        id: &Name,
+    ) -> Result<(u32, Option<HeldEndpoint>), AllocError>
         requires room { self.old.next + 1 < 2 ^ 32 }
-        ensures ok { OnOk result
-            (IsPut (by_id self.old.entries) (by_id self.new.entries) endpoint) }
-        ensures numbered { IfOk result (λ put. at_number self.new.entries put.0 ≡ Some endpoint) }
+        requires own { id.now ≡ held.id }
+        ensures ok { OnOk result (IsPut (by_id self.old.entries) (by_id self.new.entries) held) }
         ensures replaced { IfOk result (λ put.
-            put.1 ≡ kept_endpoint_of (by_id self.old.entries) endpoint.id) }
+            put.1 ≡ kept_endpoint_of (by_id self.old.entries) held.id) }
         ensures changed { IfOk result (λ put.
-            IsChangedAt self.old self.new.entries endpoint.id put.0 put.1 (Some endpoint)) }
+            IsChangedAt self.old self.new.entries held.id put.0 put.1 (Some held)) }
         ensures next { self.new.next ≤ self.old.next + 1 }
         ensures err { OnErr result (self.new ≡ self.old) }
     {
-        let number = self.roll.number_for(endpoint.id());
-        if self.served.enter(number, &endpoint).is_err() {
-            self.served.leave(number, Some(&endpoint), &self.roll);
+        let number = self.roll.number_for(id);
+        if self.served.enter(number, &held).is_err() {
+            self.served.leave(number, Some(&held), &self.roll);
             return Err(AllocError);
         }
-        match self.roll.insert(number, endpoint) {
+        match self.roll.insert(number, held, id) {
             Ok(replaced) => {
-                let gone = endpoint_in(replaced.as_ref());
-                self.served.leave(number, gone, &self.roll);
+                self.served.leave(number, replaced.as_ref(), &self.roll);
                 Ok((number, replaced))
             }
-            Err(endpoint) => {
-                self.served.leave(number, Some(&endpoint), &self.roll);
+            Err(held) => {
+                self.served.leave(number, Some(&held), &self.roll);
                 Err(AllocError)
             }
         }
@@ -168,8 +170,7 @@ impl Listing {
     {
         let number = self.roll.number_for(id);
         let removed = self.roll.remove(id);
-        self.served
-            .leave(number, endpoint_in(removed.as_ref()), &self.roll);
+        self.served.leave(number, removed.as_ref(), &self.roll);
         removed
     }
 }

@@ -137,25 +137,25 @@ impl Registry {
         if self.is_full_for(&endpoint) {
             return Err(RegistryFault::TooMany);
         }
-        match self.put(endpoint, zone) {
+        match self.put(&endpoint, zone) {
             Ok(()) => Ok(()),
             Err(_) => Err(RegistryFault::NoMemory),
         }
     }
 
-    /// Puts an endpoint into this zone: in the place of the one with its ID, or else after the
-    /// others. No alias of it may be another's, and there has to be room for it; a caller that has
-    /// asked for its `placement` knows the one, so that it is not looked up again. If memory runs
-    /// out, or each of the 4,294,967,295 numbers is in use, nothing has changed.
-    pub fn put(&mut self, endpoint: Endpoint, zone: Name) -> Result<(), AllocError>
-        requires free { alias_is_taken self.old.endpoints endpoint ≡ false }
-        requires room { is_full_for self.old endpoint ≡ false }
+    /// Puts a copy of the endpoint into this zone: in the place of the one with its ID, or else
+    /// after the others. No alias of it may be another's, and there has to be room for it; a caller
+    /// that has asked for its `placement` knows the one, so that it is not looked up again. If
+    /// memory runs out, or each of the 4,294,967,295 numbers is in use, nothing has changed.
+    pub fn put(&mut self, endpoint: &Endpoint, zone: Name) -> Result<(), AllocError>
+        requires free { alias_is_taken self.old.endpoints endpoint.now ≡ false }
+        requires room { is_full_for self.old endpoint.now ≡ false }
         ensures ok { OnOk result (self.new ≡ record self.old {
-          endpoints = with_endpoint self.old.endpoints (record endpoint { zone = zone });
+          endpoints = with_endpoint self.old.endpoints (record endpoint.now { zone = zone });
         }) }
         ensures err { OnErr result (self.new ≡ self.old) }
     {
-        match self.shelf.put(endpoint.in_zone(zone), self.alloc) {
+        match self.shelf.put(endpoint, &zone, self.alloc) {
             Ok(()) => Ok(()),
             Err(error) => Err(error),
         }

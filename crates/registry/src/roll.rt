@@ -24,7 +24,6 @@ pub struct Roll {
     endpoints: BTreeMap<EndpointNumber, HeldEndpoint>,
     numbers: HashMap<Name, u32>,
     next: u32,
-    alloc: Global,
 }
 
 impl Model for Roll {
@@ -46,7 +45,6 @@ impl Roll {
             endpoints: BTreeMap::new(alloc),
             numbers: HashMap::new(alloc),
             next: 0,
-            alloc,
         }
     }
 
@@ -139,35 +137,34 @@ impl Roll {
     pub fn insert(
         &mut self,
         number: u32,
-        endpoint: Endpoint,
-    ) -> Result<Option<HeldEndpoint>, Endpoint>
-        requires number { IsNumberFor self.old endpoint.id number }
+        held: HeldEndpoint,
+        id: &Name,
+    ) -> Result<Option<HeldEndpoint>, HeldEndpoint>
+        requires number { IsNumberFor self.old held.id number }
         requires room { number + 1 < 2 ^ 32 }
-        ensures ok { OnOk result
-            (IsPut (by_id self.old.entries) (by_id self.new.entries) endpoint) }
+        requires own { id.now ≡ held.id }
+        ensures ok { OnOk result (IsPut (by_id self.old.entries) (by_id self.new.entries) held) }
         ensures placed { OnOk result
-            (IsSetAt self.old.entries self.new.entries number (Some endpoint)) }
+            (IsSetAt self.old.entries self.new.entries number (Some held)) }
         ensures replaced { IfOk result (λ replaced. replaced ≡ at_number self.old.entries number) }
         ensures sorted { OnOk result (IsStrictlySortedBy nat_cmp (keys_of self.new.entries)) }
         ensures next { self.new.next ≤ self.old.next + 1 }
         ensures err { OnErr result (self.new ≡ self.old) }
-        ensures back { IfErr result (λ back. back ≡ endpoint) }
+        ensures back { IfErr result (λ back. back ≡ held) }
     {
-        let id = *endpoint.id();
         if self.numbers.reserve(1).is_err() {
-            return Err(endpoint);
+            return Err(held);
         }
-        let held = HeldEndpoint::new(self.alloc, endpoint)?;
         match self.endpoints.insert(EndpointNumber { number }, held) {
             Ok(replaced) => {
                 if number == self.next {
-                    let numbered: Result<_, _> = self.numbers.insert(id, number);
+                    let numbered: Result<_, _> = self.numbers.insert(*id, number);
                     let _ = numbered.unwrap();
                     self.next = number + 1;
                 }
                 Ok(replaced)
             }
-            Err(failed) => Err(failed.value.1.into_endpoint()),
+            Err(failed) => Err(failed.value.1),
         }
     }
 

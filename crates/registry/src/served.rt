@@ -7,6 +7,7 @@ ghost use Rattle.registry.specs.Served.{Puts, AddsPlaces, MayAddPlaces, TakesOut
 
 use crate::endpoints::{Endpoint, EndpointKind};
 use crate::gateway_numbers::GatewayNumbers;
+use crate::held_endpoint::HeldEndpoint;
 use crate::roll::Roll;
 use gk_terms::{Name, TechPrefix};
 use std::alloc::{AllocError, Global};
@@ -120,7 +121,15 @@ impl Served {
 
     /// Adds the places of the endpoint under this number. If memory runs out, some of them may have
     /// been added.
-    pub fn enter(&mut self, number: u32, endpoint: &Endpoint) -> Result<(), AllocError>
+    pub fn enter(&mut self, number: u32, held: &HeldEndpoint) -> Result<(), AllocError>
+        ensures ok { OnOk result (Enters self.old self.new number held.now) }
+        ensures err { OnErr result (MayEnter self.old self.new number held.now) }
+    {
+        self.enter_endpoint(number, held.endpoint())
+    }
+
+    /// The same of an endpoint in whatever place.
+    fn enter_endpoint(&mut self, number: u32, endpoint: &Endpoint) -> Result<(), AllocError>
         ensures ok { OnOk result (Enters self.old self.new number endpoint.now) }
         ensures err { OnErr result (MayEnter self.old self.new number endpoint.now) }
     {
@@ -134,12 +143,12 @@ impl Served {
 
     /// Takes out the places of this endpoint under this number, except those that the roll's
     /// endpoint of that number serves too. The roll is read only for a gateway.
-    pub fn leave(&mut self, number: u32, gone: Option<&Endpoint>, roll: &Roll)
+    pub fn leave(&mut self, number: u32, gone: Option<&HeldEndpoint>, roll: &Roll)
         ensures { Leaves self.old self.new number (option_copied gone.entry)
             (at_number roll.now.entries number) }
     {
         if let Some(gone) = gone {
-            self.leave_one(number, gone, roll);
+            self.leave_one(number, gone.endpoint(), roll);
         }
     }
 

@@ -146,19 +146,19 @@ impl Shelf {
         self.is_any_of_another(endpoint.aliases(), endpoint.id())
     }
 
-    /// Puts the endpoint in the place of the one with its ID, or else at the end. None of its
-    /// aliases may be another endpoint's; `alias_is_taken` tests that. If memory runs out, the
-    /// endpoints stay as they are. The time does not grow with their number, except that
-    /// once in about 4,000,000,000 calls each gets a new number.
-    pub fn put(&mut self, endpoint: Endpoint, alloc: Global) -> Result<(), AllocError>
-        requires free { alias_is_taken (endpoints_of self.old) endpoint ≡ false }
+    /// Puts a copy of the endpoint in this zone in the place of the one with its ID, or else at the
+    /// end. None of its aliases may be another endpoint's; `alias_is_taken` tests that. If memory
+    /// runs out, the endpoints stay as they are. The time does not grow with their number, except
+    /// that once in about 4,000,000,000 calls each gets a new number.
+    pub fn put(&mut self, endpoint: &Endpoint, zone: &Name, alloc: Global) -> Result<(), AllocError>
+        requires free { alias_is_taken (endpoints_of self.old) endpoint.now ≡ false }
         requires few { length (endpoints_of self.old) < 2 ^ 32 }
-        ensures ok { OnOk result
-            (endpoints_of self.new ≡ with_endpoint (endpoints_of self.old) endpoint) }
+        ensures ok { OnOk result (endpoints_of self.new
+            ≡ with_endpoint (endpoints_of self.old) (record endpoint.now { zone = zone.now })) }
         ensures err { OnErr result (endpoints_of self.new ≡ endpoints_of self.old) }
     {
         self.leave_a_number(alloc)?;
-        self.put_numbered(endpoint)
+        self.put_numbered(endpoint, zone, alloc)
     }
 
     /// Leaves a number for one more endpoint: if none is left, each endpoint gets a new number.
@@ -179,22 +179,25 @@ impl Shelf {
 
     /// The same while a number is left; `is_used_up` tests that. If memory runs out, the endpoints
     /// stay as they are.
-    fn put_numbered(&mut self, endpoint: Endpoint) -> Result<(), AllocError>
-        requires free { alias_is_taken (endpoints_of self.old) endpoint ≡ false }
+    fn put_numbered(
+        &mut self,
+        endpoint: &Endpoint,
+        zone: &Name,
+        alloc: Global,
+    ) -> Result<(), AllocError>
+        requires free { alias_is_taken (endpoints_of self.old) endpoint.now ≡ false }
         requires room { self.old.next + 1 < 2 ^ 32 }
-        ensures ok { OnOk result
-            (endpoints_of self.new ≡ with_endpoint (endpoints_of self.old) endpoint) }
+        ensures ok { OnOk result (endpoints_of self.new
+            ≡ with_endpoint (endpoints_of self.old) (record endpoint.now { zone = zone.now })) }
         ensures err { OnErr result (endpoints_of self.new ≡ endpoints_of self.old) }
         ensures next { self.new.next ≤ self.old.next + 1 }
     {
-        self.alias_numbers.reserve(endpoint.aliases().len())?;
-        let (number, replaced) = self.listing.insert(endpoint)?;
-        forget_aliases_of(&mut self.alias_numbers, endpoint_in(replaced.as_ref()));
-        lead_aliases_of(
-            &mut self.alias_numbers,
-            self.listing.at_number(number),
-            number,
-        );
+        let aliases = endpoint.aliases();
+        self.alias_numbers.reserve(aliases.len())?;
+        let held = HeldEndpoint::copied(alloc, endpoint, zone)?;
+        let (number, replaced) = self.listing.insert(held, endpoint.id())?;
+        forget_aliases_of(&mut self.alias_numbers, replaced.as_ref());
+        lead(&mut self.alias_numbers, aliases, number);
         Ok(())
     }
 
@@ -208,7 +211,7 @@ impl Shelf {
         ensures next { self.new.next ≡ self.old.next }
     {
         let removed = self.listing.remove(id);
-        forget_aliases_of(&mut self.alias_numbers, endpoint_in(removed.as_ref()));
+        forget_aliases_of(&mut self.alias_numbers, removed.as_ref());
         removed
     }
 
@@ -219,7 +222,8 @@ impl Shelf {
     {
         let mut copy = Shelf::new(alloc);
         for held in self.listing.endpoints() {
-            copy.put_numbered(held.endpoint().copy()?)?;
+            let endpoint = held.endpoint();
+            copy.put_numbered(endpoint, endpoint.zone(), alloc)?;
         }
         Ok(copy)
     }
@@ -252,29 +256,13 @@ impl Shelf {
 }
 
 /// Takes the aliases of the endpoint, if there is one, out of the map.
-fn forget_aliases_of(alias_numbers: &mut HashMap<Dialled, u32>, endpoint: Option<&Endpoint>)
+fn forget_aliases_of(alias_numbers: &mut HashMap<Dialled, u32>, gone: Option<&HeldEndpoint>)
     ensures forgets { Forgets alias_numbers.old.entries alias_numbers.new.entries
-        (aliases_of (option_copied endpoint.entry)) }
+        (aliases_of (option_copied gone.entry)) }
     ensures room { spare alias_numbers.old ≤ spare alias_numbers.new }
 {
-    if let Some(endpoint) = endpoint {
-        forget(alias_numbers, endpoint.aliases());
-    }
-}
-
-/// Makes the aliases of the endpoint, if there is one, lead to this number. The map has room for
-/// them.
-fn lead_aliases_of(
-    alias_numbers: &mut HashMap<Dialled, u32>,
-    endpoint: Option<&Endpoint>,
-    number: u32,
-)
-    requires room { length (aliases_of (option_copied endpoint)) ≤ spare alias_numbers.old }
-    ensures { LeadTo alias_numbers.old.entries alias_numbers.new.entries
-        (aliases_of (option_copied endpoint.entry)) number }
-{
-    if let Some(endpoint) = endpoint {
-        lead(alias_numbers, endpoint.aliases(), number);
+    if let Some(gone) = gone {
+        forget(alias_numbers, gone.endpoint().aliases());
     }
 }
 

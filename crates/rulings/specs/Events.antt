@@ -5,6 +5,8 @@ use Rattle.command_reader.specs.declared.commands.Command.{Command}
 use Rattle.registry.specs.Endpoint.{EndpointParts}
 use Rattle.rulings.specs.declared.events.Event.{Event}
 use Rattle.rulings.specs.declared.events.Event.TheVariants as events
+use Rattle.rulings.specs.declared.events.LentEvent.{LentEvent}
+use Rattle.rulings.specs.declared.events.LentEvent.TheVariants as lent
 use Rattle.rulings.specs.declared.events.EventKind.{EventKind}
 use Rattle.rulings.specs.declared.events.EventKind.TheVariants.{Registration, Unregistration, Admission, BandwidthChange, Release, Reload}
 
@@ -31,6 +33,15 @@ plain (events.Admit id call digits units) = Admitting id call digits units
 plain (events.Change id call units) = Changing id call units
 plain (events.Release id call) = Releasing id call
 plain (events.Reload tables) = Reloading (arc_value tables).commands
+
+-- the same of an event that is lent
+abbrev pub event_meant : LentEvent → PlainEvent
+event_meant (lent.Register endpoint) = Registering endpoint.now
+event_meant (lent.Unregister id) = Unregistering id.now
+event_meant (lent.Admit id call digits units) = Admitting id.now call digits.now units
+event_meant (lent.Change id call units) = Changing id.now call units
+event_meant (lent.Release id call) = Releasing id.now call
+event_meant (lent.Reload tables) = Reloading tables.now.commands
 
 -- whether it holds names and numbers alone, neither an endpoint nor commands
 abbrev pub is_of_names_alone : PlainEvent → Bool

@@ -2,11 +2,11 @@
 
 ghost use Rattle.std.specs.Prelude.{◌≡◌, is_some, nat_lt};
 ghost use Rattle.rulings.specs.State as States;
-ghost use Rattle.rulings.specs.Events.{plain};
+ghost use Rattle.rulings.specs.Events.{event_meant};
 ghost use Rattle.rulings.specs.Lent.{ruling_meant};
 ghost use Rattle.rulings.specs.Step as Spec;
 
-use crate::events::Event;
+use crate::events::LentEvent;
 use crate::lent_rulings::LentRuling;
 use crate::machine::Machine;
 use crate::replies::{AdmitRefusal, RegisterRefusal, ReloadRefusal, Reply};
@@ -39,20 +39,20 @@ impl Machine {
     /// limit allows; and else record-full if the record lacks the free places: two for a granted
     /// admission, none for a release, and one for another verdict.
     #[inline(never)]
-    pub fn count_refusal(&self, event: &Event, ruling: &LentRuling<'_>) -> Option<Reply>
+    pub fn count_refusal(&self, event: &LentEvent<'_>, ruling: &LentRuling<'_>) -> Option<Reply>
         ensures { result
-            ≡ Spec.count_refusal (States.bare self.now) (plain event.now)
+            ≡ Spec.count_refusal (States.bare self.now) (event_meant event.now)
             (ruling_meant ruling.now) }
     {
         match event {
-            Event::Register(endpoint) => {
+            LentEvent::Register(endpoint) => {
                 if self.are_endpoints_full(endpoint, ruling) {
                     let reason = RegisterRefusal::EndpointsFull;
                     let id = *endpoint.id();
                     return Some(Reply::RegisterRefused { id, reason });
                 }
             }
-            Event::Admit { call, .. } => {
+            LentEvent::Admit { call, .. } => {
                 if self.are_calls_full(ruling) {
                     let reason = AdmitRefusal::CallsFull;
                     return Some(Reply::AdmitRefused {
@@ -61,27 +61,28 @@ impl Machine {
                     });
                 }
             }
-            Event::Reload(_) => return self.reload_refusal(ruling),
-            Event::Unregister { .. } | Event::Change { .. } | Event::Release { .. } => {}
+            LentEvent::Reload(_) => return self.reload_refusal(ruling),
+            LentEvent::Unregister { .. } | LentEvent::Change { .. } | LentEvent::Release { .. } =>
+                {}
         }
         self.record_refusal(event, ruling)
     }
 
     #[tactic(auto, unfolding(crate::specs::Step::count_refusal))]
     /// Whether there is such a refusal. It is asked for each event, so it makes no reply.
-    pub fn is_refused_by_count(&self, event: &Event, ruling: &LentRuling<'_>) -> bool
+    pub fn is_refused_by_count(&self, event: &LentEvent<'_>, ruling: &LentRuling<'_>) -> bool
         ensures { result ≡ is_some
-            (Spec.count_refusal (States.bare self.now) (plain event.now)
+            (Spec.count_refusal (States.bare self.now) (event_meant event.now)
             (ruling_meant ruling.now)) }
     {
         match event {
-            Event::Register(endpoint) => {
+            LentEvent::Register(endpoint) => {
                 self.are_endpoints_full(endpoint, ruling) || self.lacks_places(ruling)
             }
-            Event::Admit { .. } => { self.are_calls_full(ruling) || self.lacks_places(ruling) }
-            Event::Reload(_) => self.are_reloads_spent() || self.lacks_places(ruling),
-            Event::Unregister { .. } | Event::Change { .. } => self.lacks_places(ruling),
-            Event::Release { .. } => false,
+            LentEvent::Admit { .. } => { self.are_calls_full(ruling) || self.lacks_places(ruling) }
+            LentEvent::Reload(_) => self.are_reloads_spent() || self.lacks_places(ruling),
+            LentEvent::Unregister { .. } | LentEvent::Change { .. } => self.lacks_places(ruling),
+            LentEvent::Release { .. } => false,
         }
     }
 
@@ -127,8 +128,8 @@ impl Machine {
     }
 
     /// record-full, if the record lacks the free places that the entry needs.
-    fn record_refusal(&self, event: &Event, ruling: &LentRuling<'_>) -> Option<Reply>
-        ensures { result ≡ Spec.record_refusal (States.bare self.now) (plain event.now)
+    fn record_refusal(&self, event: &LentEvent<'_>, ruling: &LentRuling<'_>) -> Option<Reply>
+        ensures { result ≡ Spec.record_refusal (States.bare self.now) (event_meant event.now)
             (ruling_meant ruling.now).effect }
     {
         if self.lacks_places(ruling) {

@@ -1,12 +1,13 @@
 //! Events: what a core is asked.
 
-ghost use Rattle.std.specs.Prelude.{◌≡◌, true, IfSome};
+ghost use Rattle.std.specs.Prelude.{◌≡◌, true, None, IfSome, IfOk, IsOk};
 ghost use Rattle.command_reader.specs.Accepted.{IsAccepted};
-ghost use Rattle.rulings.specs.Events.{plain, is_of_names_alone, kind_of, id_of, call_number_of, put_in_force};
+ghost use Rattle.rulings.specs.Events.{plain, event_meant, is_of_names_alone, kind_of, id_of, call_number_of, put_in_force};
 
 use compiler::Tables;
 use gk_terms::{Dialled, Name, Units};
 use registry::Endpoint;
+use std::alloc::AllocError;
 use std::sync::Arc;
 
 /// What an endpoint or an operator asks of the core.
@@ -50,6 +51,83 @@ pub enum Event {
     Reload(Arc<Tables>),
 }
 
+/// An event, of which the names, the endpoint and the tables are lent: an event is large, and
+/// whoever looks at it keeps little of it.
+#[derive(Clone, Copy)]
+pub enum LentEvent<'a> {
+    /// `Event::Register`.
+    Register(&'a Endpoint),
+    /// `Event::Unregister`.
+    Unregister {
+        id: &'a Name,
+    },
+    /// `Event::Admit`.
+    Admit {
+        id: &'a Name,
+        call: u32,
+        digits: &'a Dialled,
+        units: Units,
+    },
+    /// `Event::Change`.
+    Change {
+        id: &'a Name,
+        call: u32,
+        units: Units,
+    },
+    /// `Event::Release`.
+    Release {
+        id: &'a Name,
+        call: u32,
+    },
+    /// `Event::Reload`.
+    Reload(&'a Tables),
+}
+
+impl LentEvent<'_> {
+    /// Does nothing: it tells the proofs that the tables of a reload are of an accepted
+    /// configuration.
+    pub fn is_of_an_accepted_configuration(&self)
+        ensures { IfSome (put_in_force (event_meant self.now)) IsAccepted }
+    {
+        if let LentEvent::Reload(tables) = self {
+            let _count = tables.commands().len();
+        }
+    }
+
+    /// The same event, for an event that is not a reload. Memory is taken for an endpoint alone.
+    pub fn to_event(&self) -> Result<Event, AllocError>
+        requires other { put_in_force (event_meant self.now) ≡ None }
+        ensures same { IfOk result (λ event. plain event ≡ event_meant self.now) }
+        ensures names { is_of_names_alone (event_meant self.now) ≡ true → IsOk result }
+    {
+        Ok(match self {
+            LentEvent::Register(endpoint) => Event::Register(endpoint.copy()?),
+            LentEvent::Reload(_) => unreachable!(),
+            LentEvent::Unregister { id } => Event::Unregister { id: **id },
+            LentEvent::Admit {
+                id,
+                call,
+                digits,
+                units,
+            } => Event::Admit {
+                id: **id,
+                call: *call,
+                digits: **digits,
+                units: *units,
+            },
+            LentEvent::Change { id, call, units } => Event::Change {
+                id: **id,
+                call: *call,
+                units: *units,
+            },
+            LentEvent::Release { id, call } => Event::Release {
+                id: **id,
+                call: *call,
+            },
+        })
+    }
+}
+
 /// What kind of event it is.
 #[derive(Clone, Copy, Debug, PartialEq, Eq)]
 pub enum EventKind {
@@ -68,61 +146,6 @@ pub enum EventKind {
 }
 
 impl Event {
-    /// Does nothing: it tells the proofs that the tables of a reload are of an accepted
-    /// configuration.
-    pub fn is_of_an_accepted_configuration(&self)
-        ensures { IfSome (put_in_force (plain self.now)) IsAccepted }
-    {
-        if let Event::Reload(tables) = self {
-            let _count = tables.commands().len();
-        }
-    }
-
-    /// Whether it holds names and numbers alone, neither an endpoint nor tables, so that it can be
-    /// copied.
-    pub fn is_of_names_alone(&self) -> bool
-        ensures { result ≡ is_of_names_alone (plain self.now) }
-    {
-        match self {
-            Event::Register(_) | Event::Reload(_) => false,
-            Event::Unregister { .. }
-            | Event::Admit { .. }
-            | Event::Change { .. }
-            | Event::Release { .. } => true,
-        }
-    }
-
-    /// The same event, if it holds names and numbers alone.
-    pub fn copy(&self) -> Event
-        requires { is_of_names_alone (plain self.now) ≡ true }
-        ensures { plain result ≡ plain self.now }
-    {
-        match self {
-            Event::Register(_) | Event::Reload(_) => unreachable!(),
-            Event::Unregister { id } => Event::Unregister { id: *id },
-            Event::Admit {
-                id,
-                call,
-                digits,
-                units,
-            } => Event::Admit {
-                id: *id,
-                call: *call,
-                digits: *digits,
-                units: *units,
-            },
-            Event::Change { id, call, units } => Event::Change {
-                id: *id,
-                call: *call,
-                units: *units,
-            },
-            Event::Release { id, call } => Event::Release {
-                id: *id,
-                call: *call,
-            },
-        }
-    }
-
     /// What kind of event it is.
     pub fn kind(&self) -> EventKind
         ensures { result ≡ kind_of (plain self.now) }

@@ -10,12 +10,13 @@ pub mod limits;
 mod machine;
 mod registering;
 pub mod replies;
+mod reply_takers;
 pub mod routes;
 pub mod routing;
 mod rulings;
 mod verdicts;
 
-pub use events::{Event, EventKind};
+pub use events::{Event, EventKind, LentEvent};
 pub use lent_routes::DestinationKind;
 pub use lent_rulings::LentRuling;
 pub use limits::{Limits, STATED_LIMITS};
@@ -25,6 +26,7 @@ pub use replies::{
     AdmitRefusal, ChangeRefusal, RegisterRefusal, ReleaseRefusal, ReloadRefusal, Reply,
     UnregisterRefusal,
 };
+pub use reply_takers::{KeptReply, ReplyTaker};
 pub use routes::{Destination, Route, RouteRefusal};
 pub use routing::route;
 pub use rulings::Effect;

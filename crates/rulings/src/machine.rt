@@ -5,12 +5,12 @@ ghost use Rattle.registry.specs.Registration.{alias_is_taken, is_registered, wit
 ghost use Rattle.bandwidth.specs.Calls.{call_of, is_open, with_call, with_changed, without_call};
 ghost use Rattle.rulings.specs.State.{bare, idle, under};
 ghost use Rattle.rulings.specs.Limits.{are_limits};
-ghost use Rattle.rulings.specs.Events.{plain};
+ghost use Rattle.rulings.specs.Events.{event_meant};
 ghost use Rattle.rulings.specs.Step.{with_effect, with_count};
 ghost use Rattle.rulings.specs.Founded.{is_full_of_endpoints, is_owned, IsFounded, IsReloadable, IsUnder, IsFallible, takes_memory};
 
 use crate::calling::{close_in, open_in, resize_in};
-use crate::events::Event;
+use crate::events::LentEvent;
 use crate::limits::Limits;
 use crate::registering::remove_from;
 use crate::rulings::Effect;
@@ -136,15 +136,16 @@ impl Machine {
     pub fn apply(
         &mut self,
         tables: &Tables,
-        event: &Event,
+        event: &LentEvent<'_>,
         effect: &Effect,
     ) -> Result<(), AllocError>
-        requires founded { IsFounded (under tables.now.commands self.old) (plain event.now)
+        requires founded { IsFounded (under tables.now.commands self.old) (event_meant event.now)
             effect.now }
         requires counted { 1 + self.old.records ≤ self.old.limits.records }
         ensures ok { OnOk result (IsUnder self.new (with_count
-            (with_effect (under tables.now.commands self.old) (plain event.now) effect.now))) }
-        ensures err { OnErr result ((self.new ≡ self.old) × IsFallible (plain event.now)
+            (with_effect (under tables.now.commands self.old) (event_meant event.now)
+            effect.now))) }
+        ensures err { OnErr result ((self.new ≡ self.old) × IsFallible (event_meant event.now)
             × (takes_memory effect.now ≡ true)) }
     {
         let records = self.next_number();
@@ -158,14 +159,14 @@ impl Machine {
     fn carry_out(
         &mut self,
         tables: &Tables,
-        event: &Event,
+        event: &LentEvent<'_>,
         effect: &Effect,
     ) -> Result<(), AllocError>
-        requires founded { IsFounded (under tables.now.commands self.old) (plain event.now)
+        requires founded { IsFounded (under tables.now.commands self.old) (event_meant event.now)
             effect.now }
         ensures ok { OnOk result (IsUnder self.new
-            (with_effect (under tables.now.commands self.old) (plain event.now) effect.now)) }
-        ensures err { OnErr result ((self.new ≡ self.old) × IsFallible (plain event.now)
+            (with_effect (under tables.now.commands self.old) (event_meant event.now) effect.now)) }
+        ensures err { OnErr result ((self.new ≡ self.old) × IsFallible (event_meant event.now)
             × (takes_memory effect.now ≡ true)) }
     {
         match effect {
@@ -194,38 +195,38 @@ impl Machine {
     #[tactic(auto, using(crate::proofs::RegisteringLemmas::not_taken))]
     /// Puts a copy of the endpoint that asks among the endpoints, in this zone.
     #[inline(never)]
-    fn put(&mut self, tables: &Tables, event: &Event, zone: Name) -> Result<(), AllocError>
-        requires founded { IsFounded (under tables.now.commands self.old) (plain event.now)
+    fn put(&mut self, tables: &Tables, event: &LentEvent<'_>, zone: Name) -> Result<(), AllocError>
+        requires founded { IsFounded (under tables.now.commands self.old) (event_meant event.now)
             (Effect.Put zone) }
         ensures ok { OnOk result (IsUnder self.new
-            (with_effect (under tables.now.commands self.old) (plain event.now)
+            (with_effect (under tables.now.commands self.old) (event_meant event.now)
             (Effect.Put zone))) }
-        ensures err { OnErr result ((self.new ≡ self.old) × IsFallible (plain event.now)) }
+        ensures err { OnErr result ((self.new ≡ self.old) × IsFallible (event_meant event.now)) }
     {
         match event {
-            Event::Register(endpoint) => self.register(endpoint.copy()?, zone),
-            Event::Unregister { .. }
-            | Event::Admit { .. }
-            | Event::Change { .. }
-            | Event::Release { .. }
-            | Event::Reload(_) => unreachable!(),
+            LentEvent::Register(endpoint) => self.register(endpoint, zone),
+            LentEvent::Unregister { .. }
+            | LentEvent::Admit { .. }
+            | LentEvent::Change { .. }
+            | LentEvent::Release { .. }
+            | LentEvent::Reload(_) => unreachable!(),
         }
     }
 
     /// Begins the next version, with the tables that are asked for, and lets go of each
     /// endpoint whose zone is not local in them. Open calls stay as they are.
-    fn put_in_force(&mut self, event: &Event)
-        requires founded { IsReloadable (bare self.old) (plain event.now) }
+    fn put_in_force(&mut self, event: &LentEvent<'_>)
+        requires founded { IsReloadable (bare self.old) (event_meant event.now) }
         ensures { IsUnder self.new
-            (with_effect (bare self.old) (plain event.now) Effect.PutInForce) }
+            (with_effect (bare self.old) (event_meant event.now) Effect.PutInForce) }
     {
         match event {
-            Event::Reload(tables) => self.begin_version(tables),
-            Event::Register(_)
-            | Event::Unregister { .. }
-            | Event::Admit { .. }
-            | Event::Change { .. }
-            | Event::Release { .. } => unreachable!(),
+            LentEvent::Reload(tables) => self.begin_version(tables),
+            LentEvent::Register(_)
+            | LentEvent::Unregister { .. }
+            | LentEvent::Admit { .. }
+            | LentEvent::Change { .. }
+            | LentEvent::Release { .. } => unreachable!(),
         }
     }
 
@@ -242,11 +243,11 @@ impl Machine {
     }
 
     /// Registers an endpoint in this zone; no alias of it is another's, and there is room for it.
-    fn register(&mut self, endpoint: Endpoint, zone: Name) -> Result<(), AllocError>
-        requires free { alias_is_taken self.old.endpoints endpoint ≡ false }
-        requires room { is_full_of_endpoints (bare self.old) endpoint ≡ false }
+    fn register(&mut self, endpoint: &Endpoint, zone: Name) -> Result<(), AllocError>
+        requires free { alias_is_taken self.old.endpoints endpoint.now ≡ false }
+        requires room { is_full_of_endpoints (bare self.old) endpoint.now ≡ false }
         ensures ok { OnOk result (self.new ≡ record self.old {
-          endpoints = with_endpoint self.old.endpoints (record endpoint { zone = zone });
+          endpoints = with_endpoint self.old.endpoints (record endpoint.now { zone = zone });
         }) }
         ensures err { OnErr result (self.new ≡ self.old) }
     {

@@ -11,7 +11,7 @@ ghost use Rattle.rulings.specs.Lent.{IsPlanOf, ruling_meant};
 ghost use Rattle.rulings.specs.Ruling as Spec;
 ghost use Rattle.rulings.specs.State.{bare, under};
 
-use crate::events::Event;
+use crate::events::LentEvent;
 use crate::lent_routes::LentRoute;
 use crate::lent_rulings::LentRuling;
 use crate::machine::Machine;
@@ -48,21 +48,21 @@ impl Machine {
     /// The ruling on an event, with these tables in force. An admission is planned by them, unless
     /// their plan for its digits is given.
     #[inline(never)]
-    pub fn ruling<'a>(
+    pub fn ruling<'a, 'e: 'a>(
         &'a self,
         tables: &'a Tables,
         planned: Option<&Plan>,
-        event: &'a Event,
+        event: &LentEvent<'e>,
     ) -> LentRuling<'a>
         requires planned { IfSome (option_copied planned)
-            (IsPlanOf tables.now.commands (Events.plain event.now)) }
+            (IsPlanOf tables.now.commands (Events.event_meant event.now)) }
         ensures { ruling_meant result ≡ Spec.ruling_of (under tables.now.commands self.now)
-            (Events.plain event.now) }
+            (Events.event_meant event.now) }
     {
         match event {
-            Event::Register(endpoint) => self.registration(tables, endpoint),
-            Event::Unregister { id } => self.unregistration(id),
-            Event::Admit {
+            LentEvent::Register(endpoint) => self.registration(tables, endpoint),
+            LentEvent::Unregister { id } => self.unregistration(id),
+            LentEvent::Admit {
                 id,
                 call,
                 digits,
@@ -74,11 +74,11 @@ impl Machine {
                     self.admission(tables, plan, id, *call, digits, *units)
                 }
             },
-            Event::Change { id, call, units } => {
+            LentEvent::Change { id, call, units } => {
                 self.bandwidth_change(tables, id, *call, *units)
             }
-            Event::Release { id, call } => self.release(id, *call),
-            Event::Reload(_) => self.reload(),
+            LentEvent::Release { id, call } => self.release(id, *call),
+            LentEvent::Reload(_) => self.reload(),
         }
     }
 

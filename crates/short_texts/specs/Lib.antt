@@ -1,1 +1,2 @@
 pub mod PackedDigits
+pub mod CompactText

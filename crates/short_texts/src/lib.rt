@@ -1,8 +1,10 @@
 //! Short texts in few bytes: for a record that keeps very many of them.
 #![tactic(auto)]
 
+pub mod compact_text;
 pub mod packed_digits;
 pub mod short_names;
 
+pub use compact_text::{COMPACT_BYTES, CompactText};
 pub use packed_digits::PackedDigits;
 pub use short_names::{SHORT_NAME, ShortName};

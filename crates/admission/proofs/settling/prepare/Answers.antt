@@ -1,7 +1,7 @@
 use Rattle.std.proofs.Common.{refl, sym, ap, ◌∙◌, ◌-◌, arith}
 use Rattle.std.specs.Prelude.{◌≤◌, length}
 use Rattle.rulings.specs.Ruling.{ruling_of}
-use Rattle.rulings.specs.Events.{plain}
+use Rattle.rulings.specs.Events.{event_meant}
 use Rattle.rulings.specs.Step.{places_needed, with_count, with_effect}
 use Rattle.command_reader.proofs.PrintingLemmas.{OnErr-from}
 use Rattle.rulings.specs.State.{State, under}
@@ -43,7 +43,7 @@ returns-clause-places c =
       ap (λ (s : State). length s.calls) (moved
           ∙ ap (λ e. with_count (with_effect (under (in_force c.args.history.now)
           c.args.machine.now)
-          (plain c.args.event.now) e)) c.requires.ruled),
+          (event_meant c.args.event.now) e)) c.requires.ruled),
       c.saturating_sub-more.ensures,
       c.places_needed-needed.ensures ∙ ap places_needed c.requires.ruled,
       c.requires.kept,

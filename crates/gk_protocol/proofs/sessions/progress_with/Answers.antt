@@ -12,12 +12,12 @@ returns-in-Ok-Answered-clause-progress g c =
     let line = content_of c.args.line.now in
     let arm = c.in-Ok-Answered in
     let told : Hears g.A.Answerer.may_answer c.args.answerer.now c.content.result.now
-    (Ok heard.Answered) c.hear.new.reply c.hear.new.answerer = rw (arm.field-0-is) at
+    (Ok heard.Answered) c.hear.new.reply.line c.hear.new.answerer = rw (arm.field-0-is) at
     arm.ensures in
     by_itself g.A.Answerer.may_answer _ c.args.lines.now.ended c.args.answerer.now
     c.hear.new.answerer line _ (Ok Answered)
     (answered_by_itself g.A.Answerer.may_answer c.args.answerer.now c.hear.new.answerer line
-    c.hear.new.reply (rw c.content.ensures at told))
+    c.hear.new.reply.line (rw c.content.ensures at told))
 
 pub returns-in-Err-clause-progress : goal.returns-in-Err-clause-progress
 returns-in-Err-clause-progress g c =
@@ -28,6 +28,6 @@ returns-in-Err-clause-progress g c =
       Malformed fault,
       c.show_fault.ensures,
       answered_fault g.A.Answerer.may_answer
-          c.args.answerer.now c.hear.new.answerer line c.hear.new.reply fault
+          c.args.answerer.now c.hear.new.answerer line c.hear.new.reply.line fault
           (rw c.content.ensures at c.in-Err.ensures),
     )

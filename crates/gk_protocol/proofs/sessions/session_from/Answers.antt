@@ -67,7 +67,8 @@ returns-in_err-progress_with-clause-written g c =
     let p = err_from_is_err_and c.from_residual-in_err-progress_with.result
     c.from_residual-in_err-progress_with.ensures.1 in
     rw (p.1, p.2)
-    (session_stops_within g.A.Answerer.may_answer _ _ _ _ _ _ _ _ _ c.progress_with.new.reply _ _ _
+    (session_stops_within g.A.Answerer.may_answer _ _ _ _ _ _ _ _ _
+    c.progress_with.new.reply.line _ _ _
     _ _ _ c.in_err-progress_with.field-0.0 (c.in_ok-next_line.ensures.unended_line
     c.if-branch.true) c.loop-lines.invariant.under_way
     (c.in_ok-next_line.ensures.line c.if-branch.true) c.in_err-progress_with.ensures.progress
@@ -82,7 +83,8 @@ returns-in-CutShort-clause-written g c =
     (rw c.in-CutShort.is at c.in_ok-progress_with.ensures.progress) none.0 none.1
     c.in_ok-send-in-CutShort.ensures.whole
 
-pub returns-in_err-send-in-CutShort-clause-written : goal.returns-in_err-send-in-CutShort-clause-written
+pub returns-in_err-send-in-CutShort-clause-written
+    : goal.returns-in_err-send-in-CutShort-clause-written
 returns-in_err-send-in-CutShort-clause-written g c =
     let p = err_from_is_err_and c.from_residual-in_err-send-in-CutShort.result
     c.from_residual-in_err-send-in-CutShort.ensures.1 in
@@ -93,7 +95,8 @@ returns-in_err-send-in-CutShort-clause-written g c =
     (rw c.in-CutShort.is at c.in_ok-progress_with.ensures.progress)
     c.in_err-send-in-CutShort.ensures.front)
 
-pub returns-in_err-send-in-Answered-clause-written : goal.returns-in_err-send-in-Answered-clause-written
+pub returns-in_err-send-in-Answered-clause-written
+    : goal.returns-in_err-send-in-Answered-clause-written
 returns-in_err-send-in-Answered-clause-written g c =
     let p = err_from_is_err_and c.from_residual-in_err-send-in-Answered.result
     c.from_residual-in_err-send-in-Answered.ensures.1 in

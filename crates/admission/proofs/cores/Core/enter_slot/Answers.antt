@@ -1,30 +1,28 @@
-use Rattle.std.proofs.Common.{◌≡◌, ◌≤◌, ◌++◌, [], Some, false, refl, sym, ap, ap₂, ◌∙◌, true≢false, arith}
+use Rattle.std.proofs.Common.{◌++◌, [], Some, refl, sym, ap, ap₂, ◌∙◌, arith}
 use Rattle.std.specs.List.{cons_option}
 use Rattle.rulings.specs.Events as Events
-use Rattle.decision_record.specs.History.{CoreParts, RecordParts, entry_of, state_of}
-use Rattle.admission.specs.CoreInvariant.{places_reserved}
+use Rattle.decision_record.specs.History.{RecordParts, entry_of}
 use Rattle.rulings.specs.Ruling.{ruling_of}
-use Rattle.rulings.specs.Founded.{takes_memory}
-use Rattle.rulings.specs.Step.{places_needed, step}
+use Rattle.rulings.specs.Step.{step}
 use Rattle.admission.proofs.EnteringLemmas.{recorded_unrefused, recorded_verdict_of}
-use Rattle.admission.proofs.CoreLemmas.{stands_as, counts, is_within, core_still, reload_is_light}
+use Rattle.admission.proofs.CoreLemmas.{stands_as, counts, is_within, core_still}
 use Rattle.admission.proofs.EventLemmas.{lacks_memory, kept_on, records}
 use Rattle.admission.proofs.cores.Core.enter_slot.Goals as goal
 
 pub prepare-requires-clause-ruled : goal.prepare-requires-clause-ruled
 prepare-requires-clause-ruled c =
     c.requires.effect
-    ∙ ap (λ s. (ruling_of s (Events.plain c.args.event.now)).effect)
+    ∙ ap (λ s. (ruling_of s (Events.event_meant c.args.event.now)).effect)
     (sym (stands_as _ _ _ c.self.invariant _ c.self.view_is))
 
 pub prepare-requires-clause-recordable : goal.prepare-requires-clause-recordable
 prepare-requires-clause-recordable c =
-    recorded_unrefused _ _ (ap (λ s. (step s (Events.plain c.args.event.now)).recorded)
+    recorded_unrefused _ _ (ap (λ s. (step s (Events.event_meant c.args.event.now)).recorded)
     (stands_as _ _ _ c.self.invariant _ c.self.view_is) ∙ c.requires.recorded)
 
 pub prepare-requires-clause-recorded : goal.prepare-requires-clause-recorded
 prepare-requires-clause-recorded c =
-    recorded_verdict_of _ _ (ap (λ s. (step s (Events.plain c.args.event.now)).recorded)
+    recorded_verdict_of _ _ (ap (λ s. (step s (Events.event_meant c.args.event.now)).recorded)
     (stands_as _ _ _ c.self.invariant _ c.self.view_is) ∙ c.requires.recorded)
 
 pub prepare-requires-clause-counted : goal.prepare-requires-clause-counted
@@ -36,7 +34,7 @@ prepare-requires-clause-within c = is_within _ _ _ c.self.invariant
 pub invariant_of-self : goal.invariant_of-self
 invariant_of-self c =
     let stands = stands_as _ _ _ c.self.invariant _ c.self.view_is in
-    let recorded = ap (λ s. (step s (Events.plain c.args.event.now)).recorded) stands
+    let recorded = ap (λ s. (step s (Events.event_meant c.args.event.now)).recorded) stands
     ∙ c.requires.recorded in
     kept_on _ _ _ _ c.self.invariant (recorded_unrefused _ _ recorded)
     (recorded_verdict_of _ _ recorded) c.prepare.new.machine c.push_slot.new.self
@@ -44,14 +42,15 @@ invariant_of-self c =
     (ap (λ (h : RecordParts). h.opening) c.push_slot.ensures ∙ c.in-Ok.ensures.opening)
     (ap (λ (h : RecordParts). h.entries) c.push_slot.ensures
     ∙ ap₂ (λ es o. es ++ cons_option o []) c.in-Ok.ensures.entries
-    (c.requires.slot ∙ ap (λ s. Some (entry_of s (Events.plain c.args.event.now))) (sym stands)))
+    (c.requires.slot ∙ ap (λ s. Some (entry_of s (Events.event_meant c.args.event.now))) (sym
+    stands)))
     (omega (arith, ap (λ (h : RecordParts). h.kept) c.push_slot.ensures, c.in-Ok.ensures.places))
     c.is_of_an_accepted_configuration.ensures
 
 pub returns-in-Ok-clause-ok : goal.returns-in-Ok-clause-ok
 returns-in-Ok-clause-ok c =
     let stands = stands_as _ _ _ c.self.invariant _ c.self.view_is in
-    let recorded = ap (λ s. (step s (Events.plain c.args.event.now)).recorded) stands
+    let recorded = ap (λ s. (step s (Events.event_meant c.args.event.now)).recorded) stands
     ∙ c.requires.recorded in
     (records _ _ _ _ c.self.invariant (recorded_unrefused _ _ recorded)
     (recorded_verdict_of _ _ recorded) c.prepare.new.machine c.push_slot.new.self
@@ -59,33 +58,17 @@ returns-in-Ok-clause-ok c =
     (ap (λ (h : RecordParts). h.opening) c.push_slot.ensures ∙ c.in-Ok.ensures.opening)
     (ap (λ (h : RecordParts). h.entries) c.push_slot.ensures
     ∙ ap₂ (λ es o. es ++ cons_option o []) c.in-Ok.ensures.entries
-    (c.requires.slot ∙ ap (λ s. Some (entry_of s (Events.plain c.args.event.now))) (sym stands)))
+    (c.requires.slot ∙ ap (λ s. Some (entry_of s (Events.event_meant c.args.event.now))) (sym
+    stands)))
     _ _ _ c.self.view_is refl refl).new_is
 
 pub returns-in-Err-clause-err : goal.returns-in-Err-clause-err
 returns-in-Err-clause-err c refusal is =
     let stands = stands_as _ _ _ c.self.invariant _ c.self.view_is in
-    let recorded = ap (λ s. (step s (Events.plain c.args.event.now)).recorded) stands
+    let recorded = ap (λ s. (step s (Events.event_meant c.args.event.now)).recorded) stands
     ∙ c.requires.recorded in
     lacks_memory _ _ _ stands (recorded_unrefused _ _ recorded) _ _
     (recorded_verdict_of _ _ recorded) is
     (core_still c.self.inside.machine c.prepare.new.machine c.self.inside.history
     c.prepare.new.history c.self.inside.reserved c.in-Err.ensures.err.0 c.in-Err.ensures.err.1
     ∙ c.self.view_is)
-
-pub returns-in-Err-clause-reserved : goal.returns-in-Err-clause-reserved
-returns-in-Err-clause-reserved c =
-    λ was puts.
-    let light
-    : (takes_memory (ruling_of (state_of c.args.self.now) (Events.plain c.args.event.now)).effect ≡
-    false)
-    × (places_needed (ruling_of (state_of c.args.self.now) (Events.plain c.args.event.now)).effect ≡
-    1) =
-    reload_is_light _ _ puts in
-    let kept : c.places_reserved-reserved.result ≡ 1 =
-    c.places_reserved-reserved.ensures
-    ∙ ap places_reserved (ap (λ (core : CoreParts). core.reserved) c.self.view_is ∙ was) in
-    let enough : places_needed c.args.effect.now ≤ c.places_reserved-reserved.result =
-    omega (arith, ap places_needed c.requires.effect ∙ light.1, kept) in
-    absurd (true≢false (sym (c.in-Err.ensures.unfailing
-    (ap takes_memory c.requires.effect ∙ light.0) enough)))

@@ -2,6 +2,7 @@ use Rattle.std.proofs.Common.{◌≤◌, ◌-◌, ◌++◌, [], ◌∷◌, lengt
 use Rattle.std.specs.Arc.{arc_value}
 use Rattle.decision_record.specs.History.{RecordParts}
 use Rattle.decision_record.specs.RecordIndex.{plain_whole, entries_told, IsStored, IsLastReload}
+use Rattle.decision_record.specs.declared.entries.WholeEntry.{WholeEntry}
 use Rattle.decision_record.proofs.StoredLemmas.{whole_stored, told_are, stored_told, slots_counted}
 use Rattle.decision_record.proofs.ReloadLemmas.{none_more}
 use Rattle.decision_record.proofs.record.Record.push_whole.Goals as goal
@@ -15,17 +16,26 @@ push-requires-clause-few c =
       ap (λ (h : RecordParts). length h.entries) c.self.view_is,
     )
 
+-- the entry, as it is kept
+abbrev entry : (c : goal.After-self-1) → WholeEntry
+entry c = record {
+  event = c.args.event;
+  reply = c.args.told.now.reply;
+  zone = c.args.told.now.zone;
+  route = c.args.told.now.route;
+}
+
 -- what is stored with the entry
 stored : (c : goal.After-self-1)
     → IsStored c.push.new.self c.push-2.new.self c.self.inside.registrations c.self.inside.reloads
     (entries_told c.self.inside.slots c.self.inside.aside c.self.inside.registrations
     c.self.inside.reloads
-    ++ plain_whole c.args.entry ∷ [])
+    ++ plain_whole (entry c) ∷ [])
     (c.self.inside.kept - 1)
 stored c =
     let one : 1 ≤ c.self.inside.kept =
     omega (arith, c.requires.kept, ap (λ (h : RecordParts). h.kept) c.self.view_is) in
-    whole_stored _ _ _ _ _ _ c.self.invariant.0 one c.len-place.result c.args.entry c.push.new.self
+    whole_stored _ _ _ _ _ _ c.self.invariant.0 one c.len-place.result (entry c) c.push.new.self
     c.push-2.new.self c.len-place.ensures.value
     c.push.ensures
     c.push-2.ensures
@@ -35,12 +45,12 @@ last : (c : goal.After-self-1)
     → IsLastReload (arc_value c.self.inside.opening).commands c.self.inside.reloads.last
     (entries_told c.self.inside.slots c.self.inside.aside c.self.inside.registrations
     c.self.inside.reloads
-    ++ plain_whole c.args.entry ∷ [])
+    ++ plain_whole (entry c) ∷ [])
 last c =
     none_more (arc_value c.self.inside.opening).commands c.self.inside.reloads.last
     (entries_told c.self.inside.slots c.self.inside.aside c.self.inside.registrations
     c.self.inside.reloads)
-    c.self.invariant.1 (plain_whole c.args.entry) c.requires.other
+    c.self.invariant.1 (plain_whole (entry c)) c.requires.other
 
 pub invariant_of-self : goal.invariant_of-self
 invariant_of-self c = (
@@ -58,6 +68,6 @@ returns c =
       kept = c.self.inside.kept - 1;
     }) (told_are _ _ _ _ _ _ (stored c))
     ∙ ap (λ (h : RecordParts). record h {
-      entries = h.entries ++ plain_whole c.args.entry ∷ [];
+      entries = h.entries ++ plain_whole (entry c) ∷ [];
       kept = h.kept - 1;
     }) c.self.view_is

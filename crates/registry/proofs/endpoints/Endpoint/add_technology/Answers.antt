@@ -6,7 +6,7 @@ use Rattle.registry.proofs.endpoints.Endpoint.add_technology.Goals as goal
 pub invariant_of-self : goal.invariant_of-self
 invariant_of-self c =
     let pushed = c.push_reserved.ensures.items
-    ∙ ap (λ items. items ++ c.args.prefix ∷ []) c.reserve_exact.ensures.items in
+    ∙ ap (λ items. items ++ c.args.prefix ∷ []) c.reserve.ensures.items in
     let longer = ap length pushed ∙ length-append c.self.inside.technologies.items _ in
     let room = c.if-len-ge-MOST_TECHNOLOGIES.false in
     let count = c.len.ensures in

@@ -12,7 +12,7 @@ invariant_of-self c =
     let taken = c.remove-removed.ensures.numbered number c.number_for-number.ensures.number in
     left_out c.self.inside.served c.leave.new.self old new number c.self.invariant taken
     (subst (λ gone. Leaves c.self.inside.served c.leave.new.self number gone None)
-    (c.endpoint_in.ensures ∙ c.as_ref.ensures.value ∙ c.remove-removed.ensures.removed ∙
+    (c.as_ref.ensures.value ∙ c.remove-removed.ensures.removed ∙
     c.number_for-number.ensures.kept)
     (subst (Leaves c.self.inside.served c.leave.new.self number _)
     (set_here old new number None taken) c.leave.ensures))

@@ -1,9 +1,6 @@
-use Rattle.std.proofs.Common.{◌≡◌, ◌+◌, refl, sym, ap, subst, arith}
+use Rattle.std.proofs.Common.{◌+◌, refl, sym, ap, subst, arith}
 use Rattle.std.proofs.lemmas.Result.{MatchResult-at_ok}
-use Rattle.std.specs.Prelude.{Some}
-use Rattle.std.specs.Ordering.{nat_cmp}
-use Rattle.std.specs.BTreeMap.{insert_entry}
-use Rattle.registry.specs.Roll.{IsNumberFor, IsPut, IsSetAt, by_id}
+use Rattle.registry.specs.Roll.{IsNumberFor, IsPut, by_id}
 use Rattle.registry.proofs.RollLemmas.{less_than_next}
 use Rattle.registry.proofs.RollInsertion.{roll_reordered, roll_put, put_among, led_before}
 use Rattle.registry.proofs.roll.Roll.insert.Goals as goal
@@ -13,41 +10,33 @@ pub invariant_of-self-then-number-self : goal.invariant_of-self-then-number-self
 invariant_of-self-then-number-self c =
     let number = c.args.number in
     let last = c.if-number-self.true in
-    let fits = subst (λ r. IsNumberFor r c.args.endpoint.id number) (sym c.self.view_is)
+    let fits = subst (λ r. IsNumberFor r c.args.held.id number) (sym c.self.view_is)
     c.requires.number in
-    let set = subst (λ e. IsSetAt c.self.inside.endpoints.entries c.insert.new.self.entries
-    c.args.number (Some e)) c.in_ok-held.ensures.held c.in-Ok.ensures.updates.0 in
+    let set = c.in-Ok.ensures.updates.0 in
     let numbered = MatchResult-at_ok _ _ _ c.unwrap.ensures c.insert-numbered.ensures.updates in
     roll_put c.self.inside.endpoints.entries c.insert.new.self.entries
     c.self.inside.numbers.entries c.reserve.new.self.entries c.self.inside.next c.self.invariant
-    c.reserve.ensures.entries.2 c.insert-numbered.new.self.entries c.args.endpoint
-    c.id-id.result.now
-    number c.id-id.ensures fits set numbered.0 c.insert.ensures.ordered
+    c.reserve.ensures.entries.2 c.insert-numbered.new.self.entries c.args.held
+    c.args.id.now
+    number c.requires.own fits set numbered.0 c.insert.ensures.ordered
     (number + 1) (omega (arith, last)) (omega arith)
 
 pub invariant_of-self-else-number-self : goal.invariant_of-self-else-number-self
 invariant_of-self-else-number-self c =
     let number = c.args.number in
-    let fits = subst (λ r. IsNumberFor r c.args.endpoint.id number) (sym c.self.view_is)
+    let fits = subst (λ r. IsNumberFor r c.args.held.id number) (sym c.self.view_is)
     c.requires.number in
-    let set = subst (λ e. IsSetAt c.self.inside.endpoints.entries c.insert.new.self.entries
-    c.args.number (Some e)) c.in_ok-held.ensures.held c.in-Ok.ensures.updates.0 in
+    let set = c.in-Ok.ensures.updates.0 in
     roll_put c.self.inside.endpoints.entries c.insert.new.self.entries
     c.self.inside.numbers.entries c.reserve.new.self.entries c.self.inside.next c.self.invariant
-    c.reserve.ensures.entries.2 c.reserve.new.self.entries c.args.endpoint
-    c.args.endpoint.id number refl fits set
+    c.reserve.ensures.entries.2 c.reserve.new.self.entries c.args.held
+    c.args.held.id number refl fits set
     (led_before c.self.inside.endpoints.entries c.insert.new.self.entries
     c.self.inside.numbers.entries c.reserve.new.self.entries c.self.inside.next c.self.invariant
-    c.reserve.ensures.entries.2 c.args.endpoint.id number fits c.if-number-self.false)
+    c.reserve.ensures.entries.2 c.args.held.id number fits c.if-number-self.false)
     c.insert.ensures.ordered c.self.inside.next (omega arith)
     (less_than_next c.self.inside.endpoints.entries c.self.inside.numbers.entries
-    c.self.inside.next c.self.invariant c.args.endpoint.id number fits c.if-number-self.false)
-
-pub invariant_of-self-in_err-held : goal.invariant_of-self-in_err-held
-invariant_of-self-in_err-held c =
-    roll_reordered c.self.inside.endpoints.entries c.self.inside.endpoints.entries
-    c.self.inside.numbers.entries c.reserve.new.self.entries c.self.inside.next c.self.invariant
-    c.reserve.ensures.entries.2 refl
+    c.self.inside.next c.self.invariant c.args.held.id number fits c.if-number-self.false)
 
 pub invariant_of-self-in-Err : goal.invariant_of-self-in-Err
 invariant_of-self-in-Err c =
@@ -58,14 +47,11 @@ invariant_of-self-in-Err c =
 pub returns-after-number-self-clause-ok : goal.returns-after-number-self-clause-ok
 returns-after-number-self-clause-ok c =
     let number = c.args.number in
-    let e = c.args.endpoint in
-    let fits = subst (λ r. IsNumberFor r c.args.endpoint.id number) (sym c.self.view_is)
+    let e = c.args.held in
+    let fits = subst (λ r. IsNumberFor r c.args.held.id number) (sym c.self.view_is)
     c.requires.number in
-    let set = subst (λ e. IsSetAt c.self.inside.endpoints.entries c.insert.new.self.entries
-    c.args.number (Some e)) c.in_ok-held.ensures.held c.in-Ok.ensures.updates.0 in
-    let entered = subst (λ e. c.insert.new.self.entries
-    ≡ insert_entry nat_cmp c.self.inside.endpoints.entries number e) c.in_ok-held.ensures.held
-    c.in-Ok.ensures.entries in
+    let set = c.in-Ok.ensures.updates.0 in
+    let entered = c.in-Ok.ensures.entries in
     let old = ap (λ r. r.entries) c.self.view_is in
     elim c.if-number-self.branch [
       | then-number-self w ↦
@@ -74,7 +60,7 @@ returns-after-number-self-clause-ok c =
           let put = put_among c.self.inside.endpoints.entries c.insert.new.self.entries
           c.self.inside.numbers.entries c.reserve.new.self.entries c.self.inside.next
           c.self.invariant c.reserve.ensures.entries.2 w.insert-numbered.new.self.entries e
-          c.id-id.result.now number c.id-id.ensures fits set numbered.0 c.insert.ensures.ordered
+          c.args.id.now number c.requires.own fits set numbered.0 c.insert.ensures.ordered
           entered in
           subst (λ es. IsPut (by_id es) (by_id c.if-number-self.self.entries) e) old
           (subst (λ es. IsPut (by_id c.self.inside.endpoints.entries) (by_id es) e)

@@ -15,7 +15,7 @@ invariant_of-self c =
     indexed-remove c.self.inside.listing c.remove-removed.new.self.entries alias_numbers rest
     c.args.id.now changed.0 c.remove-removed.result c.self.invariant changed.1
     (subst (λ found. Forgets alias_numbers rest (aliases_of found))
-    (c.endpoint_in.ensures ∙ c.as_ref.ensures.value) c.forget_aliases_of.ensures.forgets)
+    (c.as_ref.ensures.value) c.forget_aliases_of.ensures.forgets)
     c.remove-removed.ensures.entries.unique
 
 pub returns-clause-without : goal.returns-clause-without

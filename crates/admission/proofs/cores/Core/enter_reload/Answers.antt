@@ -1,0 +1,121 @@
+use Rattle.std.proofs.Common.{◌≡◌, ◌≤◌, ◌++◌, ◌∷◌, [], false, refl, sym, ap, ap₂, ◌∙◌, true≢false, arith, inr}
+use Rattle.std.specs.Arc.{arc_value}
+use Rattle.rulings.specs.Events.{Reloading}
+use Rattle.decision_record.specs.History.{CoreParts, RecordParts, entry_of, state_of}
+use Rattle.admission.specs.CoreInvariant.{places_reserved}
+use Rattle.rulings.specs.Ruling.{ruling_of}
+use Rattle.rulings.specs.Founded.{takes_memory}
+use Rattle.rulings.specs.Step.{places_needed, step}
+use Rattle.admission.proofs.EnteringLemmas.{recorded_unrefused, recorded_verdict_of, verdict_may}
+use Rattle.admission.proofs.CoreLemmas.{stands_as, counts, is_within, core_still, reload_is_light}
+use Rattle.admission.proofs.EventLemmas.{lacks_memory, kept_on, records, reload_entry}
+use Rattle.admission.proofs.cores.Core.enter_reload.Goals as goal
+
+pub prepare-requires-clause-ruled : goal.prepare-requires-clause-ruled
+prepare-requires-clause-ruled g c =
+    rw (c.deref.ensures)
+    (c.requires.effect
+    ∙ ap (λ s. (ruling_of s (Reloading (arc_value c.args.tables).commands)).effect)
+    (sym (stands_as _ _ _ c.self.invariant _ c.self.view_is)))
+
+pub prepare-requires-clause-recordable : goal.prepare-requires-clause-recordable
+prepare-requires-clause-recordable g c =
+    rw (c.deref.ensures)
+    (recorded_unrefused _ _
+    (ap (λ s. (step s (Reloading (arc_value c.args.tables).commands)).recorded)
+    (stands_as _ _ _ c.self.invariant _ c.self.view_is) ∙ c.requires.recorded))
+
+pub prepare-requires-clause-recorded : goal.prepare-requires-clause-recorded
+prepare-requires-clause-recorded g c =
+    rw (c.deref.ensures)
+    (recorded_verdict_of _ _
+    (ap (λ s. (step s (Reloading (arc_value c.args.tables).commands)).recorded)
+    (stands_as _ _ _ c.self.invariant _ c.self.view_is) ∙ c.requires.recorded))
+
+pub prepare-requires-clause-counted : goal.prepare-requires-clause-counted
+prepare-requires-clause-counted g c = counts _ _ _ c.self.invariant
+
+pub prepare-requires-clause-within : goal.prepare-requires-clause-within
+prepare-requires-clause-within g c = is_within _ _ _ c.self.invariant
+
+pub invariant_of-self : goal.invariant_of-self
+invariant_of-self g c =
+    let stands = stands_as _ _ _ c.self.invariant _ c.self.view_is in
+    let event = Reloading (arc_value c.args.tables).commands in
+    let recorded = ap (λ s. (step s event).recorded) stands ∙ c.requires.recorded in
+    kept_on _ _ _ event c.self.invariant (recorded_unrefused _ _ recorded)
+    (recorded_verdict_of _ _ recorded) c.prepare.new.machine c.push_reloaded.new.self
+    (rw (c.deref.ensures) at c.in-Ok.ensures.state)
+    (ap (λ (h : RecordParts). h.opening) c.push_reloaded.ensures ∙ c.in-Ok.ensures.opening)
+    (ap (λ (h : RecordParts). h.entries) c.push_reloaded.ensures
+    ∙ ap₂ (λ es e. es ++ e ∷ []) c.in-Ok.ensures.entries
+    (reload_entry _ _ _ c.requires.verdict ∙ ap (λ s. entry_of s event) (sym stands)))
+    (omega (
+      arith,
+      ap (λ (h : RecordParts). h.kept) c.push_reloaded.ensures,
+      c.in-Ok.ensures.places,
+    ))
+    (rw (c.deref.ensures) at c.is_of_an_accepted_configuration.ensures)
+
+pub returns-in-Ok-clause-reserved : goal.returns-in-Ok-clause-reserved
+returns-in-Ok-clause-reserved g c =
+    let stands = stands_as _ _ _ c.self.invariant _ c.self.view_is in
+    let event = Reloading (arc_value c.args.tables).commands in
+    let recorded = ap (λ s. (step s event).recorded) stands ∙ c.requires.recorded in
+    λ _. (records _ _ _ event c.self.invariant (recorded_unrefused _ _ recorded)
+    (recorded_verdict_of _ _ recorded) c.prepare.new.machine c.push_reloaded.new.self
+    (rw (c.deref.ensures) at c.in-Ok.ensures.state)
+    (ap (λ (h : RecordParts). h.opening) c.push_reloaded.ensures ∙ c.in-Ok.ensures.opening)
+    (ap (λ (h : RecordParts). h.entries) c.push_reloaded.ensures
+    ∙ ap₂ (λ es e. es ++ e ∷ []) c.in-Ok.ensures.entries
+    (reload_entry _ _ _ c.requires.verdict ∙ ap (λ s. entry_of s event) (sym stands)))
+    _ _ _ c.self.view_is refl refl).new_is
+
+pub returns-in-Ok-clause-reply : goal.returns-in-Ok-clause-reply
+returns-in-Ok-clause-reply g c =
+    let stands = stands_as _ _ _ c.self.invariant _ c.self.view_is in
+    let event = Reloading (arc_value c.args.tables).commands in
+    let recorded = ap (λ s. (step s event).recorded) stands ∙ c.requires.recorded in (
+      _,
+      c.take_reply.ensures.taken,
+      verdict_may _ _ _ _ c.requires.recorded c.requires.verdict
+          (records _ _ _ event c.self.invariant (recorded_unrefused _ _ recorded)
+          (recorded_verdict_of _ _ recorded) c.prepare.new.machine c.push_reloaded.new.self
+          (rw (c.deref.ensures) at c.in-Ok.ensures.state)
+          (ap (λ (h : RecordParts). h.opening) c.push_reloaded.ensures ∙ c.in-Ok.ensures.opening)
+          (ap (λ (h : RecordParts). h.entries) c.push_reloaded.ensures
+          ∙ ap₂ (λ es e. es ++ e ∷ []) c.in-Ok.ensures.entries
+          (reload_entry _ _ _ c.requires.verdict ∙ ap (λ s. entry_of s event) (sym stands)))
+          _ _ _ c.self.view_is refl refl).new_is,
+    )
+
+pub returns-in-Err-clause-reply : goal.returns-in-Err-clause-reply
+returns-in-Err-clause-reply g c =
+    let stands = stands_as _ _ _ c.self.invariant _ c.self.view_is in
+    let event = Reloading (arc_value c.args.tables).commands in
+    let recorded = ap (λ s. (step s event).recorded) stands ∙ c.requires.recorded in (
+      _,
+      c.take_reply-in-Err.ensures.taken,
+      inr (lacks_memory _ event _ stands (recorded_unrefused _ _ recorded) _ _
+          (recorded_verdict_of _ _ recorded) refl
+          (core_still c.self.inside.machine c.prepare.new.machine c.self.inside.history
+          c.prepare.new.history c.self.inside.reserved c.in-Err.ensures.err.0
+          c.in-Err.ensures.err.1
+          ∙ c.self.view_is)),
+    )
+
+pub returns-in-Err-clause-reserved : goal.returns-in-Err-clause-reserved
+returns-in-Err-clause-reserved g c =
+    λ was.
+    let event = Reloading (arc_value c.args.tables).commands in
+    let light
+    : (takes_memory (ruling_of (state_of c.args.self.now) event).effect ≡ false)
+    × (places_needed (ruling_of (state_of c.args.self.now) event).effect ≡ 1) =
+    reload_is_light _ _ refl in
+    let kept : c.places_reserved-reserved.result ≡ 1 =
+    c.places_reserved-reserved.ensures
+    ∙ ap places_reserved (ap (λ (core : CoreParts). core.reserved) c.self.view_is ∙ was) in
+    let enough : places_needed c.args.effect.now ≤ c.places_reserved-reserved.result =
+    omega (arith, ap places_needed c.requires.effect ∙ light.1, kept) in
+    absurd (true≢false (sym (c.in-Err.ensures.unfailing
+    (ap takes_memory c.requires.effect ∙ light.0) enough)))

@@ -1,0 +1,68 @@
+use Rattle.std.proofs.Common.{◌≤◌, ◌-◌, ◌++◌, [], ◌∷◌, length, refl, sym, ap, subst, ◌∙◌, arith}
+use Rattle.std.specs.Arc.{arc_value}
+use Rattle.decision_record.specs.History.{RecordParts}
+use Rattle.decision_record.specs.Slots.{register_entry}
+use Rattle.decision_record.specs.RecordIndex.{entries_told, IsStored, IsLastReload}
+use Rattle.decision_record.specs.declared.slots.Slot.{Slot}
+use Rattle.decision_record.proofs.StoredLemmas.{registration_stored, told_are, stored_told, slots_counted}
+use Rattle.decision_record.proofs.ReloadLemmas.{none_more}
+use Rattle.decision_record.proofs.record.Record.push_registration.Goals as goal
+
+pub push-requires-clause-few : goal.push-requires-clause-few
+push-requires-clause-few c =
+    omega (
+      arith,
+      c.requires.few,
+      slots_counted _ _ _ _ _ _ c.self.invariant.0,
+      ap (λ (h : RecordParts). length h.entries) c.self.view_is,
+    )
+
+-- what is stored with the registration
+stored : (c : goal.After-self-1)
+    → IsStored c.push.new.self c.self.inside.aside c.push-2.new.self c.self.inside.reloads
+    (entries_told c.self.inside.slots c.self.inside.aside c.self.inside.registrations
+    c.self.inside.reloads
+    ++ register_entry c.args.replied.now c.args.endpoint ∷ [])
+    (c.self.inside.kept - 1)
+stored c =
+    let one : 1 ≤ c.self.inside.kept =
+    omega (arith, c.requires.kept, ap (λ (h : RecordParts). h.kept) c.self.view_is) in
+    registration_stored _ _ _ _ _ _ c.self.invariant.0 one c.len-place.result c.args.replied.now
+    c.args.endpoint c.push.new.self c.push-2.new.self c.len-place.ensures.value
+    (c.push.ensures ∙ ap (λ (s : Slot). record {
+      items = c.self.inside.slots.items ++ s ∷ [];
+      room = c.self.inside.slots.room - 1;
+    }) c.of_registration.ensures)
+    c.push-2.ensures
+
+-- the tables in force stay
+last : (c : goal.After-self-1)
+    → IsLastReload (arc_value c.self.inside.opening).commands c.self.inside.reloads.last
+    (entries_told c.self.inside.slots c.self.inside.aside c.self.inside.registrations
+    c.self.inside.reloads
+    ++ register_entry c.args.replied.now c.args.endpoint ∷ [])
+last c =
+    none_more (arc_value c.self.inside.opening).commands c.self.inside.reloads.last
+    (entries_told c.self.inside.slots c.self.inside.aside c.self.inside.registrations
+    c.self.inside.reloads)
+    c.self.invariant.1 (register_entry c.args.replied.now c.args.endpoint) refl
+
+pub invariant_of-self : goal.invariant_of-self
+invariant_of-self c = (
+  stored_told _ _ _ _ _ _ (stored c),
+  subst (λ es. IsLastReload (arc_value c.self.inside.opening).commands c.self.inside.reloads.last
+      es)
+      (sym (told_are _ _ _ _ _ _ (stored c))) (last c),
+)
+
+pub returns : goal.returns
+returns c =
+    ap (λ es. record {
+      opening = (arc_value c.self.inside.opening).commands;
+      entries = es;
+      kept = c.self.inside.kept - 1;
+    }) (told_are _ _ _ _ _ _ (stored c))
+    ∙ ap (λ (h : RecordParts). record h {
+      entries = h.entries ++ register_entry c.args.replied.now c.args.endpoint ∷ [];
+      kept = h.kept - 1;
+    }) c.self.view_is
