@@ -5,7 +5,7 @@ use Rattle.std.specs.List.{flat_map}
 use Rattle.std.specs.Slice.{IsItemAt}
 use Rattle.std.specs.Option.{option_and_then, option_copied}
 use Rattle.std.proofs.lemmas.Bool.{cases_lt}
-use Rattle.std.proofs.lemmas.List.{append-nil, nil_from_length, length_push}
+use Rattle.std.proofs.lemmas.List.{append-nil, nil_from_length, length-set, set-append_left, set-append_right}
 use Rattle.std.proofs.lemmas.Option.{slice_get_past, slice_get_read}
 use Rattle.pieces.specs.Filled.{HasFirst, AreFilled}
 
@@ -130,65 +130,146 @@ module _ {T A : Type 0} where
       let high = next.high in
       record { within = omega arith; low = omega arith; high = omega arith; is = next.is }
 
-  -- that piece has room
-  pub next_has_room : (ps : List (Vec T A)) (count place : ℕ) (piece : Vec T A)
-      → AreFilled ps count → IsNext ps count place piece → vec_len piece < vec_capacity piece
-  next_has_room [] count place piece filled next = absurd (omega (arith, next.within))
-  next_has_room (p ∷ ps) count zero piece filled next =
+  -- that piece has room for as many more as it lacks
+  pub next_has_room : (ps : List (Vec T A)) (count place more : ℕ) (piece : Vec T A)
+      → AreFilled ps count → IsNext ps count place piece → count + more ≤ 1024 * place + 1024
+      → vec_len piece + more ≤ vec_capacity piece
+  next_has_room [] count place more piece filled next fits = absurd (omega (arith, next.within))
+  next_has_room (p ∷ ps) count zero more piece filled next fits =
       let items = ap (λ v. length (vec_items v)) next.is in
       let room = ap vec_capacity next.is in
       omega (arith, filled.0.items, filled.0.room, next.high, piece.ok.0)
-  next_has_room (p ∷ ps) count (suc place) piece filled next =
+  next_has_room (p ∷ ps) count (suc place) more piece filled next fits =
       let rest = next_in_rest p ps count place piece next in
-      next_has_room ps (count - 1024) place piece filled.1 rest
+      let less = next.low in
+      next_has_room ps (count - 1024) place more piece filled.1 rest (omega arith)
 
   -- a full piece stays one as items are added after it
-  still_first : (p : Vec T A) (count : ℕ) → HasFirst p count → 1024 ≤ count
-      → HasFirst p (count + 1)
-  still_first p count first full =
+  still_first : (p : Vec T A) (count more : ℕ) → HasFirst p count → 1024 ≤ count
+      → HasFirst p (count + more)
+  still_first p count more first full =
       let items = first.items in record { items = omega arith; room = first.room }
 
-  -- the new piece is the old one with an item at its end, and has room for as many
-  pub record IsPushed (old new : Vec T A) (item : T) : Type 0 where
-    pub items : vec_items new ≡ vec_items old ++ item ∷ []
+  -- the new piece is the old one with items at its end, and has room for as many
+  pub record IsPushed (old new : Vec T A) (more : List T) : Type 0 where
+    pub items : vec_items new ≡ vec_items old ++ more
     pub room : vec_capacity new ≡ vec_capacity old
 
   -- what it changes of the whole
-  module _ {old new : Vec T A} {item : T} (pushed : IsPushed old new item) where
-    pub filled_with_item : (ps : List (Vec T A)) (count place : ℕ) → AreFilled ps count
-        → IsNext ps count place old → AreFilled (slice_set ps place new) (count + 1)
-    filled_with_item [] count place filled next = absurd (omega (arith, next.within))
-    filled_with_item (p ∷ ps) count zero filled next =
+  module _ {old new : Vec T A} {more : List T} (pushed : IsPushed old new more) where
+    pub filled_with_items : (ps : List (Vec T A)) (count place : ℕ) → AreFilled ps count
+        → IsNext ps count place old → count + length more ≤ 1024 * place + 1024
+        → AreFilled (slice_set ps place new) (count + length more)
+    filled_with_items [] count place filled next fits = absurd (omega (arith, next.within))
+    filled_with_items (p ∷ ps) count zero filled next fits =
         let high = next.high in
         let first = filled.0 in
         let same = ap (λ v. length (vec_items v)) next.is in
-        let more = ap length pushed.items ∙ length_push (vec_items old) item in
-        let none : count - 1024 ≡ count + 1 - 1024 = omega arith in (
+        let longer = ap length pushed.items ∙ length-append (vec_items old) more in
+        let none : count - 1024 ≡ count + length more - 1024 = omega arith in (
           record {
             items = omega (arith, first.items);
             room = omega (arith, first.room, pushed.room, ap vec_capacity next.is);
           },
           subst (AreFilled ps) none filled.1,
         )
-    filled_with_item (p ∷ ps) count (suc place) filled next =
+    filled_with_items (p ∷ ps) count (suc place) filled next fits =
         let full : 1024 ≤ count = omega (arith, next.low) in
-        let less : count - 1024 + 1 ≡ count + 1 - 1024 = omega arith in
+        let less : count - 1024 + length more ≡ count + length more - 1024 = omega arith in
         let rest = next_in_rest p ps count place old next in (
-          still_first p count filled.0 full,
+          still_first p count (length more) filled.0 full,
           subst (AreFilled (slice_set ps place new)) less
-              (filled_with_item ps (count - 1024) place filled.1 rest),
+              (filled_with_items ps (count - 1024) place filled.1 rest (omega arith)),
         )
 
-    pub items_with_item : (ps : List (Vec T A)) (count place : ℕ) → AreFilled ps count
+    pub items_with_items : (ps : List (Vec T A)) (count place : ℕ) → AreFilled ps count
         → IsNext ps count place old
-        → flat_map vec_items (slice_set ps place new) ≡ flat_map vec_items ps ++ item ∷ []
-    items_with_item [] count place filled next = absurd (omega (arith, next.within))
-    items_with_item (p ∷ ps) count zero filled next =
+        → flat_map vec_items (slice_set ps place new) ≡ flat_map vec_items ps ++ more
+    items_with_items [] count place filled next = absurd (omega (arith, next.within))
+    items_with_items (p ∷ ps) count zero filled next =
         rw (none_after ps count filled.1 (omega (arith, next.high)))
         (append-nil (vec_items new)
         ∙ pushed.items
-        ∙ ap (λ xs. xs ++ item ∷ []) (ap vec_items next.is ∙ sym (append-nil (vec_items p))))
-    items_with_item (p ∷ ps) count (suc place) filled next =
+        ∙ ap (λ xs. xs ++ more) (ap vec_items next.is ∙ sym (append-nil (vec_items p))))
+    items_with_items (p ∷ ps) count (suc place) filled next =
         let rest = next_in_rest p ps count place old next in
-        ap (λ xs. vec_items p ++ xs) (items_with_item ps (count - 1024) place filled.1 rest)
-        ∙ sym (append_assoc (vec_items p) (flat_map vec_items ps) (item ∷ []))
+        ap (λ xs. vec_items p ++ xs) (items_with_items ps (count - 1024) place filled.1 rest)
+        ∙ sym (append_assoc (vec_items p) (flat_map vec_items ps) more)
+
+  -- an item lies in the piece at this place, and at this one in it
+  pub record IsHeld (ps : List (Vec T A)) (count place inner : ℕ) (piece : Vec T A) : Type 0 where
+    pub there : 1024 * place + inner < count
+    pub small : inner < 1024
+    pub is : piece ≡ slice_index_or ps place piece
+
+  pub is_held : (ps : List (Vec T A)) (count at : ℕ) (piece : Vec T A) → at < count
+      → piece ≡ slice_index_or ps (at / 1024) piece
+      → IsHeld ps count (at / 1024) (at % 1024) piece
+  is_held ps count at piece there is =
+      record { there = omega arith; small = omega arith; is = is }
+
+  held_in_rest : (p : Vec T A) (ps : List (Vec T A)) (count place inner : ℕ) (piece : Vec T A)
+      → IsHeld (p ∷ ps) count (suc place) inner piece
+      → IsHeld ps (count - 1024) place inner piece
+  held_in_rest p ps count place inner piece held =
+      let there = held.there in
+      record { there = omega arith; small = held.small; is = held.is }
+
+  -- that piece is long enough
+  pub held_within : (ps : List (Vec T A)) (count place inner : ℕ) (piece : Vec T A)
+      → AreFilled ps count → IsHeld ps count place inner piece → inner < vec_len piece
+  held_within [] count place inner piece filled held = absurd (omega (arith, held.there, filled))
+  held_within (p ∷ ps) count zero inner piece filled held =
+      let items = ap (λ v. length (vec_items v)) held.is in
+      omega (arith, filled.0.items, held.there, held.small, piece.ok.0)
+  held_within (p ∷ ps) count (suc place) inner piece filled held =
+      let rest = held_in_rest p ps count place inner piece held in
+      held_within ps (count - 1024) place inner piece filled.1 rest
+
+  -- the new piece is the old one with an item in the place of another
+  pub record IsPut (old new : Vec T A) (inner : ℕ) (item : T) : Type 0 where
+    pub items : vec_items new ≡ slice_set (vec_items old) inner item
+    pub room : vec_capacity new ≡ vec_capacity old
+
+  -- what it changes of the whole
+  module _ {old new : Vec T A} {inner : ℕ} {item : T} (put : IsPut old new inner item) where
+    pub filled_with_put : (ps : List (Vec T A)) (count place : ℕ) → AreFilled ps count
+        → IsHeld ps count place inner old → AreFilled (slice_set ps place new) count
+    filled_with_put [] count place filled held = filled
+    filled_with_put (p ∷ ps) count zero filled held =
+        let first = filled.0 in
+        let same = ap (λ v. length (vec_items v)) held.is in
+        let kept = ap length put.items ∙ length-set (vec_items old) inner item in (
+          record {
+            items = omega (arith, first.items);
+            room = omega (arith, first.room, put.room, ap vec_capacity held.is);
+          },
+          filled.1,
+        )
+    filled_with_put (p ∷ ps) count (suc place) filled held =
+        let rest = held_in_rest p ps count place inner old held in
+        (filled.0, filled_with_put ps (count - 1024) place filled.1 rest)
+
+    pub items_with_put : (ps : List (Vec T A)) (count place at : ℕ) → AreFilled ps count
+        → IsHeld ps count place inner old → at ≡ 1024 * place + inner
+        → flat_map vec_items (slice_set ps place new)
+        ≡ slice_set (flat_map vec_items ps) at item
+    items_with_put [] count place at filled held is = refl
+    items_with_put (p ∷ ps) count zero at filled held is =
+        let same : vec_items old ≡ vec_items p = ap vec_items held.is in
+        let within : at < length (vec_items p) =
+        omega (arith, filled.0.items, held.there, held.small) in
+        let here : inner ≡ at = omega arith in
+        ap (λ xs. xs ++ flat_map vec_items ps)
+        (put.items
+        ∙ ap (λ k. slice_set (vec_items old) k item) here
+        ∙ ap (λ xs. slice_set xs at item) same)
+        ∙ sym (set-append_left (vec_items p) (flat_map vec_items ps) at item within)
+    items_with_put (p ∷ ps) count (suc place) at filled held is =
+        let rest = held_in_rest p ps count place inner old held in
+        let full : length (vec_items p) ≡ 1024 =
+        omega (arith, filled.0.items, held.there) in
+        ap (λ xs. vec_items p ++ xs)
+        (items_with_put ps (count - 1024) place (at - 1024) filled.1 rest (omega arith))
+        ∙ sym (set-append_right (vec_items p) (flat_map vec_items ps) 1024 at item full
+        (omega arith))

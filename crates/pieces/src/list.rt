@@ -1,6 +1,7 @@
 //! The list and its pieces.
 
-ghost use Rattle.std.specs.Prelude.{◌≡◌, ◌<◌, ◌≤◌, ◌+◌, ◌-◌, ◌^◌, ◌++◌, ◌∷◌, [], length, slice_get, option_copied, OnOk, OnErr};
+ghost use Rattle.std.specs.Prelude.{◌≡◌, ◌<◌, ◌≤◌, ◌+◌, ◌-◌, ◌%◌, ◌^◌, ◌++◌, ◌∷◌, [], length, replicate, slice_get, slice_set, vec_items, vec_len, vec_capacity, option_copied, OnOk, OnErr};
+ghost use Rattle.std.specs.List.{flat_map};
 
 use std::alloc::{AllocError, Global};
 use std::marker::Model;
@@ -15,7 +16,8 @@ const MOST_PIECES: usize = usize::MAX / 2 / PIECE_ITEMS;
 /// how many further ones there is room without memory.
 ///
 /// An item stays where it was put, and no call but the drop goes over the items. As the list grows,
-/// only the list of its pieces is moved, which has one entry for 1,024 items.
+/// only the list of its pieces is moved, which has one entry for 1,024 items. `into_pieces` gives
+/// the pieces away, so that each can be dropped as soon as its items were read.
 #[derive(Drop)]
 pub struct Pieces<T> {
     // Each full before there is an item in the next. The empty ones are room that was reserved.
@@ -124,5 +126,78 @@ impl<T: Drop> Pieces<T> {
         let piece = &mut self.pieces[self.len / PIECE_ITEMS];
         piece.push_reserved(item);
         self.len += 1;
+    }
+
+    /// The pieces, which hold the items in order. Those at the end may be empty.
+    pub fn into_pieces(self) -> Vec<Vec<T>>
+        ensures { flat_map vec_items result.items ≡ self.items }
+    {
+        self.pieces
+    }
+}
+
+impl<T: Copy> Pieces<T> {
+    /// Puts an item in the place of the one that is there. It takes no memory.
+    pub fn set(&mut self, place: usize, item: T)
+        requires { place < length self.old.items }
+        ensures { self.new ≡ record self.old { items = slice_set self.old.items place item } }
+    {
+        let piece = &mut self.pieces[place / PIECE_ITEMS];
+        piece[place % PIECE_ITEMS] = item;
+    }
+
+    /// Puts so many copies of an item at the end, in room that was reserved. It takes no memory.
+    pub fn push_copies(&mut self, count: usize, item: T)
+        requires { count ≤ self.old.room }
+        ensures { self.new ≡ record {
+          items = self.old.items ++ replicate count item;
+          room = self.old.room - count;
+        } }
+    {
+        if 0 < count && count <= PIECE_ITEMS - self.len % PIECE_ITEMS {
+            self.push_in_piece(count, item)
+        } else {
+            self.push_each(count, item)
+        }
+    }
+
+    /// The same, if all of them go in one piece.
+    fn push_in_piece(&mut self, count: usize, item: T)
+        requires room { count ≤ self.old.room }
+        requires some { 0 < count }
+        requires one { length self.old.items % 1024 + count ≤ 1024 }
+        ensures { self.new ≡ record {
+          items = self.old.items ++ replicate count item;
+          room = self.old.room - count;
+        } }
+    {
+        let piece = &mut self.pieces[self.len / PIECE_ITEMS];
+        fill(piece, count, item);
+        self.len += count;
+    }
+
+    /// The same, one by one.
+    #[inline(never)]
+    fn push_each(&mut self, count: usize, item: T)
+        requires { count ≤ self.old.room }
+        ensures { self.new ≡ record {
+          items = self.old.items ++ replicate count item;
+          room = self.old.room - count;
+        } }
+    {
+        for _pushed in 0..count {
+            self.push(item);
+        }
+    }
+}
+
+/// Puts so many copies of an item at the end of a piece that has room for them.
+fn fill<T: Copy>(items: &mut Vec<T>, count: usize, item: T)
+    requires { vec_len items.old + count ≤ vec_capacity items.old }
+    ensures added { vec_items items.new ≡ vec_items items.old ++ replicate count item }
+    ensures room { vec_capacity items.new ≡ vec_capacity items.old }
+{
+    for _pushed in 0..count {
+        items.push_reserved(item);
     }
 }

@@ -1,9 +1,10 @@
 //! The block of a finished trie, with what it is freed by.
 
-ghost use Rattle.std.specs.Prelude.{◌≡◌, ℕ, ◌+◌, ◌^◌, ◌<◌, List, length, slice_index, IfOk};
+ghost use Rattle.std.specs.Prelude.{◌≡◌, ℕ, ◌+◌, ◌^◌, ◌<◌, ◌≤◌, ◌++◌, List, length, slice_index, IfOk};
 ghost use Rattle.raw_trie.specs.Trie.{end_in};
 
 use crate::memory::{Lease, Words};
+use pieces::Pieces;
 use std::alloc::{AllocError, Global};
 use std::marker::Model;
 
@@ -28,17 +29,18 @@ impl Model for Block {
 }
 
 impl Block {
-    /// A block that holds these words.
-    pub(crate) fn of(alloc: Global, words: &[u32]) -> Result<Block, AllocError>
-        requires { length words.now < 2 ^ 40 }
-        ensures { IfOk result (λ block. block ≡ words.now) }
+    /// A block that holds these words. Each piece of them is let go as soon as it was copied.
+    pub(crate) fn of(alloc: Global, words: Pieces<u32>) -> Result<Block, AllocError>
+        requires { length words.items < 2 ^ 40 }
+        ensures { IfOk result (λ block. block ≡ words.items) }
     {
         let room = words.len();
         let Some((mut block, lease)) = Words::reserve(&alloc, room) else {
             return Err(AllocError);
         };
-        for (place, word) in words.iter().enumerate() {
-            block.push(place, *word);
+        let mut written = 0;
+        for piece in words.into_pieces() {
+            written = copy(&mut block, written, &piece);
         }
         Ok(Block {
             words: block,
@@ -69,6 +71,23 @@ impl Block {
             Some(self.word(place + 1))
         }
     }
+}
+
+/// Writes these words after those that were written, which are so many, and says how many are
+/// written then.
+fn copy(block: &mut Words, written: usize, words: &[u32]) -> usize
+    requires written { written ≡ length block.old.words }
+    requires room { written + length words.now ≤ block.old.room }
+    requires small { block.old.room < 2 ^ 40 }
+    ensures written { result ≡ length block.new.words }
+    ensures words { block.new.words ≡ block.old.words ++ words.now }
+    ensures room { block.new.room ≡ block.old.room }
+    ensures at { block.new.at ≡ block.old.at }
+{
+    for (place, word) in words.iter().enumerate() {
+        block.push(written + place, *word);
+    }
+    written + words.len()
 }
 
 impl Drop for Block {

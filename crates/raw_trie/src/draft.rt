@@ -1,4 +1,5 @@
-//! A trie that grows row by row, in a vector. Its words are those of the block that is made of it.
+//! A trie that grows row by row. Its words are those of the block that is made of it. They grow in
+//! pieces, so that none is moved, and as the block is filled each piece is let go.
 
 ghost use Rattle.std.specs.Prelude.{◌≡◌, ◌+◌, ◌*◌, ◌/◌, ◌<◌, ◌==◌, ◌++◌, length, replicate, slice_index, IfOk, if◌then◌else◌};
 ghost use Rattle.digit_patterns.specs.PatternParts.{IsPattern};
@@ -6,6 +7,7 @@ ghost use Rattle.raw_trie.specs.Nodes.{path_of};
 ghost use Rattle.raw_trie.specs.Trie.{IsSomeTrie, Links, GrowsTo, AddsRow, with_end};
 
 use digit_patterns::Pattern;
+use pieces::Pieces;
 use std::alloc::{AllocError, Global};
 
 /// Words of a node: 10 links for the digits, one for the dot, and two ends of two words each.
@@ -23,7 +25,7 @@ pub(crate) const STARRED: usize = 13;
 /// The words of a trie that grows.
 #[derive(Drop)]
 pub(crate) struct Draft {
-    pub(crate) words: Vec<u32>,
+    pub(crate) words: Pieces<u32>,
 }
 
 impl Draft {
@@ -32,7 +34,7 @@ impl Draft {
         ensures { IfOk result (λ draft. draft.words.items ≡ replicate 15 0) }
     {
         let mut draft = Draft {
-            words: Vec::new(alloc),
+            words: Pieces::new(alloc),
         };
         draft.add_node()?;
         Ok(draft)
@@ -77,13 +79,15 @@ impl Draft {
         ensures { IfOk result (λ child.
             Links self.old.words.items (15 * node + symbol) self.new.words.items child) }
     {
+        // So it is known that there are fewer than 2^63 words.
+        let _words = self.words.len();
         let place = NODE_WORDS * node as usize + symbol;
-        let link = self.words[place];
+        let link = self.word(place);
         if link != 0 {
             return Ok(link);
         }
         let added = self.add_node()?;
-        self.words[place] = added;
+        self.words.set(place, added);
         Ok(added)
     }
 
@@ -97,7 +101,8 @@ impl Draft {
         if nodes > u32::MAX as usize {
             return Err(AllocError);
         }
-        self.words.extend_from_slice(&[0; NODE_WORDS])?;
+        self.words.reserve(NODE_WORDS)?;
+        self.words.push_copies(NODE_WORDS, 0);
         Ok(nodes as u32)
     }
 
@@ -110,11 +115,22 @@ impl Draft {
             with_end self.old.words.items (15 * node + (if star then 13 else 11)) value }
     {
         let place = NODE_WORDS * node as usize + if star { STARRED } else { PLAIN };
-        if self.words[place] != 0 {
+        if self.word(place) != 0 {
             return false;
         }
-        self.words[place] = 1;
-        self.words[place + 1] = value;
+        self.words.set(place, 1);
+        self.words.set(place + 1, value);
         true
+    }
+
+    /// The word at a place.
+    fn word(&self, place: usize) -> u32
+        requires { place < length self.now.words.items }
+        ensures { result ≡ slice_index self.now.words.items place }
+    {
+        match self.words.get(place) {
+            Some(word) => *word,
+            None => unreachable!(),
+        }
     }
 }

@@ -63,7 +63,8 @@ impl Model for LookedAt {
 /// A trie is one block of memory of exactly 60 bytes for each of its nodes, and of as many nodes as
 /// its patterns have different beginnings. It is reserved and filled by `build`, freed when the
 /// trie is dropped, and never written in between, so that threads may share it in an `Arc`. A
-/// look-up takes no memory.
+/// look-up takes no memory. Before the block is reserved its words grow in pieces, each of which is
+/// let go as soon as its words are in the block.
 ///
 /// A node has the numbers of the nodes that the ten digits and a dot lead to, and beside them the
 /// values of the patterns that end at it without and with a star, all at known places, in one or
@@ -124,7 +125,7 @@ impl RawTrie {
         if draft.nodes() > most as usize {
             return Err(TrieFault::TooManyNodes);
         }
-        let block = Block::of(alloc, &draft.words)?;
+        let block = Block::of(alloc, draft.words)?;
         Ok(RawTrie { block, meaning })
     }
 
