@@ -68,14 +68,15 @@ impl Answerer for Core {
             Request::Release { sequence, id, call } => {
                 replied(self, sequence, Event::Release { id, call })
             }
-            Request::Reload { sequence, lines } => {
-                reload(self, alloc, sequence, lines.as_bytes())
-            }
+            Request::Reload {
+                sequence,
+                mut lines,
+            } => { reload(self, alloc, sequence, &mut lines) }
         }
     }
 
-    fn answer_into(&mut self, alloc: Global, request: Request, reply: &mut ReplyLine) {
-        match &request {
+    fn answer_into(&mut self, alloc: Global, mut request: Request, reply: &mut ReplyLine) {
+        match &mut request {
             Request::Register { sequence, endpoint } => {
                 reply.repeat(*sequence);
                 self.register_into(endpoint, reply);
@@ -108,7 +109,7 @@ impl Answerer for Core {
                 self.release_into(id, *call, reply);
             }
             Request::Reload { sequence, lines } => {
-                reply.show(&reload(self, alloc, *sequence, lines.as_bytes()));
+                reply.show(&reload(self, alloc, *sequence, lines));
             }
         }
     }

@@ -42,6 +42,13 @@ impl OwnedLines {
         &self.bytes
     }
 
+    /// Lets the lines go.
+    pub(crate) fn clear(&mut self)
+        ensures { self.new ≡ [] }
+    {
+        self.bytes = Vec::new(*self.bytes.allocator());
+    }
+
     /// With one more line, as it is handed on; nothing if memory is refused for it.
     fn with(mut self, line: &LineBuffer) -> Option<OwnedLines>
         ensures { IfSome result (λ lines. lines ≡ self ++ handed_on line.now) }

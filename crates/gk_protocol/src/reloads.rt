@@ -9,6 +9,7 @@ ghost use Rattle.gk_protocol.specs.CoreAnswers as Spec;
 
 use crate::answerer::replied;
 use crate::answers::Answer;
+use crate::owned_lines::OwnedLines;
 use admission::{Core, Event, ReloadRefusal, Reply};
 use command_reader::{FaultKind, LineFault, read};
 use compiler::Tables;
@@ -25,9 +26,15 @@ pub(crate) enum NoTables {
 
 /// Answers `CFG`: reads the lines, compiles them and puts them in force, whole. The lines are read
 /// and compiled before anything is asked of the core: a fault of a line is named although no
-/// further reload is allowed.
-pub(crate) fn reload(core: &mut Core, alloc: Global, sequence: u32, lines: &[u8]) -> Answer
-    ensures { Spec.MayReload core.old sequence (lines_of lines.now) result core.new }
+/// further reload is allowed. Once they are read they are let go, so that their memory is free for
+/// the tables.
+pub(crate) fn reload(
+    core: &mut Core,
+    alloc: Global,
+    sequence: u32,
+    lines: &mut OwnedLines,
+) -> Answer
+    ensures { Spec.MayReload core.old sequence (lines_of lines.old) result core.new }
 {
     match tables_of(alloc, lines) {
         Ok(tables) => replied(core, sequence, Event::Reload(tables)),
@@ -46,12 +53,13 @@ pub(crate) fn no_memory(sequence: u32) -> Answer
 }
 
 /// The tables of a configuration, to be shared.
-fn tables_of(alloc: Global, lines: &[u8]) -> Result<Arc<Tables>, NoTables>
+fn tables_of(alloc: Global, lines: &mut OwnedLines) -> Result<Arc<Tables>, NoTables>
     ensures { MatchResult result
-        (λ tables. reading_in (lines_of lines.now) ≡ Ok (arc_value tables))
-        (Spec.IsNoConfiguration (lines_of lines.now)) }
+        (λ tables. reading_in (lines_of lines.old) ≡ Ok (arc_value tables))
+        (Spec.IsNoConfiguration (lines_of lines.old)) }
 {
-    let commands = read(alloc, lines)?;
+    let commands = read(alloc, lines.as_bytes())?;
+    lines.clear();
     let tables = Tables::compile(alloc, commands)?;
     let shared = Arc::new(alloc, tables)?;
     Ok(shared)
