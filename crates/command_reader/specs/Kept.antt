@@ -50,6 +50,13 @@ MayAdd old said new result =
     (λ _. Adds old new said)
     (λ kind. ((said ≡ Err kind) ⊎ RefusesCommand old said kind) × KeepsAll old new)
 
+-- the command that a line says was made, to be added; or the answer says why not, as `MayAdd` does
+abbrev pub MayMake : Kept → Result (Option Command) FaultKind → Result Command FaultKind → Type 0
+MayMake kept said result =
+    MatchResult result
+    (λ command. said ≡ Ok (Some command))
+    (λ kind. (said ≡ Err kind) ⊎ RefusesCommand kept said kind)
+
 -- a line is passed over, or its fault says why not
 abbrev pub Passes : {A : Type 0} → Result (Option Command) FaultKind → Result A FaultKind → Type 0
 Passes said result = MatchResult result (λ _. said ≡ Ok None) (λ kind. said ≡ Err kind)

@@ -15,7 +15,8 @@ use crate::zone_lines::is_hunt_word;
 use digit_patterns::Pattern;
 use gk_lines::LineBuffer;
 use gk_terms::limits::MOST_DIALLED;
-use gk_terms::{Address, Kbps, Name, TechPrefix};
+use gk_terms::{Address, Kbps, TechPrefix};
+use short_texts::KeptName;
 
 /// The dots of the pattern with the most dots.
 static DOTS: [u8; MOST_DIALLED] = [b'.'; MOST_DIALLED];
@@ -64,7 +65,12 @@ fn make_words(line: &mut LineBuffer, command: &Command)
 }
 
 /// Makes it the line of a zone that is controlled here.
-fn zone_local(line: &mut LineBuffer, name: &Name, domain: &Name, address: &Option<LocalAddress>)
+fn zone_local(
+    line: &mut LineBuffer,
+    name: &KeptName,
+    domain: &KeptName,
+    address: &Option<LocalAddress>,
+)
     ensures { line.new ≡ line_of_words
         (codes "zone" ∷ codes "local" ∷ name.now ∷ domain.now ∷ local_words address.now) }
 {
@@ -77,8 +83,8 @@ fn zone_local(line: &mut LineBuffer, name: &Name, domain: &Name, address: &Optio
 /// Makes it the line of a zone of another gatekeeper.
 fn zone_remote(
     line: &mut LineBuffer,
-    name: &Name,
-    domain: &Name,
+    name: &KeptName,
+    domain: &KeptName,
     address: &Address,
     cost: u8,
     priority: u8,
@@ -96,7 +102,7 @@ fn zone_remote(
 /// Makes it the line of a zone's pattern.
 fn zone_prefix(
     line: &mut LineBuffer,
-    zone: &Name,
+    zone: &KeptName,
     pattern: &Pattern,
     gateways: &Option<GatewayPriority>,
 )
@@ -142,7 +148,7 @@ fn default_limit(line: &mut LineBuffer, kind: LimitKind, size: Kbps)
 }
 
 /// Makes it the line of the limit of one zone.
-fn zone_limit(line: &mut LineBuffer, kind: LimitKind, zone: &Name, size: Kbps)
+fn zone_limit(line: &mut LineBuffer, kind: LimitKind, zone: &KeptName, size: Kbps)
     ensures { line.new ≡ line_of_words
         (codes "bandwidth" ∷ limit_word kind ∷ codes "zone" ∷ zone.now ∷ decimal size ∷ []) }
 {
@@ -163,7 +169,7 @@ fn remote_limit(line: &mut LineBuffer, size: Kbps)
 }
 
 /// Adds the name and the domain of a zone.
-fn add_two_names(line: &mut LineBuffer, name: &Name, domain: &Name)
+fn add_two_names(line: &mut LineBuffer, name: &KeptName, domain: &KeptName)
     ensures { line.new ≡ with_words line.old (name.now ∷ domain.now ∷ []) }
 {
     line.word(name.as_bytes());
@@ -221,7 +227,7 @@ fn add_gateways(line: &mut LineBuffer, gateways: &Option<GatewayPriority>)
 }
 
 /// Adds what is said of a technology prefix.
-fn add_technology(line: &mut LineBuffer, hopoffs: &[Name], is_default: bool)
+fn add_technology(line: &mut LineBuffer, hopoffs: &[KeptName], is_default: bool)
     ensures { line.new ≡
         with_words line.old (hopoff_words hopoffs.now ++ default_words is_default) }
 {
@@ -230,7 +236,7 @@ fn add_technology(line: &mut LineBuffer, hopoffs: &[Name], is_default: bool)
 }
 
 /// Adds the names of all hopoffs, if there are some.
-fn add_hopoffs(line: &mut LineBuffer, names: &[Name])
+fn add_hopoffs(line: &mut LineBuffer, names: &[KeptName])
     ensures { line.new ≡ with_words line.old (hopoff_words names.now) }
 {
     match names {
@@ -244,7 +250,7 @@ fn add_hopoffs(line: &mut LineBuffer, names: &[Name])
 }
 
 /// Adds further names of a hopoff.
-fn add_further_hopoffs(line: &mut LineBuffer, names: &[Name])
+fn add_further_hopoffs(line: &mut LineBuffer, names: &[KeptName])
     ensures { line.new ≡ with_words line.old (flat_map further_words names.now) }
 {
     for name in names {
@@ -254,7 +260,7 @@ fn add_further_hopoffs(line: &mut LineBuffer, names: &[Name])
 
 /// Adds a further name of a hopoff. One that would be read as an option comes after the word
 /// `hopoff` again.
-fn add_further_hopoff(line: &mut LineBuffer, name: &Name)
+fn add_further_hopoff(line: &mut LineBuffer, name: &KeptName)
     ensures { line.new ≡ with_words line.old (further_words name.now) }
 {
     if is_option_word(name.as_bytes()) {

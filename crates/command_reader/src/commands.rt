@@ -11,7 +11,9 @@ use crate::zones::ZoneKind;
 use digit_patterns::Pattern;
 use gk_terms::limits::MOST_LINES;
 use gk_terms::{Address, Kbps, Name, TechPrefix};
+use short_texts::KeptName;
 use std::marker::Model;
+use std::mem::size_of;
 use std::slice;
 
 /// One kept line of a configuration.
@@ -20,15 +22,15 @@ pub enum Command {
     /// `zone local NAME DOMAIN [IP [PORT]]`: a zone that is controlled here. The address has no
     /// effect on routing.
     ZoneLocal {
-        name: Name,
-        domain: Name,
+        name: KeptName,
+        domain: KeptName,
         address: Option<LocalAddress>,
     },
     /// `zone remote NAME DOMAIN IP [PORT] [cost C [priority P]]`: a zone of another gatekeeper, at
     /// port 1719 if none is given. Cost and priority are 1 to 100, and 50 if they are not given.
     ZoneRemote {
-        name: Name,
-        domain: Name,
+        name: KeptName,
+        domain: KeptName,
         address: Address,
         cost: u8,
         priority: u8,
@@ -36,7 +38,7 @@ pub enum Command {
     /// `zone prefix NAME PATTERN [seq|blast] [gw-priority N GW [GW ...]]`: matching numbers belong
     /// to the zone.
     ZonePrefix {
-        zone: Name,
+        zone: KeptName,
         pattern: Pattern,
         gateways: Option<GatewayPriority>,
     },
@@ -59,7 +61,7 @@ pub enum Command {
     /// `bandwidth total|interzone|session zone NAME SIZE`: the limit of one zone.
     BandwidthZone {
         kind: LimitKind,
-        zone: Name,
+        zone: KeptName,
         size: Kbps,
     },
     /// `bandwidth remote SIZE`: the limit of all calls to remote zones together.
@@ -67,6 +69,9 @@ pub enum Command {
         size: Kbps,
     },
 }
+
+// Its names stand in it in few bytes, since up to 20,000 commands are in memory twice at a reload.
+const _: () = prove!(size_of::<Command>() == 112);
 
 impl Command {
     ghost use Rattle.std.specs.Prelude.{◌≡◌};
@@ -77,7 +82,7 @@ impl Command {
         ensures { result ≡ declared_by self.now }
     {
         match self {
-            Command::ZoneLocal { name, .. } => Some((*name, ZoneKind::Local)),
+            Command::ZoneLocal { name, .. } => Some((name.name(), ZoneKind::Local)),
             Command::ZoneRemote {
                 name,
                 address,
@@ -90,14 +95,14 @@ impl Command {
                     cost: *cost,
                     priority: *priority,
                 };
-                Some((*name, kind))
+                Some((name.name(), kind))
             }
             _ => None,
         }
     }
 
     /// The names of the zones that the command names and other lines must declare.
-    pub fn names(&self) -> &[Name]
+    pub fn names(&self) -> &[KeptName]
         ensures { result.now ≡ named_by self.now }
     {
         match self {
@@ -195,7 +200,7 @@ impl Commands {
     }
 
     /// The lines of the commands in place of the commands, which are read again from them when they
-    /// are asked for. A line takes some 35 bytes, and at most 513, and a command 272. If the lines
+    /// are asked for. A line takes some 35 bytes, and at most 513, and a command 112. If the lines
     /// were not kept, the commands are handed back. It takes no memory.
     pub fn into_lines(self) -> Result<CommandLines, Commands>
         ensures { MatchResult result

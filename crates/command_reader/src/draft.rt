@@ -12,8 +12,8 @@ use crate::faults::{FaultKind, LineFault};
 use crate::first_words::add_line;
 use crate::kept::Kept;
 use crate::whole_lines::WholeLines;
-use gk_terms::Name;
 use gk_terms::limits::MOST_LINES;
+use short_texts::KeptName;
 use std::alloc::Global;
 use std::marker::Model;
 
@@ -170,10 +170,10 @@ impl Draft {
     }
 
     /// Whether a line declares a zone of this name.
-    fn declares(&self, name: &Name) -> bool
+    fn declares(&self, name: &KeptName) -> bool
         ensures { result ≡ is_declared (commands_in self.now) name.now }
     {
-        self.kept.declared.contains(name)
+        self.kept.declared.contains(&name.name())
     }
 
     #[tactic(auto, using(crate::proofs::accepted::LocalZones::some_local))]

@@ -1,6 +1,6 @@
 //! The fields of a line.
 
-ghost use Rattle.std.specs.Prelude.{◌≡◌, [], ◌∷◌, ◌++◌, IsErr, MatchResult};
+ghost use Rattle.std.specs.Prelude.{◌≡◌, [], ◌∷◌, ◌++◌, IsErr, MatchResult, Ok};
 ghost use Rattle.std.specs.Option.{ok_or};
 ghost use Rattle.gk_terms.specs.Text.{words_of};
 ghost use Rattle.gk_terms.specs.Name.{name_of};
@@ -19,6 +19,7 @@ use gk_terms::addresses::read_ip;
 use gk_terms::fields::number_field;
 use gk_terms::words::Words;
 use gk_terms::{Kbps, Name, TechPrefix};
+use short_texts::KeptName;
 use std::alloc::{AllocError, Global};
 
 /// A word as a name.
@@ -26,6 +27,13 @@ pub fn name(word: &[u8]) -> Result<Name, FaultKind>
     ensures { result ≡ ok_or (name_of word.now) FaultKind.BadName }
 {
     Name::read(word).map_err(|_| FaultKind::BadName)
+}
+
+/// The name, to be kept.
+pub fn kept_name(alloc: Global, name: &Name) -> Result<KeptName, FaultKind>
+    ensures { UnlessMemory Any (Ok name.now) result }
+{
+    Ok(KeptName::of(alloc, name)?)
 }
 
 /// The next word as a pattern.

@@ -23,8 +23,8 @@ use std::alloc::Global;
 
 #[tactic(auto, unfolding(crate::specs::Line::command_of))]
 /// Adds the command of a line, or nothing if it is passed over, or says its first fault from the
-/// left. Memory is taken only for the names of gateways and of hop-off zones, and to keep the
-/// command. If it is refused, and the line has no fault, the answer is `NoMemory`.
+/// left. Memory is taken only for long names, for those of gateways and of hop-off zones, and to
+/// keep the command. If it is refused, and the line has no fault, the answer is `NoMemory`.
 pub fn add_line(kept: &mut Kept, alloc: Global, line: &[u8]) -> Result<(), FaultKind>
     ensures { MayAdd kept.old (command_of line.now) kept.new result }
 {
@@ -61,7 +61,7 @@ fn add_named(
     } else if first == b"arq".as_slice() {
         add_arq(kept, words)
     } else if first == b"bandwidth".as_slice() {
-        add_bandwidth(kept, words)
+        add_bandwidth(kept, alloc, words)
     } else {
         passed_at(first, words)
     }
@@ -91,11 +91,11 @@ fn add_arq(kept: &mut Kept, words: &mut Words<'_>) -> Result<(), FaultKind>
 
 /// Adds the command of `bandwidth` and what follows it.
 #[inline(never)]
-fn add_bandwidth(kept: &mut Kept, words: &mut Words<'_>) -> Result<(), FaultKind>
+fn add_bandwidth(kept: &mut Kept, alloc: Global, words: &mut Words<'_>) -> Result<(), FaultKind>
     ensures { MayAdd kept.old (kept_command_of (bandwidth_at (words_of words.old))) kept.new
         result }
 {
-    kept.add(bandwidth(words)?)
+    kept.add(bandwidth(alloc, words)?)
 }
 
 /// `arq` and what follows it.

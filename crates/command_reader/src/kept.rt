@@ -3,13 +3,14 @@
 ghost use Rattle.std.specs.Prelude.{◌≡◌, [], MatchResult, Ok, Some, None};
 ghost use Rattle.std.specs.Option.{option_copied};
 ghost use Rattle.std.specs.HashSet.{keys};
-ghost use Rattle.command_reader.specs.Index.{declared_name, AddsDeclared, fault_by_names};
+ghost use Rattle.command_reader.specs.Index.{declared_name, AddsDeclared, MayRefuseCommand, fault_of_one_more, fault_by_names};
 ghost use Rattle.command_reader.specs.Kept.{MayAdd};
 
 use crate::commands::Command;
 use crate::faults::FaultKind;
 use gk_terms::Name;
 use gk_terms::limits::MOST_ZONES;
+use short_texts::KeptName;
 use std::alloc::{AllocError, Global};
 use std::collections::HashSet;
 
@@ -38,6 +39,25 @@ impl Kept {
         }
     }
 
+    /// The name and the domain of one more zone, to be kept; or the fault of its name; or
+    /// `NoMemory`, if that has none.
+    pub fn zone_names(
+        &self,
+        alloc: Global,
+        name: &Name,
+        domain: &Name,
+    ) -> Result<(KeptName, KeptName), FaultKind>
+        ensures { MatchResult result
+            (λ names. names ≡ (name.now, domain.now))
+            (λ kind. MayRefuseCommand
+            (fault_of_one_more (keys self.now.declared) name.now) kind) }
+    {
+        check_name(&self.declared, name)?;
+        let name = KeptName::of(alloc, name)?;
+        let domain = KeptName::of(alloc, domain)?;
+        Ok((name, domain))
+    }
+
     /// Adds the command of the line, or says why not: the fault of the zone that it declares, or
     /// `NoMemory`. In that case what was kept is unchanged. A command is large, so room is made for
     /// it first: `push` may hand it back, which costs another copy.
@@ -64,6 +84,15 @@ fn check(declared: &HashSet<Name>, command: &Command) -> Result<(), FaultKind>
     let Some(name) = declared_name(command) else {
         return Ok(());
     };
+    check_name(declared, &name.name())
+}
+
+/// The fault of one more zone of this name, if it has one.
+fn check_name(declared: &HashSet<Name>, name: &Name) -> Result<(), FaultKind>
+    ensures { MatchResult result
+        (λ _. fault_of_one_more (keys declared.now) name.now ≡ None)
+        (λ kind. fault_of_one_more (keys declared.now) name.now ≡ Some kind) }
+{
     if declared.contains(name) {
         return Err(FaultKind::DuplicateZone);
     }
@@ -84,14 +113,14 @@ fn declare(declared: &mut HashSet<Name>, command: &Command) -> Result<(), AllocE
     let Some(name) = declared_name(command) else {
         return Ok(());
     };
-    match declared.insert(*name) {
+    match declared.insert(name.name()) {
         Ok(_) => Ok(()),
         Err(_) => Err(AllocError),
     }
 }
 
 /// The name of the zone that a command declares, if it declares one.
-fn declared_name(command: &Command) -> Option<&Name>
+fn declared_name(command: &Command) -> Option<&KeptName>
     ensures { option_copied result ≡ declared_name command.now }
 {
     match command {

@@ -27,4 +27,5 @@ pub use gk_lines::WriteFault;
 pub use names::Names;
 pub use printing::print;
 pub use reading::read;
+pub use short_texts::KeptName;
 pub use zones::ZoneKind;

@@ -6,13 +6,14 @@ ghost use Rattle.std.specs.Cmp.Rules.{comparing};
 ghost use Rattle.std.proofs.Common.{rules};
 
 use gk_terms::Name;
+use short_texts::KeptName;
 use std::alloc::{AllocError, Global};
 use std::marker::Model;
 
 /// Names in the order of their line. A contract sees them as a list.
 #[derive(Debug, Drop)]
 pub struct Names {
-    names: Vec<Name>,
+    names: Vec<KeptName>,
 }
 
 impl Model for Names {
@@ -38,12 +39,13 @@ impl Names {
     pub fn with(mut self, name: Name) -> Result<Names, AllocError>
         ensures { IfOk result (λ names. names ≡ self ++ name ∷ []) }
     {
+        let name = KeptName::of(*self.names.allocator(), &name)?;
         self.names.push(name)?;
         Ok(self)
     }
 
     /// The names as a slice.
-    pub fn as_slice(&self) -> &[Name]
+    pub fn as_slice(&self) -> &[KeptName]
         ensures { result.now ≡ self.now }
     {
         &self.names

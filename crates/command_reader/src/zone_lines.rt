@@ -7,17 +7,17 @@ ghost use Rattle.gk_terms.specs.Fields.{Gives};
 ghost use Rattle.command_reader.specs.Fields.{is_one_of, field_but, nothing_more_but, with_next};
 ghost use Rattle.command_reader.specs.Memory.{UnlessMemory, Any};
 ghost use Rattle.command_reader.specs.Line.{kept_command_of};
-ghost use Rattle.command_reader.specs.Kept.{MayAdd};
+ghost use Rattle.command_reader.specs.Kept.{MayAdd, MayMake};
 ghost use Rattle.command_reader.specs.ZoneLine.{left_out_of_local, left_out_of_remote, left_out_of_zone, hunt_words, cost_of, local_port_at, local_address_at, zone_local_at, remote_port_at, remote_priority_at, remote_cost_at, zone_remote_at, after_hunt_word, gateways_at, zone_prefix_at, zone_line_at};
 
 use crate::commands::{Command, GatewayPriority, LocalAddress};
 use crate::faults::FaultKind;
-use crate::fields::{gateway_priority_field, ip_field, pattern_field, some_names};
+use crate::fields::{gateway_priority_field, ip_field, kept_name, pattern_field, some_names};
 use crate::kept::Kept;
 use gk_terms::addresses::{read_ip, read_port};
 use gk_terms::fields::name_field;
 use gk_terms::words::Words;
-use gk_terms::{Address, read_number};
+use gk_terms::{Address, Name, read_number};
 use std::alloc::Global;
 
 /// The port of a remote gatekeeper whose line gives none: that of H.225.0's RAS.
@@ -29,6 +29,24 @@ pub const DEFAULT_COST: u8 = 50;
 /// The priority of a remote zone whose line gives none.
 pub const DEFAULT_PRIORITY: u8 = 50;
 
+/// The fields of a `zone local` line.
+#[derive(Clone, Copy)]
+struct LocalZone {
+    name: Name,
+    domain: Name,
+    address: Option<LocalAddress>,
+}
+
+/// The fields of a `zone remote` line.
+#[derive(Clone, Copy)]
+struct RemoteZone {
+    name: Name,
+    domain: Name,
+    address: Address,
+    cost: u8,
+    priority: u8,
+}
+
 /// Adds the command of `zone` and what follows it.
 pub fn add_zone(kept: &mut Kept, alloc: Global, words: &mut Words<'_>) -> Result<(), FaultKind>
     ensures { MayAdd kept.old (kept_command_of (zone_line_at (words_of words.old)))
@@ -36,8 +54,8 @@ pub fn add_zone(kept: &mut Kept, alloc: Global, words: &mut Words<'_>) -> Result
 {
     match words.next() {
         None => Err(FaultKind::Missing),
-        Some(word) if word == b"local".as_slice() => add_zone_local(kept, words),
-        Some(word) if word == b"remote".as_slice() => add_zone_remote(kept, words),
+        Some(word) if word == b"local".as_slice() => add_zone_local(kept, alloc, words),
+        Some(word) if word == b"remote".as_slice() => add_zone_remote(kept, alloc, words),
         Some(word) if word == b"prefix".as_slice() => add_zone_prefix(kept, alloc, words),
         Some(word) if is_left_out_of_zone(word) => Err(FaultKind::Unsupported),
         Some(_) => Err(FaultKind::UnknownCommand),
@@ -47,30 +65,47 @@ pub fn add_zone(kept: &mut Kept, alloc: Global, words: &mut Words<'_>) -> Result
 /// Adds `zone local NAME DOMAIN [IP [PORT]]`. In a function of its own, as is `zone remote`, so
 /// that only lines of this kind set aside room for such a command.
 #[inline(never)]
-fn add_zone_local(kept: &mut Kept, words: &mut Words<'_>) -> Result<(), FaultKind>
+fn add_zone_local(kept: &mut Kept, alloc: Global, words: &mut Words<'_>) -> Result<(), FaultKind>
     ensures { MayAdd kept.old (kept_command_of (zone_local_at (words_of words.old))) kept.new
         result }
 {
-    kept.add(zone_local(words)?)
+    kept.add(zone_local(kept, alloc, words)?)
 }
 
 /// Adds `zone remote NAME DOMAIN IP [PORT] [cost C [priority P]]`.
 #[inline(never)]
-fn add_zone_remote(kept: &mut Kept, words: &mut Words<'_>) -> Result<(), FaultKind>
+fn add_zone_remote(kept: &mut Kept, alloc: Global, words: &mut Words<'_>) -> Result<(), FaultKind>
     ensures { MayAdd kept.old (kept_command_of (zone_remote_at (words_of words.old))) kept.new
         result }
 {
-    kept.add(zone_remote(words)?)
+    kept.add(zone_remote(kept, alloc, words)?)
 }
 
-/// `zone local NAME DOMAIN [IP [PORT]]`.
-fn zone_local(words: &mut Words<'_>) -> Result<Command, FaultKind>
-    ensures { result ≡ zone_local_at (words_of words.old) }
+/// `zone local NAME DOMAIN [IP [PORT]]`. The line is read to its end, and its name looked up, before
+/// memory is taken for its names.
+fn zone_local(kept: &Kept, alloc: Global, words: &mut Words<'_>) -> Result<Command, FaultKind>
+    ensures { MayMake kept.now (kept_command_of (zone_local_at (words_of words.old))) result }
+{
+    let zone = local_zone(words)?;
+    let (name, domain) = kept.zone_names(alloc, &zone.name, &zone.domain)?;
+    Ok(Command::ZoneLocal {
+        name,
+        domain,
+        address: zone.address,
+    })
+}
+
+/// The fields of `zone local`.
+fn local_zone(words: &mut Words<'_>) -> Result<LocalZone, FaultKind>
+    ensures { MatchResult result
+        (λ zone. zone_local_at (words_of words.old)
+        ≡ Ok (Command.ZoneLocal zone.name zone.domain zone.address))
+        (λ kind. zone_local_at (words_of words.old) ≡ Err kind) }
 {
     let name = name_field(words, FaultKind::BadName)?;
     let domain = name_field(words, FaultKind::BadName)?;
     let address = local_address(words)?;
-    Ok(Command::ZoneLocal {
+    Ok(LocalZone {
         name,
         domain,
         address,
@@ -112,16 +147,35 @@ fn local_port(ip: [u8; 4], words: &mut Words<'_>) -> Result<Option<LocalAddress>
     }
 }
 
-/// `zone remote NAME DOMAIN IP [PORT] [cost C [priority P]]`.
-fn zone_remote(words: &mut Words<'_>) -> Result<Command, FaultKind>
-    ensures { result ≡ zone_remote_at (words_of words.old) }
+/// `zone remote NAME DOMAIN IP [PORT] [cost C [priority P]]`. Memory is taken for its names as for
+/// those of `zone local`.
+fn zone_remote(kept: &Kept, alloc: Global, words: &mut Words<'_>) -> Result<Command, FaultKind>
+    ensures { MayMake kept.now (kept_command_of (zone_remote_at (words_of words.old))) result }
+{
+    let zone = remote_zone(words)?;
+    let (name, domain) = kept.zone_names(alloc, &zone.name, &zone.domain)?;
+    Ok(Command::ZoneRemote {
+        name,
+        domain,
+        address: zone.address,
+        cost: zone.cost,
+        priority: zone.priority,
+    })
+}
+
+/// The fields of `zone remote`.
+fn remote_zone(words: &mut Words<'_>) -> Result<RemoteZone, FaultKind>
+    ensures { MatchResult result
+        (λ zone. zone_remote_at (words_of words.old)
+        ≡ Ok (Command.ZoneRemote zone.name zone.domain zone.address zone.cost zone.priority))
+        (λ kind. zone_remote_at (words_of words.old) ≡ Err kind) }
 {
     let name = name_field(words, FaultKind::BadName)?;
     let domain = name_field(words, FaultKind::BadName)?;
     let ip = ip_field(words)?;
     let (port, next) = remote_port(words)?;
     let (cost, priority) = remote_cost(next, words)?;
-    Ok(Command::ZoneRemote {
+    Ok(RemoteZone {
         name,
         domain,
         address: Address::new(ip, port),
@@ -222,6 +276,7 @@ fn add_zone_prefix(kept: &mut Kept, alloc: Global, words: &mut Words<'_>) -> Res
     let zone = name_field(words, FaultKind::BadName)?;
     let pattern = pattern_field(words)?;
     let gateways = gateways(alloc, words)?;
+    let zone = kept_name(alloc, &zone)?;
     kept.add(Command::ZonePrefix {
         zone,
         pattern,

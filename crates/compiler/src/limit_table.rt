@@ -6,7 +6,7 @@ ghost use Rattle.compiler.specs.Limit.{units_of_kbps, remote_size, remote_limit_
 ghost use Rattle.compiler.specs.TablesIndex.{default_limits_of, defaults_said, named_limits, no_limits, limits_or, limits_said, limits_if_local, limits_with, kept_limits, AreOwnLimits, AreLimits};
 
 use crate::limits::{NO_LIMITS, ZoneLimits};
-use crate::zone_table::number_of;
+use crate::zone_table::number_of_name;
 use command_reader::{Command, ZoneKind};
 use gk_terms::{Kbps, Name};
 use indexmap::IndexMap;
@@ -56,7 +56,7 @@ fn add_limits(limits: &mut [ZoneLimits], zones: &IndexMap<Name, ZoneKind>, comma
     let Some((zone, said)) = named_limits(command) else {
         return;
     };
-    let place = number_of(zones, &zone).place() as usize;
+    let place = number_of_name(zones, &zone).place() as usize;
     if place < limits.len() {
         limits[place] = said.or(limits[place]);
     }
@@ -68,7 +68,7 @@ fn named_limits(command: &Command) -> Option<(Name, ZoneLimits)>
 {
     match command {
         Command::BandwidthZone { kind, zone, size } => {
-            Some((*zone, ZoneLimits::only(*kind, units_of(*size))))
+            Some((zone.name(), ZoneLimits::only(*kind, units_of(*size))))
         }
         _ => None,
     }
@@ -126,7 +126,7 @@ pub(crate) fn limits_at(
     requires { length zones.now.entries ≤ MOST_ZONES }
     ensures { result ≡ unwrap_or (kept_limits zones.now.entries limits.now name.now) no_limits }
 {
-    let number = number_of(zones, name);
+    let number = number_of_name(zones, name);
     limits
         .get(number.place() as usize)
         .copied()

@@ -8,7 +8,7 @@ ghost use Rattle.compiler.specs.TablesIndex.{better_in, best_after};
 
 use crate::plans::ZoneNo;
 use crate::zone_table::{kind_at, number_of};
-use command_reader::ZoneKind;
+use command_reader::{KeptName, ZoneKind};
 use gk_terms::Name;
 use indexmap::IndexMap;
 
@@ -26,7 +26,7 @@ pub(crate) fn better(zones: &IndexMap<Name, ZoneKind>, best: Option<ZoneNo>, nex
 pub(crate) fn best_after(
     zones: &IndexMap<Name, ZoneKind>,
     best: Option<ZoneNo>,
-    names: &[Name],
+    names: &[KeptName],
 ) -> Option<ZoneNo>
     requires { length zones.now.entries ≤ MOST_ZONES }
     ensures { result ≡ best_after zones.now.entries best names.now }

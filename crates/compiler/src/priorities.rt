@@ -12,7 +12,7 @@ ghost use Rattle.compiler.specs.TablesIndex.{NumberedRow, gateways_named, is_abo
 use crate::plans::ZoneNo;
 use crate::rows::row_of;
 use crate::zone_table::number_of;
-use command_reader::{Command, GatewayPriority, ZoneKind};
+use command_reader::{Command, GatewayPriority, KeptName, ZoneKind};
 use digit_patterns::Pattern;
 use gk_terms::Name;
 use indexmap::IndexMap;
@@ -115,7 +115,7 @@ fn add_gateways(
 /// Gives each of some gateways this priority.
 fn set_priorities(
     gateways: &mut IndexMap<Name, u8>,
-    names: &[Name],
+    names: &[KeptName],
     priority: u8,
 ) -> Result<(), AllocError>
     ensures { OnOk result ((gateway : List ℕ)
@@ -123,7 +123,7 @@ fn set_priorities(
         then Some priority else lookup (bytes_eq gateway) gateways.old.entries)) }
 {
     for name in names {
-        gateways.insert(*name, priority)?;
+        gateways.insert(name.name(), priority)?;
     }
     Ok(())
 }

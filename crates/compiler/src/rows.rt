@@ -14,7 +14,7 @@ ghost use Rattle.compiler.specs.TablesIndex.{AreRows, zone_at_pattern, better_in
 use crate::picking::better;
 use crate::plans::ZoneNo;
 use crate::zone_table::number_of;
-use command_reader::{Command, ZoneKind};
+use command_reader::{Command, KeptName, ZoneKind};
 use digit_patterns::Pattern;
 use gk_terms::Name;
 use gk_terms::limits::MOST_LINES;
@@ -48,7 +48,7 @@ pub(crate) fn rows_in(
 }
 
 /// The pattern of a command, and the zone that it is declared for, if it is a `zone prefix`.
-pub(crate) fn row_of(command: &Command) -> Option<(&Pattern, &Name)>
+pub(crate) fn row_of(command: &Command) -> Option<(&Pattern, &KeptName)>
     ensures { MatchOption result
         (row_of command.now ≡ None)
         (λ row. row_of command.now ≡ Some (row.0.now, row.1.now)) }
@@ -64,7 +64,7 @@ fn add_row(
     rows: &mut IndexMap<Pattern, ZoneNo>,
     zones: &IndexMap<Name, ZoneKind>,
     pattern: &Pattern,
-    zone: &Name,
+    zone: &KeptName,
 ) -> Result<(), AllocError>
     requires { length zones.now.entries ≤ MOST_ZONES }
     ensures picked { OnOk result ((other : PatternParts)

@@ -10,7 +10,7 @@ ghost use Rattle.compiler.specs.TablesIndex.{best_after, technology_at, hopoff_a
 use crate::picking::best_after;
 use crate::plans::ZoneNo;
 use crate::technology_map::TechnologyMap;
-use command_reader::{Command, ZoneKind};
+use command_reader::{Command, KeptName, ZoneKind};
 use gk_terms::limits::MOST_TECHNOLOGY;
 use gk_terms::{Name, TechPrefix};
 use indexmap::IndexMap;
@@ -47,7 +47,7 @@ fn prefix_in(command: &Command) -> Option<TechPrefix>
 }
 
 /// The hop-off zones that a command names for the prefix that it declares.
-fn hopoffs_named(command: &Command) -> &[Name]
+fn hopoffs_named(command: &Command) -> &[KeptName]
     ensures { result.now ≡ hopoffs_named command.now }
 {
     match command {
@@ -75,7 +75,7 @@ fn add_hopoffs(
     technologies: &mut TechnologyMap,
     zones: &IndexMap<Name, ZoneKind>,
     prefix: &TechPrefix,
-    hopoffs: &[Name],
+    hopoffs: &[KeptName],
 ) -> Result<(), AllocError>
     requires { length zones.now.entries ≤ MOST_ZONES }
     ensures added { OnOk result ((other : List ℕ)

@@ -11,7 +11,7 @@ ghost use Rattle.compiler.specs.TablesIndex.{kind_at};
 
 use crate::plans::ZoneNo;
 use crate::zones::ZoneView;
-use command_reader::{Command, ZoneKind};
+use command_reader::{Command, KeptName, ZoneKind};
 use gk_terms::{Address, Name};
 use indexmap::IndexMap;
 use std::alloc::{AllocError, Global};
@@ -57,9 +57,17 @@ fn first_local_command(commands: &[Command]) -> Option<&Command>
     commands.iter().find(|command| command.is_local_zone())
 }
 
+/// The number of the zone of a kept name; the count of all zones if there is none.
+pub(crate) fn number_of(zones: &IndexMap<Name, ZoneKind>, name: &KeptName) -> ZoneNo
+    requires { length zones.now.entries ≤ MOST_ZONES }
+    ensures { result ≡ number_in zones.now.entries name.now }
+{
+    number_of_name(zones, &name.name())
+}
+
 #[tactic(auto, using(crate::proofs::ZoneLemmas::number_by_position))]
 /// The number of the zone of a name; the count of all zones if there is none.
-pub(crate) fn number_of(zones: &IndexMap<Name, ZoneKind>, name: &Name) -> ZoneNo
+pub(crate) fn number_of_name(zones: &IndexMap<Name, ZoneKind>, name: &Name) -> ZoneNo
     requires { length zones.now.entries ≤ MOST_ZONES }
     ensures { result ≡ number_in zones.now.entries name.now }
 {

@@ -10,6 +10,7 @@ use gk_terms::limits::MOST_LINE_BYTES;
 use gk_terms::text_lines::content;
 use gk_terms::{Address, Name};
 use itoa::write_digits;
+use short_texts::KeptName;
 use std::marker::Model;
 
 /// How many bytes of a line are kept: those of the longest line that is read, its carriage return
@@ -124,7 +125,7 @@ impl LineBuffer {
     }
 
     /// Adds each name as a word.
-    pub fn names(&mut self, names: &[Name])
+    pub fn names(&mut self, names: &[KeptName])
         ensures { self.new ≡ with_words self.old names.now }
     {
         for name in names {

@@ -1,2 +1,3 @@
 pub mod PackedDigits
 pub mod CompactText
+pub mod KeptName

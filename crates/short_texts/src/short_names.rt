@@ -49,6 +49,13 @@ impl ShortName {
         self.spelling.as_str() == name.as_str()
     }
 
+    /// The bytes of the name.
+    pub fn as_bytes(&self) -> &[u8]
+        ensures { result.now ≡ self.now }
+    {
+        self.spelling.as_bytes()
+    }
+
     /// The name.
     pub fn name(&self) -> Name
         ensures { result ≡ self.now }

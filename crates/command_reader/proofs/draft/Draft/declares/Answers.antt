@@ -7,6 +7,5 @@ pub returns : goal.returns
 returns c =
     let same = held_commands c.self.inside.kept.numbers.items _ _ _ c.self.invariant.0
     c.self.view_is in
-    let h = c.contains.ensures in
-    c.contains.ensures ∙ c.self.invariant.2.same c.args.name.now ∙ ap
+    (rw c.name.ensures at c.contains.ensures) ∙ c.self.invariant.2.same c.args.name.now ∙ ap
     (λ cs. is_declared cs c.args.name.now) (sym same)
