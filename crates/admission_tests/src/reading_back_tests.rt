@@ -14,11 +14,11 @@ fn entries_with_short_names_are_kept_in_few_bytes(rt: HostRuntime) -> Result<(),
     assert_kept(&rt, rt.alloc(), &mut core)
 }
 
-/// Asserts which of twelve entries are kept in few bytes.
+/// Asserts which of thirteen entries are kept in few bytes.
 fn assert_kept(rt: &impl Abort, alloc: Global, core: &mut Core) -> Result<(), Fail> {
-    assert!(rt; are_twelve_recorded(core, alloc)?);
-    for number in 1..=12 {
-        let want = number <= 6 || number == 12;
+    assert!(rt; are_thirteen_recorded(core, alloc)?);
+    for number in 1..=13 {
+        let want = number <= 6 || number >= 12;
         let is_brief = is_brief(core.record(), number);
         assert!(rt; is_brief == Some(want), "entry {number}");
     }
@@ -26,8 +26,9 @@ fn assert_kept(rt: &impl Abort, alloc: Global, core: &mut Core) -> Result<(), Fa
 }
 
 /// Whether these are recorded: five events of a terminal with a short name, five of one whose name
-/// is longer, a registration whose reply names another zone than it, and a refused one.
-fn are_twelve_recorded(core: &mut Core, alloc: Global) -> Result<bool, Fail> {
+/// is longer, a registration whose reply names another zone than it, a refused one, and a refused
+/// unregistration.
+fn are_thirteen_recorded(core: &mut Core, alloc: Global) -> Result<bool, Fail> {
     let (zone, digits) = (Name::read(b"gk-a")?, Dialled::read(b"9123")?);
     let short = Name::read(b"terminal-0123456789")?;
     let longer = Name::read(b"terminal-0123456789a")?;
@@ -37,7 +38,8 @@ fn are_twelve_recorded(core: &mut Core, alloc: Global) -> Result<bool, Fail> {
         are_five_recorded(core, alloc, short, zone, digits)
             && are_five_recorded(core, alloc, longer, zone, digits)
             && is_recorded(core, Event::Register(terminal_in(alloc, ta, first_local)))
-            && is_recorded(core, Event::Register(terminal_in(alloc, tb, remote))),
+            && is_recorded(core, Event::Register(terminal_in(alloc, tb, remote)))
+            && is_recorded(core, Event::Unregister { id: tb }),
     )
 }
 

@@ -69,6 +69,7 @@ brief_puts_none (brief.Change id call units) e h = puts_as _ e h refl
 brief_puts_none (brief.RefusedChange id call units cause) e h = puts_as _ e h refl
 brief_puts_none (brief.Release id call) e h = puts_as _ e h refl
 brief_puts_none (brief.Unregistration id) e h = puts_as _ e h refl
+brief_puts_none (brief.RefusedUnregistration id reason) e h = puts_as _ e h refl
 brief_puts_none (brief.RefusedRegistration place reason) e h =
     no_registration (short_reply.Refused reason) place e h
 

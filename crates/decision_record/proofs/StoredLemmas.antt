@@ -28,6 +28,7 @@ still_brief endpoints others (brief.Change id call units) e h = h
 still_brief endpoints others (brief.RefusedChange id call units cause) e h = h
 still_brief endpoints others (brief.Release id call) e h = h
 still_brief endpoints others (brief.Unregistration id) e h = h
+still_brief endpoints others (brief.RefusedUnregistration id reason) e h = h
 still_brief endpoints others (brief.RefusedRegistration place reason) e h =
     still_made (register_entry (short_reply.Refused reason)) endpoints others place e h
 

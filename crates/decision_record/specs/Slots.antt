@@ -144,6 +144,8 @@ brief_entry registrations (brief.Release id call) =
     Some (other_entry (Releasing id call) (reply.Released call))
 brief_entry registrations (brief.Unregistration id) =
     Some (other_entry (Unregistering id) (reply.Unregistered id))
+brief_entry registrations (brief.RefusedUnregistration id reason) =
+    Some (other_entry (Unregistering id) (reply.UnregisterRefused id reason))
 brief_entry registrations (brief.RefusedRegistration place reason) =
     option_map (register_entry (short_reply.Refused reason)) (slice_get registrations place)
 

@@ -63,7 +63,7 @@ impl ShortReply {
     }
 }
 
-/// The slot of a granted unregistration.
+/// The slot of an unregistration.
 fn unregistration(id: &Name, ruling: &LentRuling<'_>) -> Option<Slot>
     ensures { IfSome result (λ slot. Spec.entry_meant [] [] [] slot
         ≡ Some (entry_by (Unregistering id.now) (ruling_meant ruling.now))) }
@@ -72,6 +72,14 @@ fn unregistration(id: &Name, ruling: &LentRuling<'_>) -> Option<Slot>
         LentRuling::Unregistered { id: left } if **left == *id => {
             let id = ShortName::of(id)?;
             Some(Slot::Brief(BriefSlot::Unregistration { id }))
+        }
+        LentRuling::UnregisterRefused {
+            id: refused,
+            reason,
+        } if **refused == *id => {
+            let id = ShortName::of(id)?;
+            let reason = *reason;
+            Some(Slot::Brief(BriefSlot::RefusedUnregistration { id, reason }))
         }
         _ => None,
     }

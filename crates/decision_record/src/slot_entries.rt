@@ -17,7 +17,7 @@ use bandwidth::Over;
 use gk_terms::{Address, Name, Units};
 use pieces::Pieces;
 use registry::BriefEndpoint;
-use rulings::{AdmitRefusal, ChangeRefusal, Destination, Event, Reply, Route};
+use rulings::{AdmitRefusal, ChangeRefusal, Destination, Event, Reply, Route, UnregisterRefusal};
 use short_texts::ShortName;
 use std::borrow::Cow;
 
@@ -221,6 +221,9 @@ impl BriefSlot {
             }
             BriefSlot::Release { id, call } => Some(released(id, call.number())),
             BriefSlot::Unregistration { id } => Some(unregistered(id)),
+            BriefSlot::RefusedUnregistration { id, reason } => {
+                Some(not_unregistered(id, *reason))
+            }
             BriefSlot::RefusedRegistration { place, reason } => {
                 let replied = ShortReply::Refused { reason: *reason };
                 registration_at(registrations, place.index(), &replied)
@@ -325,6 +328,19 @@ fn unregistered(id: &ShortName) -> Entry<'static>
 {
     let event = Event::Unregister { id: id.name() };
     other(event, Reply::Unregistered { id: id.name() })
+}
+
+/// The entry of an unregistration that is refused for this reason.
+fn not_unregistered(id: &ShortName, reason: UnregisterRefusal) -> Entry<'static>
+    ensures { plain_entry result ≡ Spec.other_entry (Unregistering id.now)
+        (Reply.UnregisterRefused id.now reason) }
+{
+    let event = Event::Unregister { id: id.name() };
+    let reply = Reply::UnregisterRefused {
+        id: id.name(),
+        reason,
+    };
+    other(event, reply)
 }
 
 /// The entry of an event that is not an admission.

@@ -23,10 +23,10 @@ use std::mem::size_of;
 /// `places` has a place of 5 bytes for each slot. That of a granted registration, of a reload or of
 /// an entry that stands whole is the slot itself; any other says where it stands: in `routed` if it
 /// is that of an admission that leads to a destination, and the place tells the verdict; in
-/// `refused` if the admission leads to none; in `brief` if it is that of a granted change, release
-/// or unregistration, of a change that is refused for its call, or of a refused registration; and
-/// in `wide` if it is that of a change over a limit, or of an admission over the limit of a zone
-/// that is not the caller's. Each of the five lists has room for `room` further items, since it is
+/// `refused` if the admission leads to none; in `brief` if it is that of a granted change or
+/// release, of an unregistration, of a change that is refused for its call, or of a refused
+/// registration; and in `wide` if it is that of a change over a limit, or of an admission over the
+/// limit of a zone that is not the caller's. Each of the five lists has room for `room` further items, since it is
 /// not known of which kind the next slots are.
 #[derive(Drop)]
 pub struct SlotList {

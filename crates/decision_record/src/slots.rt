@@ -8,7 +8,7 @@ use crate::slot_parts::{
     Asked, NamedOver, ShortDestination, ShortOver, ShortReply, Unchanged, Unrouted,
 };
 use gk_terms::{Address, Units};
-use rulings::RegisterRefusal;
+use rulings::{RegisterRefusal, UnregisterRefusal};
 use short_texts::ShortName;
 use std::mem::size_of;
 
@@ -56,6 +56,11 @@ pub enum BriefSlot {
     Unregistration {
         id: ShortName,
     },
+    /// A refused unregistration.
+    RefusedUnregistration {
+        id: ShortName,
+        reason: UnregisterRefusal,
+    },
     /// A refused registration, whose endpoint stands at this place, from 0, in the list of
     /// registrations.
     RefusedRegistration {
@@ -91,9 +96,9 @@ const _: () = prove!(size_of::<BriefSlot>() == 30);
 const _: () = prove!(size_of::<WideSlot>() == 120);
 
 /// An entry in few bytes, if the names in it are short: of an admission, of a change, of a granted
-/// release or unregistration; or the place of a registration's endpoint
-/// in the list of registrations, that of a reload among the reloads, or that of any other entry in
-/// the list of whole entries.
+/// release, of an unregistration; or the place of a registration's endpoint in the list of
+/// registrations, that of a reload among the reloads, or that of any other entry in the list of
+/// whole entries.
 #[derive(Clone, Copy)]
 pub enum Slot {
     /// A granted admission.
