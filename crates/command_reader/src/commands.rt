@@ -70,7 +70,8 @@ pub enum Command {
     },
 }
 
-// Its names stand in it in few bytes, since up to 20,000 commands are in memory twice at a reload.
+// Its names stand in it in few bytes, since at a reload two times up to 20,000 commands are in
+// memory.
 const _: () = prove!(size_of::<Command>() == 112);
 
 impl Command {

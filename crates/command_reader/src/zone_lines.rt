@@ -81,8 +81,8 @@ fn add_zone_remote(kept: &mut Kept, alloc: Global, words: &mut Words<'_>) -> Res
     kept.add(zone_remote(kept, alloc, words)?)
 }
 
-/// `zone local NAME DOMAIN [IP [PORT]]`. The line is read to its end, and its name looked up, before
-/// memory is taken for its names.
+/// `zone local NAME DOMAIN [IP [PORT]]`. The line is read to its end, and its name looked up,
+/// before memory is taken for its names.
 fn zone_local(kept: &Kept, alloc: Global, words: &mut Words<'_>) -> Result<Command, FaultKind>
     ensures { MayMake kept.now (kept_command_of (zone_local_at (words_of words.old))) result }
 {

@@ -123,7 +123,8 @@ fn set_priorities(
         then Some priority else lookup (bytes_eq gateway) gateways.old.entries)) }
 {
     for name in names {
-        gateways.insert(name.name(), priority)?;
+        let gateway = name.name();
+        gateways.insert(gateway, priority)?;
     }
     Ok(())
 }

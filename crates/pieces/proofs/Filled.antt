@@ -1,4 +1,5 @@
--- What the pieces of a list hold, where an item lies in them, and what one more item changes.
+-- What the pieces of a list hold, where an item lies in them, and what further items change, and one
+-- in the place of another.
 use Rattle.std.proofs.Common.{◌≡◌, ℕ, zero, suc, ◌+◌, ◌-◌, ◌*◌, ◌/◌, ◌%◌, ◌<◌, ◌≤◌, List, [], ◌∷◌, ◌++◌, length, Option, None, Some, Bor, refl, sym, ap, subst, ◌∙◌, inl, inr, append_assoc, length-append, arith}
 use Rattle.std.specs.Prelude.{Vec, vec_items, vec_len, vec_capacity, slice_get, slice_index_or, slice_set}
 use Rattle.std.specs.List.{flat_map}

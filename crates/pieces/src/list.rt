@@ -17,7 +17,7 @@ const MOST_PIECES: usize = usize::MAX / 2 / PIECE_ITEMS;
 ///
 /// An item stays where it was put, and no call but the drop goes over the items. As the list grows,
 /// only the list of its pieces is moved, which has one entry for 1,024 items. `into_pieces` gives
-/// the pieces away, so that each can be dropped as soon as its items were read.
+/// the pieces away, so that each can be let go as soon as its items were read.
 #[derive(Drop)]
 pub struct Pieces<T> {
     // Each full before there is an item in the next. The empty ones are room that was reserved.
@@ -128,7 +128,7 @@ impl<T: Drop> Pieces<T> {
         self.len += 1;
     }
 
-    /// The pieces, which hold the items in order. Those at the end may be empty.
+    /// The pieces, which hold the items in order. Some may be empty.
     pub fn into_pieces(self) -> Vec<Vec<T>>
         ensures { flat_map vec_items result.items ≡ self.items }
     {

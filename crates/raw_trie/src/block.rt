@@ -73,8 +73,7 @@ impl Block {
     }
 }
 
-/// Writes these words after those that were written, which are so many, and says how many are
-/// written then.
+/// Writes these words after the `written` ones, and says how many there are then.
 fn copy(block: &mut Words, written: usize, words: &[u32]) -> usize
     requires written { written ≡ length block.old.words }
     requires room { written + length words.now ≤ block.old.room }

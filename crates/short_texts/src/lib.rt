@@ -1,4 +1,4 @@
-//! Short texts in few bytes: for a record that keeps very many of them.
+//! Texts in few bytes, for records and configurations that keep very many of them.
 #![tactic(auto)]
 
 pub mod compact_text;

@@ -11,7 +11,7 @@ loop-name-preserved c =
     let more : take (place + 1) names ≡ take place names ++ c.name-item.result ∷ [] =
     take_with names place c.name-item.result c.name-item.is c.loop-name-test.true in
     λ gateway. rw more
-    ((rw c.name.ensures at c.in_ok-insert.ensures.updates.0 gateway)
+    ((rw c.name-gateway.ensures at c.in_ok-insert.ensures.updates.0 gateway)
     ∙ one_more_name gateway (take place names) c.name-item.result c.args.priority
     (lookup (bytes_eq gateway) c.loop-name.gateways.entries)
     (lookup (bytes_eq gateway) c.args.gateways.now.entries)
