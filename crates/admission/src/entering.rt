@@ -78,6 +78,7 @@ impl Core {
 
     /// The same of any other event but a reload: it is recorded whole. In a function of its own,
     /// since few are.
+    #[cold]
     #[inline(never)]
     pub(crate) fn enter_whole<S: ReplyTaker>(
         &mut self,
@@ -274,6 +275,7 @@ fn lacking_memory(event: &LentEvent<'_>) -> Reply
 
 /// Puts the reply that memory ran out in the place of the verdict. Few replies say so, so this is a
 /// function of its own, whose places no other reply clears.
+#[cold]
 #[inline(never)]
 pub(crate) fn lack_memory<S: ReplyTaker>(event: &LentEvent<'_>, taker: &mut S)
     requires { IsFallible (Events.event_meant event.now) }

@@ -64,6 +64,7 @@ impl ShortReply {
 }
 
 /// The slot of an unregistration.
+#[inline(never)]
 fn unregistration(id: &Name, ruling: &LentRuling<'_>) -> Option<Slot>
     ensures { IfSome result (λ slot. Spec.entry_meant [] [] [] slot
         ≡ Some (entry_by (Unregistering id.now) (ruling_meant ruling.now))) }
@@ -86,6 +87,7 @@ fn unregistration(id: &Name, ruling: &LentRuling<'_>) -> Option<Slot>
 }
 
 /// The slot of a bandwidth change.
+#[inline(never)]
 fn change(id: &Name, call: u32, units: Units, ruling: &LentRuling<'_>) -> Option<Slot>
     ensures { IfSome result (λ slot. Spec.entry_meant [] [] [] slot
         ≡ Some (entry_by (Changing id.now call units) (ruling_meant ruling.now))) }
@@ -110,6 +112,7 @@ fn change(id: &Name, call: u32, units: Units, ruling: &LentRuling<'_>) -> Option
 }
 
 /// The slot of a bandwidth change that is refused for this reason.
+#[inline(never)]
 fn refused_change(id: &Name, call: u32, units: Units, reason: &ChangeRefusal) -> Option<Slot>
     ensures { IfSome result (λ slot. Spec.entry_meant [] [] [] slot
         ≡ Some (Spec.other_entry (Changing id.now call units)
@@ -154,6 +157,8 @@ fn refused_change(id: &Name, call: u32, units: Units, reason: &ChangeRefusal) ->
 
 impl NamedOver {
     /// This sum, if the name of its zone is short.
+    #[cold]
+    #[inline(never)]
     fn of(over: &Over) -> Option<NamedOver>
         ensures { IfSome result (λ named. Spec.named_over_meant named ≡ over.now) }
     {
@@ -168,6 +173,7 @@ impl NamedOver {
 }
 
 /// The slot of a granted release.
+#[inline(never)]
 fn release(id: &Name, call: u32, ruling: &LentRuling<'_>) -> Option<Slot>
     ensures { IfSome result (λ slot. Spec.entry_meant [] [] [] slot
         ≡ Some (entry_by (Releasing id.now call) (ruling_meant ruling.now))) }
@@ -183,6 +189,7 @@ fn release(id: &Name, call: u32, ruling: &LentRuling<'_>) -> Option<Slot>
 }
 
 /// The slot of an admission.
+#[inline(never)]
 fn admission(
     id: &Name,
     call: u32,

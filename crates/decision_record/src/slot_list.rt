@@ -212,6 +212,8 @@ impl SlotList {
     }
 
     /// Puts a slot with the name of the zone of a limit at the end.
+    #[cold]
+    #[inline(never)]
     fn push_wide(&mut self, wide: &WideSlot)
         requires room { 1 ≤ self.old.room }
         requires few { length self.old.items < 2 ^ 32 }
@@ -242,6 +244,7 @@ impl SlotList {
 
 /// Makes room in each of the five lists for this many further items. If memory runs out, they hold
 /// what they did.
+#[cold]
 #[inline(never)]
 fn reserve_each(
     slot_places: &mut Pieces<SlotPlace>,

@@ -21,6 +21,7 @@ pub struct Told {
 
 impl Told {
     /// What is told of an event on which this was ruled.
+    #[cold]
     #[inline(never)]
     pub fn of(ruling: &LentRuling<'_>) -> Told
         ensures { (event : _) → told_entry event result ≡ entry_by event (ruling_meant ruling.now) }

@@ -159,6 +159,7 @@ impl LineBuffer {
 
     /// Adds the digits of a number, as far as they have room. In a function of its own, since few
     /// lines are that long.
+    #[cold]
     #[inline(never)]
     fn cut_digits(&mut self, number: u32)
         ensures { self.new ≡ extended self.old (decimal number) }

@@ -253,6 +253,8 @@ pub(crate) fn release_refused(
 }
 
 /// `CCF seq version`
+#[cold]
+#[inline(never)]
 pub(crate) fn reloaded(line: &mut LineBuffer, sequence: u32, version: Version)
     ensures words { line.new
         ≡ line_of_words (codes "CCF" ∷ decimal sequence ∷ decimal version ∷ []) }
@@ -264,6 +266,8 @@ pub(crate) fn reloaded(line: &mut LineBuffer, sequence: u32, version: Version)
 }
 
 /// `CRJ seq 0` and why
+#[cold]
+#[inline(never)]
 fn reload_refused(line: &mut LineBuffer, sequence: u32, reason: ReloadRefusal)
     ensures words { line.new ≡ line_of_words
         (codes "CRJ" ∷ decimal sequence ∷ codes "0" ∷ Spec.reload_refusal_word reason ∷ []) }
@@ -278,6 +282,8 @@ fn reload_refused(line: &mut LineBuffer, sequence: u32, reason: ReloadRefusal)
 }
 
 /// `CRJ seq LINE KIND`
+#[cold]
+#[inline(never)]
 fn misconfigured(line: &mut LineBuffer, sequence: u32, fault: &LineFault)
     ensures words { line.new ≡ line_of_words
         (codes "CRJ" ∷ decimal sequence ∷ decimal fault.now.line
@@ -293,6 +299,8 @@ fn misconfigured(line: &mut LineBuffer, sequence: u32, fault: &LineFault)
 }
 
 /// `ERR` and the word of the fault
+#[cold]
+#[inline(never)]
 fn malformed(line: &mut LineBuffer, fault: RequestFault)
     ensures words { line.new ≡ line_of_words (codes "ERR" ∷ Spec.fault_word fault ∷ []) }
     ensures room { room_of (codes "ERR" ∷ Spec.fault_word fault ∷ []) < ROOM_BYTES }

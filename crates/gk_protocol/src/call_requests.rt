@@ -15,6 +15,7 @@ use gk_terms::words::Words;
 use std::alloc::Global;
 
 /// Answers `ARQ seq id call digits units`, after its first word, or gives back its first fault.
+#[inline(never)]
 pub(crate) fn admit<A: Answerer>(
     alloc: Global,
     words: &mut Words<'_>,
@@ -41,6 +42,7 @@ pub(crate) fn admit<A: Answerer>(
 }
 
 /// Answers `BRQ seq id call units`, after its first word, or gives back its first fault.
+#[inline(never)]
 pub(crate) fn change<A: Answerer>(
     alloc: Global,
     words: &mut Words<'_>,
@@ -66,6 +68,7 @@ pub(crate) fn change<A: Answerer>(
 }
 
 /// Answers `DRQ seq id call`, after its first word, or gives back its first fault.
+#[inline(never)]
 pub(crate) fn release<A: Answerer>(
     alloc: Global,
     words: &mut Words<'_>,

@@ -95,6 +95,7 @@ pub(crate) fn register<A: Answerer>(
 
 /// Answers a registration that lacks the memory for its options, or gives back the first fault of
 /// them. In a function of its own, so that other registrations do not clear the room of its answer.
+#[cold]
 #[inline(never)]
 fn lack_options(none: NoRequest, reply: &mut ReplyLine) -> Result<Heard, RequestFault>
     ensures { LacksOptions none result reply.new.line }
@@ -118,6 +119,7 @@ fn no_memory(sequence: u32, id: Name) -> Answer
 }
 
 /// Answers `URQ seq id`, after its first word, or gives back its first fault.
+#[inline(never)]
 pub(crate) fn unregister<A: Answerer>(
     alloc: Global,
     words: &mut Words<'_>,

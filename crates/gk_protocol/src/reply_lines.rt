@@ -49,6 +49,7 @@ impl ReplyLine {
 
     /// Makes it the line of an answer. In a function of its own, since few answers are values
     /// first.
+    #[cold]
     #[inline(never)]
     pub fn show(&mut self, answer: &Answer)
         ensures { self.new ≡ record self.old { line = Spec.answer_line_of answer.now } }
@@ -72,6 +73,7 @@ impl ReplyTaker for ReplyLine {
         self.line.push_byte(b'\n');
     }
 
+    #[cold]
     #[inline(never)]
     #[tactic(auto, using(gk_lines::proofs::LineBufferLemmas::line_in_room))]
     fn take_reply(&mut self, reply: &Reply) {

@@ -70,6 +70,8 @@ pub fn hear<A: Answerer>(
 }
 
 /// `CFG seq n`, after its first word.
+#[cold]
+#[inline(never)]
 fn reload(words: &mut Words<'_>) -> Result<Heard, RequestFault>
     ensures { HearsReload (Spec.reload_at (words_of words.old)) result }
 {

@@ -173,6 +173,7 @@ fn progress_with<R: Source, A: Answerer>(
 
 /// Answers a reload, by what became of its lines. In a function of its own, so that no request
 /// clears the places of its answers.
+#[cold]
 #[inline(never)]
 fn answer_reload<A: Answerer>(
     alloc: Global,
@@ -202,6 +203,7 @@ fn answer_reload<A: Answerer>(
 }
 
 /// Answers a line that is not a request. In a function of its own, likewise.
+#[cold]
 #[inline(never)]
 fn show_fault(fault: RequestFault, reply: &mut ReplyLine)
     ensures { reply.new.line ≡ answer_line_of (Answer.Malformed fault) }

@@ -101,6 +101,7 @@ impl<T: Drop> Pieces<T> {
 
     /// Adds an empty piece. `AllocError` if memory runs out, or there are `MOST_PIECES`; then
     /// nothing changes. In a function of its own, since few calls of `reserve` need it.
+    #[cold]
     #[inline(never)]
     fn add_piece(&mut self) -> Result<(), AllocError>
         ensures ok { OnOk result (self.new ≡ record self.old { room = self.old.room + 1024 }) }

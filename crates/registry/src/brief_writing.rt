@@ -30,6 +30,7 @@ pub fn texts_of(endpoint: &Endpoint, alloc: Global) -> Result<CompactText, Alloc
 }
 
 /// The same of an endpoint whose texts are long. In a function of its own, since few are.
+#[cold]
 #[inline(never)]
 fn long_texts_of(endpoint: &Endpoint, size: usize, alloc: Global) -> Result<CompactText, AllocError>
     requires { size ≡ length (texts_of endpoint.now) }

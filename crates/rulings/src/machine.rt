@@ -215,6 +215,8 @@ impl Machine {
 
     /// Begins the next version, with the tables that are asked for, and lets go of each
     /// endpoint whose zone is not local in them. Open calls stay as they are.
+    #[cold]
+    #[inline(never)]
     fn put_in_force(&mut self, event: &LentEvent<'_>)
         requires founded { IsReloadable (bare self.old) (event_meant event.now) }
         ensures { IsUnder self.new
