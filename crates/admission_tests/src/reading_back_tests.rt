@@ -82,5 +82,5 @@ fn is_brief(record: &Record, number: u32) -> Option<bool> {
 #[test]
 fn a_slot_takes_at_most_100_bytes(rt: HostRuntime) {
     let bytes = Record::slot_bytes();
-    assert!(rt; bytes <= 100, "{bytes}");
+    assert!(rt; bytes == 97, "{bytes}");
 }

@@ -14,7 +14,8 @@ use rulings::{Event, EventKind, Reply, Route};
 use std::alloc::{AllocError, Global};
 use std::borrow::Cow;
 
-/// What was asked, as the record keeps it.
+/// What was asked, as the record keeps it. A contract says what was asked, and not which of the
+/// three forms it has.
 #[derive(Drop)]
 pub enum EntryEvent<'a> {
     /// An event other than a reload; a registration only if the reply names another zone than the

@@ -4,6 +4,16 @@ ghost use Rattle.std.specs.Prelude.{◌≡◌};
 
 use crate::slots::{BriefSlot, RefusedAdmission, RoutedAdmission, WideSlot};
 use std::marker::Model;
+use std::mem::size_of;
+
+// The sizes that docs/DECISIONS.md states.
+const _: () = prove!(size_of::<HeldRouted>() == 92);
+
+const _: () = prove!(size_of::<HeldRefused>() == 68);
+
+const _: () = prove!(size_of::<HeldBrief>() == 30);
+
+const _: () = prove!(size_of::<HeldWide>() == 120);
 
 /// An admission with a destination as a list holds it, with a view of its own, so that the list
 /// need not know what is inside. A contract sees the admission.

@@ -79,7 +79,9 @@ impl Record {
     /// The bytes of the record that the entry of a granted admission takes, if no name in it has
     /// more than 19 characters. An entry takes more if it is a refusal that may name the zone of a
     /// limit, a registration, whose endpoint it holds, or one that stands whole.
-    pub fn slot_bytes() -> usize {
+    pub fn slot_bytes() -> usize
+        ensures { result ≡ 97 }
+    {
         SlotList::routed_bytes()
     }
 

@@ -71,7 +71,9 @@ impl SlotList {
 
     /// How many bytes the slot of an admission that leads to a destination takes, with its place.
     /// No other slot takes more, but that of a refusal with the name of the zone of the limit.
-    pub fn routed_bytes() -> usize {
+    pub fn routed_bytes() -> usize
+        ensures { result ≡ 97 }
+    {
         size_of::<SlotPlace>() + size_of::<HeldRouted>()
     }
 

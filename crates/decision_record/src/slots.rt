@@ -10,7 +10,6 @@ use crate::slot_parts::{
 use gk_terms::{Address, Units};
 use rulings::{RegisterRefusal, UnregisterRefusal};
 use short_texts::ShortName;
-use std::mem::size_of;
 
 /// An admission that leads to a destination, but for the verdict.
 #[derive(Clone, Copy)]
@@ -85,15 +84,6 @@ pub enum WideSlot {
         over: NamedOver,
     },
 }
-
-// The sizes that docs/DECISIONS.md states.
-const _: () = prove!(size_of::<RoutedAdmission>() == 92);
-
-const _: () = prove!(size_of::<RefusedAdmission>() == 68);
-
-const _: () = prove!(size_of::<BriefSlot>() == 30);
-
-const _: () = prove!(size_of::<WideSlot>() == 120);
 
 /// An entry in few bytes, if the names in it are short: of an admission, of a change, of a granted
 /// release, of an unregistration; or the place of a registration's endpoint in the list of

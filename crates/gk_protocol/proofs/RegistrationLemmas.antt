@@ -200,13 +200,14 @@ one_added left endpoint word words option is =
     by (Err fault) = refl
 
 -- ---- so far
--- the options added and those to come give what all options give, there is room for those that may
--- still stand, and the first could be read or is still to come
+-- the options added and those to come give what all options give, the ID stays, there is room for
+-- those that may still stand, and the first could be read or is still to come
 pub record AreAddedSoFar
     (bare : EndpointParts) (words : List (List ℕ)) (left : OptionsLeft) (endpoint : EndpointParts)
     (rest : List (List ℕ))
     : Type 0 where
   pub same : added_at left endpoint rest ≡ with_options_at bare words
+  pub id : endpoint.id ≡ bare.id
   pub aliases : length endpoint.aliases + left.aliases ≤ MOST_ALIASES
   pub technologies : length endpoint.technologies + left.technologies ≤ MOST_TECHNOLOGIES
   pub begun : (begins_with_option words ≡ true) ⊎ ((rest ≡ words) × (left ≡ all_options))
@@ -216,6 +217,7 @@ pub none_read : (bare : EndpointParts) (words : List (List ℕ)) → IsBare bare
     → AreAddedSoFar bare words all_options bare words
 none_read bare words is = record {
   same = all_added bare words is;
+  id = refl;
   aliases = rw (is.aliases) (omega arith);
   technologies = rw (is.technologies) (omega arith);
   begun = inr (refl, refl);
@@ -307,11 +309,16 @@ one_read bare words left endpoint rest further word option u split is =
       same =
           sym (one_added left endpoint word further option is)
           ∙ ap (added_at left endpoint) (sym split) ∙ u.same;
+      id = id option ∙ u.id;
       aliases = aliases option is;
       technologies = technologies option is;
       begun = inl (first_read words left rest further word option u.begun split is);
     }
   where
+    id : (o : RegistrationOption) → (with_registration_option endpoint o).id ≡ endpoint.id
+    id (Alias digits) = refl
+    id (Technology prefix) = refl
+
     aliases : (o : RegistrationOption) → registration_option_of left word ≡ Ok o
         → length (with_registration_option endpoint o).aliases + (left_after left o).aliases
         ≤ MOST_ALIASES

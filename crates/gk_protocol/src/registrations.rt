@@ -82,9 +82,9 @@ pub(crate) fn register<A: Answerer>(
         answerer.new }
 {
     let sequence = sequence_field(words)?;
-    let bare = bare_endpoint(alloc, words)?;
-    match with_options(sequence, bare, words) {
-        Ok(endpoint) => {
+    let mut endpoint = bare_endpoint(alloc, words)?;
+    match add_options(sequence, &mut endpoint, words) {
+        Ok(()) => {
             let request = Request::Register { sequence, endpoint };
             answerer.answer_into(alloc, request, reply);
             Ok(Heard::Answered)
@@ -150,28 +150,28 @@ fn bare_endpoint(alloc: Global, words: &mut Words<'_>) -> Result<Endpoint, Reque
     Ok(Endpoint::new(alloc, kind, id, zone, address))
 }
 
-/// The endpoint with the aliases and technology prefixes of its options.
-fn with_options(
+/// Adds the aliases and technology prefixes of the options of a registration with this sequence
+/// number. After an `Err` the endpoint has some of them.
+fn add_options(
     sequence: u32,
-    mut endpoint: Endpoint,
+    endpoint: &mut Endpoint,
     words: &mut Words<'_>,
-) -> Result<Endpoint, NoRequest>
-    requires { IsBare endpoint }
+) -> Result<(), NoRequest>
+    requires { IsBare endpoint.old }
     ensures { MatchResult result
-        (λ filled. Spec.with_options_at endpoint (words_of words.old) ≡ Ok filled)
-        (AreNoOptionsAt sequence endpoint (words_of words.old)) }
+        (λ _. Spec.with_options_at endpoint.old (words_of words.old) ≡ Ok endpoint.new)
+        (AreNoOptionsAt sequence endpoint.old (words_of words.old)) }
 {
-    let id = *endpoint.id();
     let mut left = OptionsLeft {
         aliases: MOST_ALIASES,
         technologies: MOST_TECHNOLOGIES,
     };
     for word in words {
         let option = option_of(&left, word)?;
-        add_option(&mut endpoint, &option, sequence, &id)?;
+        add_option(endpoint, &option, sequence)?;
         left = left_after(&left, &option);
     }
-    Ok(endpoint)
+    Ok(())
 }
 
 /// The option that a word is, if one more of its kind may stand.
@@ -231,22 +231,24 @@ fn left_after(left: &OptionsLeft, option: &RegistrationOption) -> OptionsLeft
     }
 }
 
-/// Adds an option of a registration with this sequence number and ID, or says that memory ran out.
-/// There is room for it, since options are counted as written.
+/// Adds an option of a registration with this sequence number, or says that memory ran out. There
+/// is room for it, since options are counted as written.
 fn add_option(
     endpoint: &mut Endpoint,
     option: &RegistrationOption,
     sequence: u32,
-    id: &Name,
 ) -> Result<(), NoRequest>
     requires { HasRoomFor endpoint.old option.now }
     ensures { MatchResult result
         (λ _. endpoint.new ≡ with_registration_option endpoint.old option.now)
-        (λ none. none ≡ NoRequest.NoMemory sequence id.now) }
+        (λ none. none ≡ NoRequest.NoMemory sequence endpoint.old.id) }
 {
     match add(endpoint, option) {
         Ok(()) => Ok(()),
-        Err(RegistryFault::NoMemory) => Err(NoRequest::NoMemory { sequence, id: *id }),
+        Err(RegistryFault::NoMemory) => Err(NoRequest::NoMemory {
+            sequence,
+            id: *endpoint.id(),
+        }),
         Err(_) => unreachable!(),
     }
 }

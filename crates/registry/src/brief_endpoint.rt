@@ -18,7 +18,7 @@ use std::mem::size_of;
 ///
 /// Its ID, its zone, its aliases and its technology prefixes are one text of bytes: each of them
 /// after its length in one byte, and before the aliases and before the technology prefixes their
-/// count in one byte. A text of at most 46 bytes stands in place.
+/// count in one byte. If all this is at most 46 bytes, it stands in place.
 #[derive(Drop)]
 pub struct BriefEndpoint {
     kind: EndpointKind,
@@ -41,8 +41,9 @@ impl Model for BriefEndpoint {
 }
 
 impl BriefEndpoint {
-    /// The endpoint in few bytes. It takes no memory if its texts are at most 46 bytes; else
-    /// `AllocError` comes only if memory runs out.
+    /// The endpoint in few bytes. It needs no memory if its texts, each with a byte for its length
+    /// and each list with a byte for its count, are at most 46 bytes; else `AllocError` comes only
+    /// if memory runs out.
     pub fn of(endpoint: &Endpoint) -> Result<BriefEndpoint, AllocError>
         ensures same { IfOk result (λ brief. brief ≡ endpoint.now) }
         ensures short { length (texts_of endpoint.now) ≤ COMPACT_BYTES → IsOk result }

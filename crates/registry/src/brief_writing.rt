@@ -14,7 +14,8 @@ use gk_terms::{Dialled, Name, TechPrefix};
 use short_texts::{COMPACT_BYTES, CompactText};
 use std::alloc::{AllocError, Global};
 
-/// The texts of the endpoint. They take no memory if they are at most 46 bytes.
+/// The texts of the endpoint, each after its length, and each list after its count. They need no
+/// memory if all this is at most 46 bytes.
 pub fn texts_of(endpoint: &Endpoint, alloc: Global) -> Result<CompactText, AllocError>
     ensures texts { IfOk result (λ texts. texts ≡ texts_of endpoint.now) }
     ensures right { OnOk result (HasRightTexts endpoint.now) }

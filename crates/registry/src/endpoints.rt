@@ -21,17 +21,17 @@ pub enum EndpointKind {
 }
 
 /// A registered endpoint: its kind, ID, zone, address, at most 16 different E.164 aliases and at
-/// most 8 different technology prefixes. What a call asks of its caller, which is the zone, stands
-/// near the beginning, usually in one cache line with the kind and the address. A contract sees it
-/// as `EndpointParts`.
+/// most 8 different technology prefixes. What a registration asks of the endpoint that it replaces
+/// stands at the beginning, usually in one cache line: its address and where its lists are. What a
+/// call asks of its caller, which is the zone, comes next. A contract sees it as `EndpointParts`.
 #[derive(Drop)]
 pub struct Endpoint {
     pub(crate) kind: EndpointKind,
     pub(crate) address: Address,
-    pub(crate) zone: Name,
-    pub(crate) id: Name,
     pub(crate) aliases: Vec<Dialled>,
     pub(crate) technologies: Vec<TechPrefix>,
+    pub(crate) zone: Name,
+    pub(crate) id: Name,
 }
 
 impl Model for Endpoint {

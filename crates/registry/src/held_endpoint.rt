@@ -34,16 +34,20 @@ impl HeldEndpoint {
     ) -> Result<HeldEndpoint, AllocError>
         ensures { IfOk result (λ held. held ≡ record endpoint.now { zone = zone.now }) }
     {
-        let copy = Endpoint {
-            kind: endpoint.kind,
-            address: endpoint.address,
-            zone: *zone,
-            id: endpoint.id,
-            aliases: Vec::from_slice(alloc, &endpoint.aliases)?,
-            technologies: Vec::from_slice(alloc, &endpoint.technologies)?,
-        };
+        let aliases = Vec::from_slice(alloc, &endpoint.aliases)?;
+        let technologies = Vec::from_slice(alloc, &endpoint.technologies)?;
         Ok(HeldEndpoint {
-            endpoint: Box::new(alloc, copy)?,
+            endpoint: Box::new(
+                alloc,
+                Endpoint {
+                    kind: endpoint.kind,
+                    address: endpoint.address,
+                    aliases,
+                    technologies,
+                    zone: *zone,
+                    id: endpoint.id,
+                },
+            )?,
         })
     }
 

@@ -13,7 +13,8 @@ pub trait ReplyTaker {
     ghost use Rattle.std.specs.Prelude.{ℕ};
     ghost use Rattle.rulings.specs.declared.replies.Reply.{Reply};
 
-    /// What it has is this reply.
+    /// What it has is this reply, in the sense of who takes it. Of a taker that could have several
+    /// at once, a contract says no more than that one of them is a reply that may be given.
     ghost has: { Self → Reply → Type 0 };
 
     /// The sequence number of the request that is replied to. It stays.
