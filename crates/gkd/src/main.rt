@@ -17,6 +17,7 @@ use configuration_reader::configuration::ConfigurationFault;
 use gk_lines::{Noted, ReadFault};
 use gk_protocol::SessionFault;
 use run::RunFault;
+use std::io::{BufWriter, Write};
 use std::process::ExitCode;
 use std::{env, fs, io};
 
@@ -118,9 +119,20 @@ fn check_file(rt: &HostRuntime, file: &str, prints: bool) -> io::Result<ExitCode
         return cannot_read(rt, file);
     };
     let mut reader = Noted::new(opened);
-    let mut writer = Noted::new(io::writer(rt));
-    match check::check(rt.alloc(), &mut reader, &mut writer, prints) {
-        Ok(()) => Ok(ExitCode::SUCCESS),
+    // Up to 20,000 lines are printed, each by a call of its own.
+    let Ok(mut printed) = BufWriter::new(rt.alloc(), io::writer(rt)) else {
+        return fail(rt, "no memory");
+    };
+    let checked = check::check(
+        rt.alloc(),
+        &mut reader,
+        &mut Noted::new(&mut printed),
+        prints,
+    );
+    let is_written = printed.flush().is_ok();
+    match checked {
+        Ok(()) if is_written => Ok(ExitCode::SUCCESS),
+        Ok(()) => fail(rt, UNWRITTEN),
         Err(CheckFault::Config(fault)) => refuse_configuration(rt, fault),
         Err(CheckFault::ReadFault(_)) => cannot_read(rt, file),
         Err(CheckFault::WriteFault) => fail(rt, UNWRITTEN),
