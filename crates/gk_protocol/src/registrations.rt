@@ -151,7 +151,7 @@ fn bare_endpoint(alloc: Global, words: &mut Words<'_>) -> Result<Endpoint, Reque
 }
 
 /// Adds the aliases and technology prefixes of the options of a registration with this sequence
-/// number. After an `Err` the endpoint has some of them.
+/// number. After an `Err` nothing is promised of the endpoint.
 fn add_options(
     sequence: u32,
     endpoint: &mut Endpoint,
