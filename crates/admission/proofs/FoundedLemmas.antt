@@ -66,7 +66,7 @@ module _ (s : State) where
     within_founded : (zone : List ℕ) (destination : Destination) (admitted : OpenCall)
         (over : Option Over)
         → is_open s.calls admitted.number ≡ false
-        → are_calls_full s (admission_unless zone destination admitted over).verdict ≡ false
+        → are_calls_full s (admission_unless zone destination admitted over).effect ≡ false
         → IsFounded s (Admitting id call digits units)
         (admission_unless zone destination admitted over).effect
     within_founded zone destination admitted (Some over) closed room = tt
@@ -76,7 +76,7 @@ module _ (s : State) where
     to_founded : (caller : EndpointParts) (route : Route)
         → is_open s.calls call ≡ false
         → are_calls_full s
-        (admission_to s caller call units (plan_of s.commands digits) route).verdict ≡ false
+        (admission_to s caller call units (plan_of s.commands digits) route).effect ≡ false
         → IsFounded s (Admitting id call digits units)
         (admission_to s caller call units (plan_of s.commands digits) route).effect
     to_founded caller (Refused refusal) closed room = tt
@@ -86,7 +86,7 @@ module _ (s : State) where
         closed room
 
     admission_founded : (caller : Option EndpointParts)
-        → are_calls_full s (admission_ruling s call digits units caller).verdict ≡ false
+        → are_calls_full s (admission_ruling s call digits units caller).effect ≡ false
         → IsFounded s (Admitting id call digits units)
         (admission_ruling s call digits units caller).effect
     admission_founded None room = tt
@@ -96,7 +96,7 @@ module _ (s : State) where
             → are_calls_full s
             (cond there (call_open_ruling caller call)
             (admission_to s caller call units (plan_of s.commands digits)
-            (route_of s.commands s.endpoints caller.zone digits))).verdict ≡ false
+            (route_of s.commands s.endpoints caller.zone digits))).effect ≡ false
             → IsFounded s (Admitting id call digits units)
             (cond there (call_open_ruling caller call)
             (admission_to s caller call units (plan_of s.commands digits)

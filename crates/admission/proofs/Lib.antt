@@ -7,9 +7,14 @@ pub mod FoundedLemmas
 pub mod GrantLaws
 pub mod GrantLemmas
 pub mod HistoryLaws
+pub mod OpenRowLemmas
 pub mod OrderLemmas
 pub mod RouteLaws
 pub mod RouteWays
+pub mod RowHistoryLemmas
+pub mod RowLawLemmas
+pub mod RowStepLemmas
 pub mod StepLemmas
 pub mod TargetLaws
+pub mod ToldRowLemmas
 pub mod VersionLemmas

@@ -130,14 +130,14 @@ effect_ascends s event PutInForce order = by (put_in_force event)
     by None = order
     by (Some commands) = order
 
-step_ascends : (s : State) (event : PlainEvent) → (step s event).recorded ≡ true → Ascend s.calls
+pub step_ascends : (s : State) (event : PlainEvent) → (step s event).recorded ≡ true → Ascend s.calls
     → Ascend (step s event).state.calls
 unfolding state_after
 step_ascends s event recorded order =
     subst (λ (t : State). Ascend t.calls) (sym (step_state s event recorded))
     (effect_ascends s event (ruling_of s event).effect order)
 
-replay_ascends : (s : State) (entries : List PlainEntry) → IsLegal s entries → Ascend s.calls
+pub replay_ascends : (s : State) (entries : List PlainEntry) → IsLegal s entries → Ascend s.calls
     → Ascend (replay s entries).calls
 replay_ascends s [] legal order = order
 replay_ascends s (e ∷ entries) legal order =

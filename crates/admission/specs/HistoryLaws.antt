@@ -7,7 +7,6 @@ use Rattle.command_reader.specs.declared.commands.Command.{Command}
 use Rattle.command_reader.specs.Configuration.{Configuration}
 use Rattle.command_reader.specs.Reading.{reading_in}
 use Rattle.compiler.specs.Last.{last_in}
-use Rattle.compiler.specs.Plan.{plan_of}
 use Rattle.registry.specs.Endpoint.{EndpointParts}
 use Rattle.registry.specs.Registration.{endpoint_of}
 use Rattle.bandwidth.specs.declared.open_call.OpenCall.{OpenCall}
@@ -25,6 +24,7 @@ use Rattle.rulings.specs.declared.replies.Reply.{Reply}
 use Rattle.rulings.specs.declared.replies.Reply.TheVariants.{Registered, RegisterRefused, Unregistered, UnregisterRefused, Admitted, AdmitRefused, Changed, ChangeRefused, Released, ReleaseRefused, Reloaded, ReloadRefused}
 use Rattle.rulings.specs.State.{State, opening_of}
 use Rattle.rulings.specs.Events.{PlainEvent, Admitting, Changing}
+use Rattle.rulings.specs.Routing.{target_for}
 use Rattle.rulings.specs.Ruling.{admitted_call}
 use Rattle.decision_record.specs.History.{PlainEntry, IsLegal, replay, generations_of}
 use Rattle.admission.specs.RouteLaws.{IsRouted, IsUnrouted}
@@ -111,7 +111,7 @@ pub data Asks (s : State) : PlainEvent → OpenCall → Type 0 where
   ToBeAdmitted : (id digits : List ℕ) (call units : ℕ) (caller : EndpointParts)
       → endpoint_of s.endpoints id ≡ Some caller
       → Asks s (Admitting id call digits units)
-      (admitted_call caller call units (plan_of s.commands digits))
+      (admitted_call caller call units (target_for s.commands s.endpoints digits))
   ToBeChanged : (id : List ℕ) (call units : ℕ) (held : OpenCall)
       → call_of s.calls call ≡ Some held
       → Asks s (Changing id call units) (record held { units = units })

@@ -2,3 +2,4 @@ pub mod CoreInvariant
 pub mod HistoryLaws
 pub mod Replying
 pub mod RouteLaws
+pub mod RowLaws

@@ -1,8 +1,9 @@
-//! Theorems on how calls are routed, and on what every record keeps. Each is the contract of a
+//! Theorems on how calls are routed, and on what every record keeps and says. Each is the contract of a
 //! function that does nothing.
 
 ghost use Rattle.admission.specs.HistoryLaws.{RecordedAdmissionsAreRouted, RecordedRefusalsAreUnrouted, RecordedGrantsAreWithin, RecordedRaisesWereWithin, RecordedLimitsAreAbove, RecordsAreSound};
 ghost use Rattle.admission.specs.RouteLaws.{AdmissionsAreRouted, RefusalsAreUnrouted, StrangersAreRefused, OpenNumbersAreRefused};
+ghost use Rattle.admission.specs.RowLaws.{RowsAreNeverRefused};
 
 /// Under an accepted configuration, in any state: if the verdict on an admission is a remote zone
 /// or an endpoint, the digits lead there, in one of the ways of the routing flow.
@@ -65,4 +66,11 @@ pub fn recorded_limits_are_above()
 /// than its limits allow, with room for the entry of the release of each open call.
 pub fn records_are_sound()
     ensures { RecordsAreSound }
+{}
+
+/// In every legal history under limits in their ranges: the row of each entry, if it has one, may
+/// be put into a snapshot after the rows of the entries before it, so that only memory is lacking
+/// if a snapshot is refused.
+pub fn rows_are_never_refused()
+    ensures { RowsAreNeverRefused }
 {}

@@ -7,7 +7,9 @@ mod entering;
 pub mod laws;
 mod replying;
 mod settling;
+mod snapshots;
 
+pub use call_rows::{AdmittedCall, CallEvent, CallRow, NumberedAdmission, PushFault, Snapshot};
 pub use cores::{Core, OpeningFault};
 pub use decision_record::{Entry, EntryEvent, Receipt, Record, ReloadedCommands};
 pub use rulings::{

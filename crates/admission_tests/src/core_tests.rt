@@ -13,7 +13,8 @@ fn answers_each_call(rt: HostRuntime) -> Result<(), Fail> {
     assert_answers(&rt, rt.alloc(), &mut core)
 }
 
-/// Asserts that `ta` registers, opens a call, changes it, releases it and leaves, each recorded.
+/// Asserts that `ta` registers, opens a call, changes it, releases it and leaves, each recorded, and
+/// what a snapshot has of that.
 fn assert_answers(rt: &impl Abort, alloc: Global, core: &mut Core) -> Result<(), Fail> {
     let (ta, zone) = (Name::read(b"ta")?, Name::read(b"gk-a")?);
     core.register(terminal_in(alloc, ta, zone))?;
@@ -29,6 +30,13 @@ fn assert_answers(rt: &impl Abort, alloc: Global, core: &mut Core) -> Result<(),
         ..receipt
     };
     assert_eq!(rt; core.record().confirm(&[receipt, another]), Err(1));
+    assert_snapshot(rt, alloc, core)
+}
+
+/// Asserts that a snapshot has a row for the admission, the change and the release.
+fn assert_snapshot(rt: &impl Abort, alloc: Global, core: &Core) -> Result<(), Fail> {
+    let snapshot = core.snapshot(alloc)?;
+    assert_eq!(rt; (snapshot.len(), snapshot.endpoints().len()), (3, 0));
     Ok(())
 }
 

@@ -10,10 +10,12 @@ mod record;
 mod recording;
 mod registration_entries;
 mod reloads;
+mod rows;
 mod slot_entries;
 mod slot_list;
 mod slot_parts;
 mod slot_places;
+mod slot_rows;
 mod slots;
 mod told;
 

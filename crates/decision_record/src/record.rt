@@ -6,10 +6,13 @@ ghost use Rattle.std.specs.Option.{option_and_then};
 ghost use Rattle.std.specs.Arc.{arc_value};
 ghost use Rattle.decision_record.specs.RecordIndex.{slot_meant};
 ghost use Rattle.decision_record.specs.History.{plain_entry, entry_of_number, Stands, in_force};
+ghost use Rattle.decision_record.specs.Rows.{call_event, entry_row};
 
 use crate::entries::{Entry, Receipt, WholeEntry, same_receipt};
 use crate::reloads::Reloads;
+use crate::rows::row_of;
 use crate::slot_list::SlotList;
+use call_rows::{CallEvent, CallRow};
 use compiler::Tables;
 use pieces::Pieces;
 use registry::BriefEndpoint;
@@ -123,6 +126,31 @@ impl Record {
         )
     }
 
+    #[tactic(auto, using(crate::proofs::RowLemmas::made_of_found))]
+    /// What the entry of this number says of a call, as a row: that an admission was routed, that a
+    /// bandwidth change was granted, or that a call was released. None of any other entry, nor of a
+    /// call of number 0, which no request can have.
+    pub fn row(&self, number: u32) -> Option<CallRow>
+        ensures { result ≡ option_and_then (entry_row number)
+            (entry_of_number self.now.entries number) }
+    {
+        let before = number.checked_sub(1)?;
+        row_of(number, &self.event_at(before as usize))
+    }
+
+    /// What the entry at this place, from 0, says of a call.
+    fn event_at(&self, place: usize) -> Option<CallEvent>
+        ensures { result ≡ option_and_then call_event (slice_get self.now.entries place) }
+    {
+        event_at(
+            &self.slots,
+            &self.aside,
+            &self.registrations,
+            &self.reloads,
+            place,
+        )
+    }
+
     /// `Ok` if each receipt is that of the entry at its number; else the place, from 0, of the
     /// first that is not.
     pub fn confirm(&self, receipts: &[Receipt]) -> Result<(), usize>
@@ -180,5 +208,23 @@ fn entry_at<'a>(
     match slots.get(place) {
         None => None,
         Some(slot) => slot.entry(aside, registrations, reloads),
+    }
+}
+
+/// What the entry of the slot at this place says of a call.
+fn event_at(
+    slots: &SlotList,
+    aside: &Pieces<WholeEntry>,
+    registrations: &Pieces<BriefEndpoint>,
+    reloads: &Reloads,
+    place: usize,
+) -> Option<CallEvent>
+    ensures { result ≡ option_and_then call_event (option_and_then
+        (slot_meant aside.now.items registrations.now.items reloads.now.entries)
+        (slice_get slots.now.items place)) }
+{
+    match slots.get(place) {
+        None => None,
+        Some(slot) => slot.call_event(aside, registrations, reloads),
     }
 }

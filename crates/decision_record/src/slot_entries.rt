@@ -149,7 +149,7 @@ impl Slot {
 
 impl RoutedAdmission {
     /// Where it leads.
-    fn destination(&self) -> Destination
+    pub fn destination(&self) -> Destination
         ensures { result ≡ Spec.routed_destination_meant self.now }
     {
         self.destination.at(self.address)

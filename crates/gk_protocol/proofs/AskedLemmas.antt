@@ -1,29 +1,35 @@
 -- What a line asks, and what may be answered to it.
 use Rattle.std.proofs.Common.{◌≡◌, ℕ, Bool, false, List, ◌∷◌, refl, sym, ap, subst, ◌∙◌, inl, inr, cond, ⊎_elim}
 use Rattle.std.specs.Prelude.{Option, Some, None, Result, Ok, Err, option_map}
+use Rattle.gk_terms.specs.Fields.{◌>>=◌}
 use Rattle.gk_terms.specs.Text.{words_of, is_too_long}
 use Rattle.gk_protocol.specs.declared.request_faults.RequestFault.{RequestFault}
 use Rattle.gk_protocol.specs.declared.request_faults.RequestFault.TheVariants.{LineTooLong}
 use Rattle.gk_protocol.specs.declared.registrations.NoRequest.{NoRequest}
 use Rattle.gk_protocol.specs.declared.registrations.NoRequest.TheVariants.{Fault, NoMemory}
 use Rattle.gk_protocol.specs.declared.request_lines.Heard.{Heard}
-use Rattle.gk_protocol.specs.declared.request_lines.Heard.TheVariants.{Blank, Answered, Reload}
+use Rattle.gk_protocol.specs.declared.request_lines.Heard.TheVariants.{Blank, Answered, Owns}
 use Rattle.gk_protocol.specs.declared.requests.Request.{Request}
+use Rattle.gk_protocol.specs.declared.requests.Request.TheVariants.{Register}
+use Rattle.gk_protocol.specs.declared.line_owners.LineOwner.{LineOwner}
 use Rattle.gk_protocol.specs.declared.answers.Answer.{Answer}
 use Rattle.gk_protocol.specs.declared.answers.Answer.TheVariants.{Malformed}
 use Rattle.gk_protocol.specs.Answers.{answer_line_of}
 use Rattle.gk_protocol.specs.Asking.{Asking, Whole}
 use Rattle.gk_protocol.specs.Asking as asking
-use Rattle.gk_protocol.specs.Registrations.{registering_of, registering_by_word, registering_at, register_at, no_memory_to, no_memory_answer_of}
+use Rattle.gk_protocol.specs.RequestFields.{Reads}
+use Rattle.gk_protocol.specs.LineOwners.{asking_with}
+use Rattle.gk_protocol.specs.RegistrationOptions.{IsNoRegistrationAt}
+use Rattle.gk_protocol.specs.Registrations.{registering_of, registering_by_word, registering_at, register_at, no_memory_at, no_memory_to, no_memory_answer_of}
 use Rattle.gk_protocol.specs.Requests.{asking_of, asking_at, whole_request_of, asked_of}
-use Rattle.gk_protocol.specs.Hearing.{AnswersRequest, HearsRequest, HearsRegistration, HearsReload, LacksOptions, Hears}
+use Rattle.gk_protocol.specs.Hearing.{AnswersInto, HearsRequest, LacksOptions, owner_heard, Hears}
 use Rattle.gk_lines.specs.Streams.{KnownStep}
 use Rattle.gk_lines.specs.declared.line_reader.ReadFault.{ReadFault}
 use Rattle.gk_protocol.specs.declared.owned_lines.TakenLines.{TakenLines}
 use Rattle.gk_protocol.specs.declared.sessions.Progress.{Progress}
 use Rattle.gk_protocol.specs.declared.sessions.Progress.TheVariants as progress
 use Rattle.gk_protocol.specs.OwnedLines.{GivesLines}
-use Rattle.gk_protocol.specs.AnswersLine.{AnswersAlone, AnswersReload, AnswersByItself, AnswersLine}
+use Rattle.gk_protocol.specs.AnswersLine.{AnswersAlone, AnswersOwner, AnswersByItself, AnswersLine}
 
 -- what a line asks, and the number and ID that a no-memory reply to it names, by its first word
 pub asks_at : (line word first : List ℕ) (words : List (List ℕ)) → is_too_long line ≡ false →
@@ -41,10 +47,15 @@ registers_at line word first words fits split is =
     ap (λ b. cond b None (registering_by_word (words_of line))) fits ∙ ap registering_by_word split
     ∙ ap (λ w. registering_by_word (w ∷ words)) is
 
--- why a registration is no request, by the words after RRQ
-abbrev pub IsNoRegistrationAt : List (List ℕ) → NoRequest → Type 0
-IsNoRegistrationAt words (Fault fault) = register_at words ≡ Err fault
-IsNoRegistrationAt words (NoMemory sequence id) = registering_at words ≡ Some (sequence, id)
+-- the answer in place of another, for a line that takes no memory, and for a registration
+pub lacks_none : (line : List ℕ) (answer : Answer) → None ≡ Some answer
+    → no_memory_answer_of line ≡ Some answer
+lacks_none line answer none = let impossible : ⊥ = cc in absurd impossible
+
+pub lacks_options : (line : List ℕ) (words : List (List ℕ))
+    → registering_of line ≡ registering_at words → (answer : Answer)
+    → no_memory_at words ≡ Some answer → no_memory_answer_of line ≡ Some answer
+lacks_options line words registers answer lacks = ap (option_map no_memory_to) registers ∙ lacks
 
 module _ {S : Type 0} (MayAnswer : S → Request → Answer → S → Type 0) where
   -- the answerer's answer to a request
@@ -53,75 +64,65 @@ module _ {S : Type 0} (MayAnswer : S → Request → Answer → S → Type 0) wh
       MayAnswer old line answer new
   answered_request old new line request answer e h = (Ok request, e, inl h)
 
-  -- a line of another first word than RRQ and CFG
+  -- a request that stands whole in its line
   pub heard_request : (old new : S) (line reply : List ℕ) (read : Result Request RequestFault)
-      (heard : Result Heard RequestFault) → asking_of line ≡ whole_request_of read
-      → HearsRequest MayAnswer old read heard reply new → Hears MayAnswer old line heard reply new
-  heard_request old new line reply read (Ok Answered) asks h = (read, asks, inl h)
-  heard_request old new line reply read (Ok Blank) asks h = absurd h
-  heard_request old new line reply read (Ok (Reload sequence count)) asks h = absurd h
-  heard_request old new line reply read (Err fault) asks h = (asks ∙ ap whole_request_of h.0, h.1)
-
-  -- a registration
-  pub heard_registration : (old new : S) (line reply : List ℕ) (words : List (List ℕ))
-      (heard : Result Heard RequestFault) → asking_of line ≡ whole_request_of (register_at words)
-      → registering_of line ≡ registering_at words → HearsRegistration MayAnswer old words heard
-      reply new → Hears MayAnswer old line heard reply new
-  heard_registration old new line reply words (Ok Answered) asks registers h =
-      ⊎_elim
-      (λ (answered : AnswersRequest MayAnswer old (register_at words) reply new).
-      (register_at words, asks, inl answered))
-      (λ (lacking : (sequence : ℕ) × (id : List ℕ) × (registering_at words ≡ Some (sequence, id)) ×
-      (reply ≡ answer_line_of (no_memory_to (sequence, id))) × (new ≡ old)). (
-        register_at words,
-        asks,
-        inr (
-          no_memory_to (lacking.0, lacking.1),
-          ap
-              (option_map no_memory_to) (registers ∙ lacking.2),
-          lacking.3,
-          lacking.4,
-        ),
-      ))
-      h
-  heard_registration old new line reply words (Ok Blank) asks registers h = absurd h
-  heard_registration old new line reply words (Ok (Reload sequence count)) asks registers h = absurd
-      h
-  heard_registration old new line reply words (Err fault) asks registers h =
+      (no_memory : Option Answer) (heard : Result Heard RequestFault)
+      → asking_of line ≡ whole_request_of read
+      → ((answer : Answer) → no_memory ≡ Some answer → no_memory_answer_of line ≡ Some answer)
+      → HearsRequest MayAnswer old read no_memory heard reply new
+      → Hears MayAnswer old line heard reply new
+  heard_request old new line reply read no_memory (Ok Answered) asks lacks h = (
+    read,
+    asks,
+    ⊎_elim
+        (λ (asked : (request : Request) × (read ≡ Ok request)
+        × AnswersInto MayAnswer old request reply new). inl asked)
+        (λ (lacking : (answer : Answer) × (no_memory ≡ Some answer)
+        × (reply ≡ answer_line_of answer) × (new ≡ old)).
+        inr (lacking.0, lacks lacking.0 lacking.1, lacking.2, lacking.3)) h,
+  )
+  heard_request old new line reply read no_memory (Ok Blank) asks lacks h = absurd h
+  heard_request old new line reply read no_memory (Ok (Owns owner count)) asks lacks h = absurd h
+  heard_request old new line reply read no_memory (Err fault) asks lacks h =
       (asks ∙ ap whole_request_of h.0, h.1)
 
   -- a registration whose options could not be read
   pub registration_lacks : (old : S) (reply : List ℕ) (words : List (List ℕ)) (none : NoRequest)
       (heard : Result Heard RequestFault) → IsNoRegistrationAt words none → LacksOptions none heard
-      reply
-      → HearsRegistration MayAnswer old words heard reply old
+      reply → HearsRequest MayAnswer old (register_at words) (no_memory_at words) heard reply old
   registration_lacks old reply words (Fault fault) heard e is =
-      subst (λ (h : Result Heard RequestFault). HearsRegistration MayAnswer old words h reply old)
-      (sym is) (e, refl)
+      subst (λ (h : Result Heard RequestFault).
+      HearsRequest MayAnswer old (register_at words) (no_memory_at words) h reply old)
+      (sym is) (ap (λ r. r >>= (λ fields. Ok (Register fields.0 fields.1))) e, refl)
   registration_lacks old reply words (NoMemory sequence id) heard e is =
-      subst (λ (h : Result Heard RequestFault). HearsRegistration MayAnswer old words h reply old)
-      (sym is.0) (inr (sequence, id, e, is.1, refl))
+      subst (λ (h : Result Heard RequestFault).
+      HearsRequest MayAnswer old (register_at words) (no_memory_at words) h reply old)
+      (sym is.0)
+      (inr (no_memory_to (sequence, id), ap (option_map no_memory_to) e, is.1, refl))
 
-  -- a reload
-  pub heard_reload : (old : S) (line reply : List ℕ) (read : Result Asking RequestFault)
-      (heard : Result Heard RequestFault) → asking_of line ≡ asked_of read
-      → HearsReload read heard → Hears MayAnswer old line heard reply old
-  heard_reload old line reply read (Ok Answered) asks h = absurd h
-  heard_reload old line reply read (Ok Blank) asks h = absurd h
-  heard_reload old line reply read (Ok (Reload sequence count)) asks h =
-      (asks ∙ ap asked_of h, refl)
-  heard_reload old line reply read (Err fault) asks h = (asks ∙ ap asked_of h, refl)
+  -- a line to which the next lines belong
+  pub heard_owner : (old : S) (line reply : List ℕ) (read : Result Asking RequestFault)
+      (fields : Result (LineOwner × ℕ) RequestFault) (heard : Result Heard RequestFault)
+      → asking_of line ≡ asked_of read → Reads read (λ o. asking_with o.0 o.1) fields
+      → heard ≡ owner_heard fields → Hears MayAnswer old line heard reply old
+  heard_owner old line reply read (Ok owner) heard asks reads is =
+      subst (λ (h : Result Heard RequestFault). Hears MayAnswer old line h reply old) (sym is)
+      (asks ∙ ap asked_of reads, refl)
+  heard_owner old line reply read (Err fault) heard asks reads is =
+      subst (λ (h : Result Heard RequestFault). Hears MayAnswer old line h reply old) (sym is)
+      (asks ∙ ap asked_of reads, refl)
 
   -- the answer to a line that asks by itself
   pub answered_by_itself : (old new : S) (line reply : List ℕ) → Hears MayAnswer old line
       (Ok Answered) reply new → AnswersByItself MayAnswer old line (Ok progress.Answered) reply new
   answered_by_itself old new line reply h =
       ⊎_elim
-      (λ (asked : AnswersRequest MayAnswer old h.0 reply new). (
-        asked.1,
-        asked.4,
-        answered_request old new line asked.0 asked.1
-            (h.1 ∙ ap whole_request_of asked.2) asked.3,
+      (λ (asked : (request : Request) × (h.0 ≡ Ok request)
+      × AnswersInto MayAnswer old request reply new). (
+        asked.2.0,
+        asked.2.2,
+        answered_request old new line asked.0 asked.2.0
+            (h.1 ∙ ap whole_request_of asked.1) asked.2.1,
       ))
       (λ (lacks : (answer : Answer) × (no_memory_answer_of line ≡ Some answer) ×
       (reply ≡ answer_line_of answer) × (new ≡ old)). (
@@ -144,29 +145,32 @@ module _ {S : Type 0} (MayAnswer : S → Request → Answer → S → Type 0) wh
   by_itself None ended old new line reply result a = tt
   by_itself (Some bytes) ended old new line reply result a = inl (a, refl, refl)
 
-  -- a reload with the lines that belong to it
-  pub reload_tried : (known rest : Option (List ℕ)) (ended now_ended : Bool) (old new : S)
-      (line reply : List ℕ) (sequence count : ℕ) (taken : TakenLines) (progress : Progress)
-      → asking_of line ≡ Ok (Some (asking.Reload sequence count)) → KnownStep known rest
-      (GivesLines ended now_ended count (Ok taken)) → AnswersReload MayAnswer old sequence taken
-      progress reply new
+  -- a request with the lines that belong to it
+  pub owner_answered : (known rest : Option (List ℕ)) (ended now_ended : Bool) (old new : S)
+      (line reply : List ℕ) (count : ℕ) (request : List ℕ → Request) (no_memory : Answer)
+      (taken : TakenLines) (progress : Progress)
+      → asking_of line ≡ Ok (Some (asking.Owns count request no_memory)) → KnownStep known rest
+      (GivesLines ended now_ended count (Ok taken))
+      → AnswersOwner MayAnswer old request no_memory taken progress reply new
       → KnownStep known rest (AnswersLine MayAnswer ended now_ended old line (Ok progress) reply
       new)
-  reload_tried None rest ended now_ended old new line reply sequence count taken progress asks gives
-      a = tt
-  reload_tried (Some bytes) None ended now_ended old new line reply sequence count taken progress
-      asks gives a = absurd gives
-  reload_tried (Some bytes) (Some rest) ended now_ended old new line reply sequence count taken
-      progress asks gives a = inr (sequence, count, asks, taken, gives, a)
+  owner_answered None rest ended now_ended old new line reply count request no_memory taken progress
+      asks gives a = tt
+  owner_answered (Some bytes) None ended now_ended old new line reply count request no_memory taken
+      progress asks gives a = absurd gives
+  owner_answered (Some bytes) (Some rest) ended now_ended old new line reply count request no_memory
+      taken progress asks gives a = inr (count, request, no_memory, asks, taken, gives, a)
 
-  -- a reload whose lines were not read to their end
-  pub reload_unread : (known rest : Option (List ℕ)) (ended now_ended : Bool) (old : S)
-      (line reply : List ℕ) (sequence count : ℕ) (fault : ReadFault)
-      → asking_of line ≡ Ok (Some (asking.Reload sequence count)) → KnownStep known rest
+  -- a request whose lines were not read to their end
+  pub owner_unread : (known rest : Option (List ℕ)) (ended now_ended : Bool) (old : S)
+      (line reply : List ℕ) (count : ℕ) (request : List ℕ → Request) (no_memory : Answer)
+      (fault : ReadFault)
+      → asking_of line ≡ Ok (Some (asking.Owns count request no_memory)) → KnownStep known rest
       (GivesLines ended now_ended count (Err fault))
       → KnownStep known rest (AnswersLine MayAnswer ended now_ended old line (Err fault) reply old)
-  reload_unread None rest ended now_ended old line reply sequence count fault asks gives = tt
-  reload_unread (Some bytes) None ended now_ended old line reply sequence count fault asks gives =
-      absurd gives
-  reload_unread (Some bytes) (Some rest) ended now_ended old line reply sequence count fault asks
-      gives = inr (sequence, count, asks, refl, gives)
+  owner_unread None rest ended now_ended old line reply count request no_memory fault asks gives =
+      tt
+  owner_unread (Some bytes) None ended now_ended old line reply count request no_memory fault asks
+      gives = absurd gives
+  owner_unread (Some bytes) (Some rest) ended now_ended old line reply count request no_memory fault
+      asks gives = inr (count, request, no_memory, asks, refl, gives)

@@ -1,5 +1,6 @@
 pub mod AnswerLemmas
 pub mod AskedLemmas
+pub mod EndpointFileLemmas
 pub mod HandedLemmas
 pub mod LineGroupLemmas
 pub mod OwnedLemmas

@@ -12,17 +12,16 @@ use Rattle.gk_protocol.specs.declared.requests.Request.{Request}
 use Rattle.gk_protocol.specs.declared.answers.Answer.{Answer}
 use Rattle.gk_protocol.specs.declared.answers.Answer.TheVariants.{Malformed}
 use Rattle.gk_protocol.specs.Answers.{answer_line_of}
-use Rattle.gk_protocol.specs.declared.requests.Request.TheVariants as request
-use Rattle.gk_protocol.specs.Asking.{Asking, Reload}
+use Rattle.gk_protocol.specs.Asking.{Asking, Owns}
 use Rattle.gk_protocol.specs.declared.owned_lines.TakenLines.{TakenLines}
 use Rattle.gk_protocol.specs.declared.owned_lines.TakenLines.TheVariants as taken
 use Rattle.gk_protocol.specs.declared.sessions.Progress.TheVariants.{Blank, Answered, CutShort as Cut}
 use Rattle.gk_protocol.specs.Registrations.{no_memory_answer_of}
-use Rattle.gk_protocol.specs.Requests.{asking_of, whole_request_of, reload_without_memory}
+use Rattle.gk_protocol.specs.Requests.{asking_of, whole_request_of}
 use Rattle.gk_protocol.specs.Session.{Asked, asked_in, handed_on, MayGet, Runs, IsWhole, IsStopped, IsCutShort}
 use Rattle.gk_protocol.specs.OwnedLines.{TakesLines, GivesLines}
-use Rattle.gk_protocol.specs.AnswersLine.{AnswersReload, AnswersLine}
-use Rattle.gk_protocol.proofs.OwnedLemmas.{reload_asks, reload_cut, reload_unended, taken_on, nothing_after, whole_on}
+use Rattle.gk_protocol.specs.AnswersLine.{AnswersOwner, AnswersLine}
+use Rattle.gk_protocol.proofs.OwnedLemmas.{owner_asks, owner_cut, owner_unended, taken_on, nothing_after, whole_on}
 use Rattle.gk_protocol.proofs.SessionUnderWay.{IsUnderWay}
 use Rattle.gk_protocol.proofs.RawLineLemmas.{kept_asks, kept_registers, line_asks, blank_asks, blank_lines, answered_lines, answered_at_end, cut_lines}
 
@@ -34,12 +33,13 @@ module _ {S : Type 0} (MayAnswer : S → Request → Answer → S → Type 0) wh
       let e : (count == 0) ≡ false = search (arith, tests) in
       ap (λ none. cond none None answer) e
 
-  -- a reload is never blank
-  never_blank : (lines : TakenLines) (reply : List ℕ) (now new : S) (sequence : ℕ)
-      → AnswersReload MayAnswer now sequence lines Blank reply new → ⊥
-  never_blank (taken.Whole lines) reply now new sequence h = h
-  never_blank taken.NoMemory reply now new sequence h = h
-  never_blank taken.CutShort reply now new sequence h = h
+  -- a request with lines is never blank
+  never_blank : (lines : TakenLines) (reply : List ℕ) (now new : S) (request : List ℕ → Request)
+      (no_memory : Answer)
+      → AnswersOwner MayAnswer now request no_memory lines Blank reply new → ⊥
+  never_blank (taken.Whole lines) reply now new request no_memory h = h
+  never_blank taken.NoMemory reply now new request no_memory h = h
+  never_blank taken.CutShort reply now new request no_memory h = h
 
   -- ---- a line, and the lines that belong to it
   -- what was taken after others asks this one thing, and that is answered by this reply
@@ -99,47 +99,47 @@ module _ {S : Type 0} (MayAnswer : S → Request → Answer → S → Type 0) wh
         blank_lines MayAnswer ended now_ended bytes rest next old now text count u (t.raw ∷ [])
         (group_taken [] (alone a.1 a.2)) new a.0.1
         (blank_asks t.raw (group_asks (Ok None) a.0.0))
-    blank_group reply new (inr a) = absurd (never_blank a.3 reply now new a.0 a.5)
+    blank_group reply new (inr a) = absurd (never_blank a.4 reply now new a.1 a.2 a.6)
 
-    answered_reload : (reply : List ℕ) (new : S) (sequence owned : ℕ)
-        → asking_of (content_of kept) ≡ Ok (Some (Reload sequence owned)) → (lines : TakenLines)
-        → GivesLines mid_ended now_ended owned (Ok lines) mid next
-        → AnswersReload MayAnswer now sequence lines Answered reply new
+    answered_owner : (reply : List ℕ) (new : S) (owned : ℕ) (request : List ℕ → Request)
+        (no_memory : Answer)
+        → asking_of (content_of kept) ≡ Ok (Some (Owns owned request no_memory))
+        → (lines : TakenLines) → GivesLines mid_ended now_ended owned (Ok lines) mid next
+        → AnswersOwner MayAnswer now request no_memory lines Answered reply new
         → IsAnswered now_ended bytes next u.raws now reply new
-    answered_reload reply new sequence owned asks (taken.Whole lines) gives a = record {
+    answered_owner reply new owned request no_memory asks (taken.Whole lines) gives a = record {
       raws = t.raw ∷ gives.0;
       taken = group_taken gives.0 gives.1;
       whole = group_whole gives.0 gives.1;
       one = record {
-        request = Ok (request.Reload sequence (flat_map handed_on gives.0));
-        no_memory = cond (length gives.0 == 0) None (Some (reload_without_memory sequence));
+        request = Ok (request (flat_map handed_on gives.0));
+        no_memory = cond (length gives.0 == 0) None (Some no_memory);
       };
-      asks = reload_asks t.raw sequence owned gives.0
-          (group_asks (Ok (Some (Reload sequence owned))) asks) gives.2;
+      asks = owner_asks t.raw owned request no_memory gives.0
+          (group_asks (Ok (Some (Owns owned request no_memory))) asks) gives.2;
       answer = a.0;
-      line = a.1;
-      get = inl (subst (λ (text : List ℕ). MayAnswer now (request.Reload sequence text) a.0 new)
-          gives.3 a.2);
+      line = a.2;
+      get = inl (subst (λ (text : List ℕ). MayAnswer now (request text) a.0 new) gives.3 a.1);
     }
-    answered_reload reply new sequence owned asks taken.NoMemory gives a = record {
+    answered_owner reply new owned request no_memory asks taken.NoMemory gives a = record {
       raws = t.raw ∷ gives.0;
       taken = group_taken gives.0 gives.1;
       whole = group_whole gives.0 gives.1;
       one = record {
-        request = Ok (request.Reload sequence (flat_map handed_on gives.0));
-        no_memory = cond (length gives.0 == 0) None (Some (reload_without_memory sequence));
+        request = Ok (request (flat_map handed_on gives.0));
+        no_memory = cond (length gives.0 == 0) None (Some no_memory);
       };
-      asks = reload_asks t.raw sequence owned gives.0
-          (group_asks (Ok (Some (Reload sequence owned))) asks) gives.2;
-      answer = reload_without_memory sequence;
+      asks = owner_asks t.raw owned request no_memory gives.0
+          (group_asks (Ok (Some (Owns owned request no_memory))) asks) gives.2;
+      answer = no_memory;
       line = a.0;
       get = inr (
-        some_owned (length gives.0) (Some (reload_without_memory sequence))
+        some_owned (length gives.0) (Some no_memory)
             (omega (arith, gives.2, gives.3)),
         a.1,
       );
     }
-    answered_reload reply new sequence owned asks taken.CutShort gives a = absurd a
+    answered_owner reply new owned request no_memory asks taken.CutShort gives a = absurd a
 
     answered_group : (reply : List ℕ) (new : S)
         → AnswersLine MayAnswer mid_ended now_ended now (content_of kept) (Ok Answered) reply new
@@ -158,7 +158,7 @@ module _ {S : Type 0} (MayAnswer : S → Request → Answer → S → Type 0) wh
           line = a.0.1;
           get = asked.2;
         }
-    answered_group reply new (inr a) = answered_reload reply new a.0 a.1 a.2 a.3 a.4 a.5
+    answered_group reply new (inr a) = answered_owner reply new a.0 a.1 a.2 a.3 a.4 a.5 a.6
 
     pub answered_line : (reply : List ℕ) (new : S)
         → AnswersLine MayAnswer mid_ended now_ended now (content_of kept) (Ok Answered) reply new
@@ -188,7 +188,7 @@ module _ {S : Type 0} (MayAnswer : S → Request → Answer → S → Type 0) wh
         (λ (none : next ≡ []). inr none) g.whole)
         g.get (sym g.line ∙ line)
 
-    -- a reload whose lines are cut short by the end of the input, as this reply says
+    -- a request whose lines are cut short by the end of the input, as this reply says
     record IsCut (reply : List ℕ) (new : S) : Type 0 where
       pub raws : List (List ℕ)
       pub taken : LinesTaken now_ended bytes next (u.raws ++ raws)
@@ -197,17 +197,18 @@ module _ {S : Type 0} (MayAnswer : S → Request → Answer → S → Type 0) wh
       pub line : reply ≡ answer_line_of (Malformed CutShort)
       pub same : new ≡ now
 
-    cut_reload : (reply : List ℕ) (new : S) (sequence owned : ℕ)
-        → asking_of (content_of kept) ≡ Ok (Some (Reload sequence owned)) → (lines : TakenLines)
-        → GivesLines mid_ended now_ended owned (Ok lines) mid next
-        → AnswersReload MayAnswer now sequence lines Cut reply new → IsCut reply new
-    cut_reload reply new sequence owned asks (taken.Whole lines) gives a = absurd a
-    cut_reload reply new sequence owned asks taken.NoMemory gives a = absurd a
-    cut_reload reply new sequence owned asks taken.CutShort gives a = record {
+    cut_owner : (reply : List ℕ) (new : S) (owned : ℕ) (request : List ℕ → Request)
+        (no_memory : Answer)
+        → asking_of (content_of kept) ≡ Ok (Some (Owns owned request no_memory))
+        → (lines : TakenLines) → GivesLines mid_ended now_ended owned (Ok lines) mid next
+        → AnswersOwner MayAnswer now request no_memory lines Cut reply new → IsCut reply new
+    cut_owner reply new owned request no_memory asks (taken.Whole lines) gives a = absurd a
+    cut_owner reply new owned request no_memory asks taken.NoMemory gives a = absurd a
+    cut_owner reply new owned request no_memory asks taken.CutShort gives a = record {
       raws = t.raw ∷ gives.0;
       taken = group_taken gives.0 gives.1;
-      asks = reload_cut t.raw sequence owned gives.0
-          (group_asks (Ok (Some (Reload sequence owned))) asks) gives.2;
+      asks = owner_cut t.raw owned request no_memory gives.0
+          (group_asks (Ok (Some (Owns owned request no_memory))) asks) gives.2;
       none = gives.3;
       line = a.0;
       same = a.1;
@@ -217,7 +218,7 @@ module _ {S : Type 0} (MayAnswer : S → Request → Answer → S → Type 0) wh
         → AnswersLine MayAnswer mid_ended now_ended now (content_of kept) (Ok Cut) reply new
         mid next → IsCut reply new
     cut_group reply new (inl a) = absurd a.0
-    cut_group reply new (inr a) = cut_reload reply new a.0 a.1 a.2 a.3 a.4 a.5
+    cut_group reply new (inr a) = cut_owner reply new a.0 a.1 a.2 a.3 a.4 a.5 a.6
 
     -- its fault is the last answer
     pub ended_line : (reply : List ℕ) (new : S)
@@ -244,13 +245,13 @@ module _ {S : Type 0} (MayAnswer : S → Request → Answer → S → Type 0) wh
         (record { request = Err CutShort; no_memory = None }) (Malformed CutShort) new written lost
         g.asks (inr g.none) (inl (refl, g.same)) (sym g.line ∙ line)
 
-    -- the reader fails within the lines of a reload
+    -- the reader fails within the lines of a request
     pub stopped_within : (fault : LineFault) (reply : List ℕ) (new : S)
         → AnswersLine MayAnswer mid_ended now_ended now (content_of kept) (Err fault) reply new
         mid next → IsStopped MayAnswer bytes next old new text
     stopped_within fault reply new (inl a) = absurd a.0
     stopped_within fault reply new (inr a) =
-        let gives = a.4 in
+        let gives = a.5 in
         let owned = gives.0 in
         let raws : List (List ℕ) = u.raws ++ t.raw ∷ owned in
         let lines : LinesTaken gives.2 bytes gives.1 raws =
@@ -261,7 +262,8 @@ module _ {S : Type 0} (MayAnswer : S → Request → Answer → S → Type 0) wh
         let read : WholeLinesRead bytes next raws =
         whole_lines_read gives.2 bytes gives.1 next raws gives.4 lines gives.6 in
         let unasked : asked_in false 0 (t.raw ∷ owned) ≡ [] =
-        reload_unended t.raw a.0 a.1 owned (group_asks (Ok (Some (Reload a.0 a.1))) a.2) gives.5 in
+        owner_unended t.raw a.0 a.1 a.2 owned (group_asks (Ok (Some (Owns a.0 a.1 a.2))) a.3)
+        gives.5 in
         let asked : asked_in false 0 (filter (list_any (λ b. b == 10)) (raw_lines_of read.read))
         ≡ u.asked =
         ap (asked_in false 0) read.whole ∙ u.settled false (t.raw ∷ owned)
@@ -270,5 +272,5 @@ module _ {S : Type 0} (MayAnswer : S → Request → Answer → S → Type 0) wh
           read = read.read;
           split = read.split;
           runs = subst (λ (b : List Asked). Runs MayAnswer old b text new) (sym asked)
-              (subst (λ (s : S). Runs MayAnswer old u.asked text s) (sym a.3) u.runs);
+              (subst (λ (s : S). Runs MayAnswer old u.asked text s) (sym a.4) u.runs);
         }

@@ -16,12 +16,12 @@ use Rattle.gk_lines.proofs.LinesRead.{whole_line_has_feed}
 use Rattle.gk_lines.proofs.LinesTaken.{LinesTaken, one_more_taken}
 use Rattle.gk_protocol.specs.declared.request_faults.RequestFault.{RequestFault}
 use Rattle.gk_protocol.specs.declared.request_faults.RequestFault.TheVariants.{CutShort}
-use Rattle.gk_protocol.specs.declared.requests.Request.TheVariants as request
-use Rattle.gk_protocol.specs.Asking.{Asking, Reload}
+use Rattle.gk_protocol.specs.declared.requests.Request.{Request}
+use Rattle.gk_protocol.specs.Asking.{Asking, Owns}
 use Rattle.gk_protocol.specs.declared.answers.Answer.{Answer}
 use Rattle.gk_protocol.specs.declared.owned_lines.TakenLines.TheVariants as taken
 use Rattle.gk_protocol.specs.Registrations.{no_memory_answer_of}
-use Rattle.gk_protocol.specs.Requests.{asking_of, reload_without_memory}
+use Rattle.gk_protocol.specs.Requests.{asking_of}
 use Rattle.gk_protocol.specs.Session.{Asked, asked_by, asked_in, lines_owned, handed_on}
 use Rattle.gk_protocol.specs.OwnedLines.{TakesLines, HandsOn, GivesLines}
 use Rattle.gk_protocol.proofs.HandedLemmas.{kept_handed}
@@ -39,14 +39,14 @@ few_owned at_end count [] few = refl
 few_owned at_end zero (raw ∷ raws) few = absurd (omega (arith, few))
 few_owned at_end (suc count) (raw ∷ raws) few = few_owned at_end count raws (omega (arith, few))
 
--- a reload, by whether its lines are all there
-reload_by : Bool → Bool → ℕ → ℕ → List (List ℕ) → List Asked
-reload_by at_end all sequence count raws =
+-- a request with its lines, by whether they are all there
+owner_by : Bool → Bool → ℕ → (List ℕ → Request) → Answer → List (List ℕ) → List Asked
+owner_by at_end all count request no_memory raws =
     cond all
     ((record {
-      request = Ok (request.Reload sequence (flat_map handed_on raws));
+      request = Ok (request (flat_map handed_on raws));
       no_memory = cond
-          (count == 0) None (Some (reload_without_memory sequence));
+          (count == 0) None (Some no_memory);
     }) ∷ [])
     (cond at_end ((record { request = Err CutShort; no_memory = None }) ∷ []) [])
 
@@ -55,58 +55,58 @@ asks_with : Bool → Option Answer → List (List ℕ) → Result (Option Asking
 asks_with at_end no_memory raws asking = asked_by at_end no_memory raws asking ++ asked_in at_end
     (lines_owned asking) raws
 
--- with all its lines
-pub reload_asks : (raw : List ℕ) (sequence count : ℕ) (raws : List (List ℕ)) → asking_of
-    (content_of raw) ≡ Ok (Some (Reload sequence count)) → length raws ≡ count
-    → (at_end : Bool) (more : List (List ℕ)) → asked_in at_end 0 ((raw ∷ raws) ++ more)
-    ≡ (record {
-      request = Ok (request.Reload sequence (flat_map handed_on raws));
-      no_memory = cond
-          (length raws == 0) None (Some (reload_without_memory sequence));
-    }) ∷ asked_in at_end 0 more
-unfolding reload_by asks_with
-reload_asks raw sequence count raws asks counted at_end more =
-    let size : ℕ = length raws in
-    let asks_so : asking_of (content_of raw) ≡ Ok (Some (Reload sequence size)) = subst
-    (λ (n : ℕ). asking_of (content_of raw) ≡ Ok (Some (Reload sequence n))) (sym counted) asks
-    in
-    let enough : nat_le size (length (raws ++ more)) ≡ true = le-leb size (length (raws ++ more))
-    (omega (arith, length-append raws more)) in
-    ap (asks_with at_end (no_memory_answer_of (content_of raw)) (raws ++ more)) asks_so
-    ∙ ap (λ all. reload_by at_end all sequence size (take size (raws ++ more)) ++ asked_in at_end
-    size (raws ++ more)) enough
-    ∙ ap (λ texts. reload_by at_end true sequence size texts ++ asked_in at_end size (raws ++ more))
-    (take-append_seam raws more)
-    ∙ ap (λ others. reload_by at_end true sequence size raws ++ others)
-    (owned_passed at_end raws more)
+module _ (raw : List ℕ) (count : ℕ) (request : List ℕ → Request) (no_memory : Answer)
+    (raws : List (List ℕ))
+    (asks : asking_of (content_of raw) ≡ Ok (Some (Owns count request no_memory))) where
+  -- with all its lines
+  pub owner_asks : length raws ≡ count → (at_end : Bool) (more : List (List ℕ))
+      → asked_in at_end 0 ((raw ∷ raws) ++ more)
+      ≡ (record {
+        request = Ok (request (flat_map handed_on raws));
+        no_memory = cond
+            (length raws == 0) None (Some no_memory);
+      }) ∷ asked_in at_end 0 more
+  unfolding owner_by asks_with
+  owner_asks counted at_end more =
+      let size : ℕ = length raws in
+      let asks_so : asking_of (content_of raw) ≡ Ok (Some (Owns size request no_memory)) = subst
+      (λ (n : ℕ). asking_of (content_of raw) ≡ Ok (Some (Owns n request no_memory)))
+      (sym counted) asks
+      in
+      let enough : nat_le size (length (raws ++ more)) ≡ true = le-leb size (length (raws ++ more))
+      (omega (arith, length-append raws more)) in
+      ap (asks_with at_end (no_memory_answer_of (content_of raw)) (raws ++ more)) asks_so
+      ∙ ap (λ all. owner_by at_end all size request no_memory (take size (raws ++ more))
+      ++ asked_in at_end size (raws ++ more)) enough
+      ∙ ap (λ texts. owner_by at_end true size request no_memory texts
+      ++ asked_in at_end size (raws ++ more))
+      (take-append_seam raws more)
+      ∙ ap (λ others. owner_by at_end true size request no_memory raws ++ others)
+      (owned_passed at_end raws more)
 
--- with too few
-reload_lacks : (raw : List ℕ) (sequence count : ℕ) (raws : List (List ℕ)) → asking_of
-    (content_of raw) ≡ Ok (Some (Reload sequence count)) → length raws < count
-    → (at_end : Bool) → asked_in at_end 0 (raw ∷ raws) ≡ reload_by at_end false sequence count raws
-unfolding reload_by asks_with
-reload_lacks raw sequence count raws asks few at_end =
-    ap (asks_with at_end (no_memory_answer_of (content_of raw)) raws) asks
-    ∙ ap (λ all. reload_by at_end all sequence count (take count raws) ++ asked_in at_end count
-    raws) (lt-leb count (length raws) few)
-    ∙ ap (λ others. reload_by at_end false sequence count raws ++ others)
-    (few_owned at_end count raws few)
-    ∙ append-nil (reload_by at_end false sequence count raws)
+  -- with too few
+  owner_lacks : length raws < count
+      → (at_end : Bool) → asked_in at_end 0 (raw ∷ raws)
+      ≡ owner_by at_end false count request no_memory raws
+  unfolding owner_by asks_with
+  owner_lacks few at_end =
+      ap (asks_with at_end (no_memory_answer_of (content_of raw)) raws) asks
+      ∙ ap (λ all. owner_by at_end all count request no_memory (take count raws)
+      ++ asked_in at_end count raws) (lt-leb count (length raws) few)
+      ∙ ap (λ others. owner_by at_end false count request no_memory raws ++ others)
+      (few_owned at_end count raws few)
+      ∙ append-nil (owner_by at_end false count request no_memory raws)
 
--- at the end of the input it is cut short
-pub reload_cut : (raw : List ℕ) (sequence count : ℕ) (raws : List (List ℕ)) → asking_of
-    (content_of raw) ≡ Ok (Some (Reload sequence count)) → length raws < count
-    → asked_in true 0 (raw ∷ raws) ≡ (record { request = Err CutShort; no_memory = None }) ∷ []
-unfolding reload_by
-reload_cut raw sequence count raws asks few = reload_lacks raw sequence count raws asks few true
+  -- at the end of the input they are cut short
+  pub owner_cut : length raws < count
+      → asked_in true 0 (raw ∷ raws) ≡ (record { request = Err CutShort; no_memory = None }) ∷ []
+  unfolding owner_by
+  owner_cut few = owner_lacks few true
 
--- and before it nothing is asked
-pub reload_unended : (raw : List ℕ) (sequence count : ℕ) (raws : List (List ℕ)) → asking_of
-    (content_of raw) ≡ Ok (Some (Reload sequence count)) → length raws < count
-    → asked_in false 0 (raw ∷ raws) ≡ []
-unfolding reload_by
-reload_unended raw sequence count raws asks few = reload_lacks raw sequence count raws asks few
-    false
+  -- and before it nothing is asked
+  pub owner_unended : length raws < count → asked_in false 0 (raw ∷ raws) ≡ []
+  unfolding owner_by
+  owner_unended few = owner_lacks few false
 
 -- ---- lines that are taken
 -- after other lines

@@ -163,7 +163,7 @@ module _ {S : Type 0} (MayAnswer : S → Request → Answer → S → Type 0) wh
         u.2,
       )
 
-  -- the same within the lines of a reload
+  -- the same within the lines of a request
   pub session_stops_within : (known rest mid remaining : Option (List ℕ)) (pending : List ℕ)
       (ended mid_ended now_ended : Bool) (kept reply : List ℕ) (old now new : S)
       (before after : Option (List ℕ)) (count : ℕ) (fault : LineFault)
@@ -223,7 +223,7 @@ module _ {S : Type 0} (MayAnswer : S → Request → Answer → S → Type 0) wh
         appends_more before after written u.0 w.1.0 u.2 w.1.2,
       )
 
-  -- ---- the input ends within the lines of a reload
+  -- ---- the input ends within the lines of a request
   pub session_cut_short : (known rest mid remaining : Option (List ℕ)) (pending : List ℕ)
       (ended mid_ended now_ended : Bool) (kept reply : List ℕ) (old now new : S)
       (before after written : Option (List ℕ)) (count : ℕ)

@@ -4,8 +4,7 @@ use Rattle.gk_lines.specs.declared.line_reader.ReadFault.{ReadFault}
 use Rattle.gk_protocol.specs.declared.request_faults.RequestFault.{RequestFault}
 use Rattle.gk_protocol.specs.declared.request_faults.RequestFault.TheVariants as fault
 use Rattle.gk_protocol.specs.declared.requests.Request.{Request}
-use Rattle.gk_protocol.specs.declared.requests.Request.TheVariants as request
-use Rattle.gk_protocol.specs.Asking.{Reload}
+use Rattle.gk_protocol.specs.Asking.{Owns}
 use Rattle.gk_protocol.specs.declared.answers.Answer.{Answer}
 use Rattle.gk_protocol.specs.declared.answers.Answer.TheVariants.{Malformed}
 use Rattle.gk_protocol.specs.declared.owned_lines.TakenLines.{TakenLines}
@@ -14,7 +13,8 @@ use Rattle.gk_protocol.specs.declared.sessions.Progress.{Progress}
 use Rattle.gk_protocol.specs.declared.sessions.Progress.TheVariants.{Blank, Answered, CutShort}
 use Rattle.gk_protocol.specs.Answers.{answer_line_of}
 use Rattle.gk_protocol.specs.Registrations.{no_memory_answer_of}
-use Rattle.gk_protocol.specs.Requests.{asking_of, whole_request_of, reload_without_memory}
+use Rattle.gk_protocol.specs.Requests.{asking_of, whole_request_of}
+use Rattle.gk_protocol.specs.Hearing.{AnswersInto}
 use Rattle.gk_protocol.specs.OwnedLines.{GivesLines}
 use Rattle.gk_protocol.specs.Session.{MayGet}
 
@@ -26,27 +26,29 @@ module _ {S : Type 0} (MayAnswer : S → Request → Answer → S → Type 0) wh
       × MayGet MayAnswer old
       (record { request = request; no_memory = no_memory_answer_of line }) answer new
 
-  -- the answer to a reload by what became of its lines, of which the reply is the line
-  abbrev pub AnswersReload : S → ℕ → TakenLines → Progress → List ℕ → S → Type 0
-  AnswersReload old sequence (taken.Whole lines) Answered reply new =
-      (answer : Answer) × (reply ≡ answer_line_of answer)
-      × MayAnswer old (request.Reload sequence lines) answer new
-  AnswersReload old sequence taken.NoMemory Answered reply new =
-      (reply ≡ answer_line_of (reload_without_memory sequence)) × (new ≡ old)
-  AnswersReload old sequence taken.CutShort CutShort reply new =
+  -- the answer to a request by what became of its lines, of which the reply is the line
+  abbrev pub AnswersOwner : S → (List ℕ → Request) → Answer → TakenLines → Progress → List ℕ → S
+      → Type 0
+  AnswersOwner old request no_memory (taken.Whole lines) Answered reply new =
+      AnswersInto MayAnswer old (request lines) reply new
+  AnswersOwner old request no_memory taken.NoMemory Answered reply new =
+      (reply ≡ answer_line_of no_memory) × (new ≡ old)
+  AnswersOwner old request no_memory taken.CutShort CutShort reply new =
       (reply ≡ answer_line_of (Malformed fault.CutShort)) × (new ≡ old)
-  AnswersReload old sequence lines progress reply new = ⊥
+  AnswersOwner old request no_memory lines progress reply new = ⊥
 
-  -- a line asks for a reload with the next lines, which are taken; or their end was not read, and
-  -- the answerer was not asked
-  abbrev pub TriesReload : Bool → Bool → S → List ℕ → Result Progress ReadFault → List ℕ → S
+  -- the next lines belong to what a line asks, and are taken; or their end was not read, and the
+  -- answerer was not asked
+  abbrev pub AnswersWithLines : Bool → Bool → S → List ℕ → Result Progress ReadFault → List ℕ → S
       → List ℕ → List ℕ → Type 0
-  TriesReload ended now_ended old line (Ok progress) reply new bytes rest =
-      (sequence : ℕ) × (count : ℕ) × (asking_of line ≡ Ok (Some (Reload sequence count)))
+  AnswersWithLines ended now_ended old line (Ok progress) reply new bytes rest =
+      (count : ℕ) × (request : List ℕ → Request) × (no_memory : Answer)
+      × (asking_of line ≡ Ok (Some (Owns count request no_memory)))
       × (lines : TakenLines) × GivesLines ended now_ended count (Ok lines) bytes rest
-      × AnswersReload old sequence lines progress reply new
-  TriesReload ended now_ended old line (Err fault) reply new bytes rest =
-      (sequence : ℕ) × (count : ℕ) × (asking_of line ≡ Ok (Some (Reload sequence count)))
+      × AnswersOwner old request no_memory lines progress reply new
+  AnswersWithLines ended now_ended old line (Err fault) reply new bytes rest =
+      (count : ℕ) × (request : List ℕ → Request) × (no_memory : Answer)
+      × (asking_of line ≡ Ok (Some (Owns count request no_memory)))
       × (new ≡ old) × GivesLines ended now_ended count (Err fault) bytes rest
 
   -- a line by itself leaves the input after it as it is; the reply is the line of its answer
@@ -62,4 +64,4 @@ module _ {S : Type 0} (MayAnswer : S → Request → Answer → S → Type 0) wh
       → List ℕ → List ℕ → Type 0
   AnswersLine ended now_ended old line result reply new bytes rest =
       (AnswersByItself old line result reply new × (rest ≡ bytes) × (now_ended ≡ ended))
-      ⊎ TriesReload ended now_ended old line result reply new bytes rest
+      ⊎ AnswersWithLines ended now_ended old line result reply new bytes rest

@@ -2,7 +2,9 @@ pub mod Answers
 pub mod AnswersLine
 pub mod Asking
 pub mod CoreAnswers
+pub mod EndpointFiles
 pub mod Hearing
+pub mod LineOwners
 pub mod OwnedLines
 pub mod RegistrationOptions
 pub mod Registrations

@@ -1,6 +1,6 @@
 -- How src/registrations adds the options of a registration, one word after another. Only the
 -- contracts of its private functions need this: what the options mean is in specs/Registrations.
-use Rattle.std.specs.Prelude.{◌≡◌, ◌<◌, ℕ, List, [], ◌∷◌, ◌++◌, length, Err, IsTrue, bytes_eq, if◌then◌else◌}
+use Rattle.std.specs.Prelude.{◌≡◌, ◌<◌, ℕ, List, [], ◌∷◌, ◌++◌, length, Some, Err, IsTrue, bytes_eq, if◌then◌else◌}
 use Rattle.std.specs.List.{list_any}
 use Rattle.gk_terms.specs.declared.limits.TheConstants.{MOST_ALIASES, MOST_TECHNOLOGIES}
 use Rattle.registry.specs.Endpoint.{EndpointParts}
@@ -8,7 +8,7 @@ use Rattle.gk_protocol.specs.declared.registrations.NoRequest.{NoRequest}
 use Rattle.gk_protocol.specs.declared.registrations.NoRequest.TheVariants.{Fault, NoMemory}
 use Rattle.gk_protocol.specs.declared.registrations.RegistrationOption.{RegistrationOption}
 use Rattle.gk_protocol.specs.declared.registrations.RegistrationOption.TheVariants.{Alias, Technology}
-use Rattle.gk_protocol.specs.Registrations.{with_options_at, begins_with_option}
+use Rattle.gk_protocol.specs.Registrations.{with_options_at, begins_with_option, registration_at, registering_at}
 
 -- ---- one option
 -- an endpoint to which no option has been added
@@ -39,3 +39,8 @@ abbrev pub AreNoOptionsAt : ℕ → EndpointParts → List (List ℕ) → NoRequ
 AreNoOptionsAt sequence endpoint words (Fault fault) = with_options_at endpoint words ≡ Err fault
 AreNoOptionsAt sequence endpoint words (NoMemory number id) =
     (number ≡ sequence) × (id ≡ endpoint.id) × IsTrue (begins_with_option words)
+
+-- why the words after RRQ are no registration: the first fault, or memory ran out
+abbrev pub IsNoRegistrationAt : List (List ℕ) → NoRequest → Type 0
+IsNoRegistrationAt words (Fault fault) = registration_at words ≡ Err fault
+IsNoRegistrationAt words (NoMemory sequence id) = registering_at words ≡ Some (sequence, id)

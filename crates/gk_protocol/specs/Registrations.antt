@@ -103,14 +103,24 @@ with_options_at bare words = do
     technologies = each_once (filter_map technology_given options);
   })
 
-abbrev pub register_at : List (List ℕ) → Result Request RequestFault
-register_at words = do
+-- the sequence number and the endpoint
+abbrev pub registration_at : List (List ℕ) → Result (ℕ × EndpointParts) RequestFault
+registration_at words = do
   sequence ← field_at sequence_number_of fault.BadSequence words
   bare ← endpoint_at sequence.1
   endpoint ← with_options_at bare.0 bare.1
-  Ok (Register sequence.0 endpoint)
+  Ok (sequence.0, endpoint)
+
+abbrev pub register_at : List (List ℕ) → Result Request RequestFault
+register_at words = do
+  fields ← registration_at words
+  Ok (Register fields.0 fields.1)
 
 -- ---- out of memory
+-- a registration's refusal if memory runs out
+abbrev pub no_memory_to : ℕ × List ℕ → Answer
+no_memory_to registering = Reply registering.0 (RegisterRefused registering.1 register.NoMemory)
+
 -- whether the first of these words is an option
 abbrev pub begins_with_option : List (List ℕ) → Bool
 begins_with_option [] = false
@@ -123,6 +133,10 @@ registering_at words = result_ok (do
   bare ← endpoint_at sequence.1
   if begins_with_option bare.1 then Ok (sequence.0, bare.0.id) else Err fault.BadOption)
 
+-- the answer that may stand in the place of another, if memory runs out for the options
+abbrev pub no_memory_at : List (List ℕ) → Option Answer
+no_memory_at words = option_map no_memory_to (registering_at words)
+
 abbrev pub registering_by_word : List (List ℕ) → Option (ℕ × List ℕ)
 registering_by_word [] = None
 registering_by_word (word ∷ words) =
@@ -132,10 +146,6 @@ registering_by_word (word ∷ words) =
 -- option
 unfoldable pub registering_of : List ℕ → Option (ℕ × List ℕ)
 registering_of line = if is_too_long line then None else registering_by_word (words_of line)
-
--- a registration's refusal if memory runs out
-abbrev pub no_memory_to : ℕ × List ℕ → Answer
-no_memory_to registering = Reply registering.0 (RegisterRefused registering.1 register.NoMemory)
 
 -- the answer that may stand in the place of another, if memory runs out for the options of a line
 abbrev pub no_memory_answer_of : List ℕ → Option Answer

@@ -1,5 +1,5 @@
 -- The fields that only requests have.
-use Rattle.std.specs.Prelude.{ℕ, List, Option, Some, None, Result, codes, bytes_eq, if◌then◌else◌}
+use Rattle.std.specs.Prelude.{◌≡◌, ℕ, List, Option, Some, None, Result, Ok, Err, codes, bytes_eq, if◌then◌else◌}
 use Rattle.gk_terms.specs.Fields.{field}
 use Rattle.gk_terms.specs.Number.{number_of}
 use Rattle.gk_terms.specs.declared.limits.TheConstants.{MOST_LINES, MOST_SEQUENCE}
@@ -31,3 +31,8 @@ endpoint_kind_of word =
 abbrev pub field_at : {A : Type 0} → (List ℕ → Option A) → RequestFault → List (List ℕ)
     → Result (A × List (List ℕ)) RequestFault
 field_at read bad words = field fault.Missing read bad words
+
+-- what a reader of a request gives: the fields of which this makes what was read; or the first fault
+abbrev pub Reads : {A B : Type 0} → Result A RequestFault → (B → A) → Result B RequestFault → Type 0
+Reads read made (Ok fields) = read ≡ Ok (made fields)
+Reads read made (Err fault) = read ≡ Err fault

@@ -11,9 +11,8 @@ use Rattle.gk_protocol.specs.declared.answers.Answer.TheVariants.{Reply}
 use Rattle.gk_protocol.specs.declared.request_faults.RequestFault.{RequestFault}
 use Rattle.gk_protocol.specs.declared.request_faults.RequestFault.TheVariants as fault
 use Rattle.gk_protocol.specs.declared.requests.Request.{Request}
-use Rattle.gk_protocol.specs.declared.requests.Request.TheVariants.{Unregister, Admit, Change, Release}
-use Rattle.gk_protocol.specs.Asking.{Asking}
-use Rattle.gk_protocol.specs.Asking as asking
+use Rattle.gk_protocol.specs.declared.requests.Request.TheVariants.{Unregister, Admit, Change, Release, Reload}
+use Rattle.gk_protocol.specs.Asking.{Asking, Whole, Owns}
 use Rattle.gk_protocol.specs.RequestFields.{sequence_number_of, asked_call_of, asked_units_of, owned_count_of, field_at}
 use Rattle.gk_protocol.specs.Registrations.{register_at}
 
@@ -52,11 +51,16 @@ release_at words = do
   nothing_more fault.Extra (Release sequence.0 id.0 call.0) call.1
 
 -- ---- CFG seq n, to which the next n lines belong
+-- its refusal if memory runs out
+abbrev pub reload_without_memory : ℕ → Answer
+reload_without_memory sequence = Reply sequence (ReloadRefused reload.NoMemory)
+
 abbrev pub reload_at : List (List ℕ) → Result Asking RequestFault
 reload_at words = do
   sequence ← field_at sequence_number_of fault.BadSequence words
   count ← field_at owned_count_of fault.BadNumber sequence.1
-  nothing_more fault.Extra (asking.Reload sequence.0 count.0) count.1
+  nothing_more fault.Extra
+      (Owns count.0 (Reload sequence.0) (reload_without_memory sequence.0)) count.1
 
 -- ---- a line
 -- what is asked, if it could be read
@@ -66,7 +70,7 @@ asked_of (Err fault) = Err fault
 
 -- a request that stands whole in its line
 abbrev pub whole_request_of : Result Request RequestFault → Result (Option Asking) RequestFault
-whole_request_of (Ok request) = Ok (Some (asking.Whole request))
+whole_request_of (Ok request) = Ok (Some (Whole request))
 whole_request_of (Err fault) = Err fault
 
 -- the request of another first word than RRQ and CFG
@@ -93,8 +97,3 @@ asking_at (word ∷ words) =
 -- what a line asks
 unfoldable pub asking_of : List ℕ → Result (Option Asking) RequestFault
 asking_of line = if is_too_long line then Err fault.LineTooLong else asking_at (words_of line)
-
--- ---- out of memory
--- a reload's refusal if memory runs out
-abbrev pub reload_without_memory : ℕ → Answer
-reload_without_memory sequence = Reply sequence (ReloadRefused reload.NoMemory)

@@ -5,8 +5,7 @@ use Rattle.gk_terms.specs.declared.limits.TheConstants.{MOST_LINE_BYTES}
 use Rattle.gk_protocol.specs.declared.request_faults.RequestFault.{RequestFault}
 use Rattle.gk_protocol.specs.declared.request_faults.RequestFault.TheVariants.{CutShort}
 use Rattle.gk_protocol.specs.declared.requests.Request.{Request}
-use Rattle.gk_protocol.specs.declared.requests.Request.TheVariants as request
-use Rattle.gk_protocol.specs.Asking.{Asking, Whole, Reload}
+use Rattle.gk_protocol.specs.Asking.{Asking, Whole, Owns}
 use Rattle.gk_protocol.specs.declared.session_faults.SessionFault.{SessionFault}
 use Rattle.gk_protocol.specs.declared.session_faults.SessionFault.TheVariants.{ReadFault, WriteFault, NoMemory, TurnsSpent}
 use Rattle.gk_lines.specs.LineReader.{PIECE_BYTES}
@@ -16,7 +15,7 @@ use Rattle.gk_protocol.specs.declared.answers.Answer.{Answer}
 use Rattle.gk_protocol.specs.declared.answers.Answer.TheVariants.{Malformed}
 use Rattle.gk_protocol.specs.Answers.{answer_line_of}
 use Rattle.gk_protocol.specs.Registrations.{no_memory_answer_of}
-use Rattle.gk_protocol.specs.Requests.{asking_of, reload_without_memory}
+use Rattle.gk_protocol.specs.Requests.{asking_of}
 
 -- ---- the requests of an input
 -- what a line asks, or its first fault; and the answer that may stand in its place, if memory runs
@@ -30,7 +29,7 @@ abbrev pub lines_owned : Result (Option Asking) RequestFault → ℕ
 lines_owned (Err fault) = 0
 lines_owned (Ok None) = 0
 lines_owned (Ok (Some (Whole request))) = 0
-lines_owned (Ok (Some (Reload sequence count))) = count
+lines_owned (Ok (Some (Owns count request no_memory))) = count
 
 -- a line that belongs to a request, as it is handed on: as it stood, and a too long one as 513
 -- bytes `a` and a line feed
@@ -40,14 +39,13 @@ handed_on raw =
 
 -- a request with the lines that belong to it; memory may run out for them only if there are some.
 -- If they are cut short, it is a fault at the end of the input, and not whole before
-abbrev pub with_its_lines : Bool → Option Answer → ℕ → (List ℕ → Request) → List (List ℕ)
-    → List Asked
-with_its_lines at_end no_memory count request raws =
+abbrev pub with_its_lines : Bool → ℕ → (List ℕ → Request) → Answer → List (List ℕ) → List Asked
+with_its_lines at_end count request no_memory raws =
     if nat_le count (length raws)
     then (record {
       request = Ok
           (request (flat_map handed_on (take count raws)));
-      no_memory = if count == 0 then None else no_memory;
+      no_memory = if count == 0 then None else Some no_memory;
     }) ∷ []
     else (if at_end then (record { request = Err CutShort; no_memory = None }) ∷ [] else [])
 
@@ -59,9 +57,8 @@ asked_by at_end no_memory raws (Err fault) =
 asked_by at_end no_memory raws (Ok None) = []
 asked_by at_end no_memory raws (Ok (Some (Whole request))) =
     (record { request = Ok request; no_memory = no_memory }) ∷ []
-asked_by at_end no_memory raws (Ok (Some (Reload sequence count))) =
-    with_its_lines at_end (Some (reload_without_memory sequence)) count (request.Reload sequence)
-    raws
+asked_by at_end no_memory raws (Ok (Some (Owns count request lacking))) =
+    with_its_lines at_end count request lacking raws
 
 -- what these lines ask, of which the first so many belong to the request before; at the end of the
 -- input or before it

@@ -1,6 +1,8 @@
 //! Requests about calls: admissions, `ARQ`, bandwidth changes, `BRQ`, and releases, `DRQ`.
 
+ghost use Rattle.std.specs.Prelude.{None};
 ghost use Rattle.gk_terms.specs.Text.{words_of};
+ghost use Rattle.gk_protocol.specs.RequestFields.{Reads};
 ghost use Rattle.gk_protocol.specs.Hearing.{HearsRequest};
 ghost use Rattle.gk_protocol.specs.Requests as Spec;
 
@@ -12,9 +14,47 @@ use crate::request_lines::Heard;
 use crate::requests::Request;
 use gk_terms::fields::{dialled_field, name_field};
 use gk_terms::words::Words;
+use gk_terms::{Dialled, Name, Units};
 use std::alloc::Global;
 
-/// Answers `ARQ seq id call digits units`, after its first word, or gives back its first fault.
+/// Reads `ARQ seq id call digits units`, after its first word: its fields, or its first fault.
+fn admission(words: &mut Words<'_>) -> Result<(u32, Name, u32, Dialled, Units), RequestFault>
+    ensures { Reads (Spec.admit_at (words_of words.old))
+        (λ a. Request.Admit a.0 a.1 a.2 a.3 a.4) result }
+{
+    let sequence = sequence_field(words)?;
+    let id = name_field(words, RequestFault::BadName)?;
+    let call = call_field(words)?;
+    let digits = dialled_field(words, RequestFault::BadDigits)?;
+    let units = nothing_after(units_field(words)?, words)?;
+    Ok((sequence, id, call, digits, units))
+}
+
+/// Reads `BRQ seq id call units`, after its first word: its fields, or its first fault.
+fn change_of_call(words: &mut Words<'_>) -> Result<(u32, Name, u32, Units), RequestFault>
+    ensures { Reads (Spec.change_at (words_of words.old))
+        (λ c. Request.Change c.0 c.1 c.2 c.3) result }
+{
+    let sequence = sequence_field(words)?;
+    let id = name_field(words, RequestFault::BadName)?;
+    let call = call_field(words)?;
+    let units = units_field(words)?;
+    nothing_after((), words)?;
+    Ok((sequence, id, call, units))
+}
+
+/// Reads `DRQ seq id call`, after its first word: its fields, or its first fault.
+fn release_of_call(words: &mut Words<'_>) -> Result<(u32, Name, u32), RequestFault>
+    ensures { Reads (Spec.release_at (words_of words.old)) (λ r. Request.Release r.0 r.1 r.2)
+        result }
+{
+    let sequence = sequence_field(words)?;
+    let id = name_field(words, RequestFault::BadName)?;
+    let call = nothing_after(call_field(words)?, words)?;
+    Ok((sequence, id, call))
+}
+
+/// Answers `ARQ`, after its first word, or gives back its first fault.
 #[inline(never)]
 pub(crate) fn admit<A: Answerer>(
     alloc: Global,
@@ -22,14 +62,10 @@ pub(crate) fn admit<A: Answerer>(
     answerer: &mut A,
     reply: &mut ReplyLine,
 ) -> Result<Heard, RequestFault>
-    ensures { HearsRequest A.may_answer answerer.old (Spec.admit_at (words_of words.old)) result
-        reply.new.line answerer.new }
+    ensures { HearsRequest A.may_answer answerer.old (Spec.admit_at (words_of words.old)) None
+        result reply.new.line answerer.new }
 {
-    let sequence = sequence_field(words)?;
-    let id = name_field(words, RequestFault::BadName)?;
-    let call = call_field(words)?;
-    let digits = dialled_field(words, RequestFault::BadDigits)?;
-    let units = nothing_after(units_field(words)?, words)?;
+    let (sequence, id, call, digits, units) = admission(words)?;
     let request = Request::Admit {
         sequence,
         id,
@@ -41,7 +77,7 @@ pub(crate) fn admit<A: Answerer>(
     Ok(Heard::Answered)
 }
 
-/// Answers `BRQ seq id call units`, after its first word, or gives back its first fault.
+/// Answers `BRQ`, after its first word, or gives back its first fault.
 #[inline(never)]
 pub(crate) fn change<A: Answerer>(
     alloc: Global,
@@ -49,14 +85,10 @@ pub(crate) fn change<A: Answerer>(
     answerer: &mut A,
     reply: &mut ReplyLine,
 ) -> Result<Heard, RequestFault>
-    ensures { HearsRequest A.may_answer answerer.old (Spec.change_at (words_of words.old)) result
-        reply.new.line answerer.new }
+    ensures { HearsRequest A.may_answer answerer.old (Spec.change_at (words_of words.old)) None
+        result reply.new.line answerer.new }
 {
-    let sequence = sequence_field(words)?;
-    let id = name_field(words, RequestFault::BadName)?;
-    let call = call_field(words)?;
-    let units = units_field(words)?;
-    nothing_after((), words)?;
+    let (sequence, id, call, units) = change_of_call(words)?;
     let request = Request::Change {
         sequence,
         id,
@@ -67,7 +99,7 @@ pub(crate) fn change<A: Answerer>(
     Ok(Heard::Answered)
 }
 
-/// Answers `DRQ seq id call`, after its first word, or gives back its first fault.
+/// Answers `DRQ`, after its first word, or gives back its first fault.
 #[inline(never)]
 pub(crate) fn release<A: Answerer>(
     alloc: Global,
@@ -75,12 +107,10 @@ pub(crate) fn release<A: Answerer>(
     answerer: &mut A,
     reply: &mut ReplyLine,
 ) -> Result<Heard, RequestFault>
-    ensures { HearsRequest A.may_answer answerer.old (Spec.release_at (words_of words.old)) result
-        reply.new.line answerer.new }
+    ensures { HearsRequest A.may_answer answerer.old (Spec.release_at (words_of words.old)) None
+        result reply.new.line answerer.new }
 {
-    let sequence = sequence_field(words)?;
-    let id = name_field(words, RequestFault::BadName)?;
-    let call = nothing_after(call_field(words)?, words)?;
+    let (sequence, id, call) = release_of_call(words)?;
     let request = Request::Release { sequence, id, call };
     answerer.answer_into(alloc, request, reply);
     Ok(Heard::Answered)

@@ -5,6 +5,8 @@ pub mod answer_lines;
 pub mod answerer;
 pub mod answers;
 mod call_requests;
+pub mod endpoint_files;
+pub mod line_owners;
 pub mod owned_lines;
 mod refusal_words;
 mod registrations;
@@ -19,6 +21,8 @@ pub mod sessions;
 
 pub use answerer::Answerer;
 pub use answers::Answer;
+pub use endpoint_files::{EndpointsFault, EndpointsFaultKind, read_endpoints};
+pub use line_owners::LineOwner;
 pub use owned_lines::OwnedLines;
 pub use reply_lines::ReplyLine;
 pub use request_faults::RequestFault;

@@ -1,15 +1,15 @@
 //! Requests about registrations: `RRQ`, with its options, and `URQ`.
 
-ghost use Rattle.std.specs.Prelude.{◌≡◌, Ok, MatchResult, IfOk, option_map};
+ghost use Rattle.std.specs.Prelude.{◌≡◌, None, Ok, MatchResult, option_map};
 ghost use Rattle.gk_terms.specs.Dialled.{dialled_of};
 ghost use Rattle.gk_terms.specs.TechPrefix.{tech_prefix_of};
-ghost use Rattle.gk_terms.specs.Fields.{Gives};
 ghost use Rattle.gk_terms.specs.Outcome.{ChangesUnlessMemory};
 ghost use Rattle.gk_terms.specs.Text.{words_of};
-ghost use Rattle.gk_protocol.specs.Hearing.{HearsRegistration, HearsRequest, LacksOptions};
+ghost use Rattle.gk_protocol.specs.RequestFields.{Reads};
+ghost use Rattle.gk_protocol.specs.Hearing.{HearsRequest, LacksOptions};
 ghost use Rattle.gk_protocol.specs.Requests.{unregister_at};
 ghost use Rattle.gk_protocol.specs.Registrations as Spec;
-ghost use Rattle.gk_protocol.specs.RegistrationOptions.{IsBare, HasRoomFor, with_registration_option, AreNoOptionsAt};
+ghost use Rattle.gk_protocol.specs.RegistrationOptions.{IsBare, HasRoomFor, with_registration_option, AreNoOptionsAt, IsNoRegistrationAt};
 
 use crate::answerer::Answerer;
 use crate::answers::Answer;
@@ -70,21 +70,37 @@ impl From<RequestFault> for NoRequest {
     }
 }
 
-/// Answers `RRQ seq KIND id zone addr [e164=D] [tech=P] ..`, after its first word, or gives back
-/// its first fault.
+/// Reads `RRQ seq KIND id zone addr [e164=D] [tech=P] ..`, after its first word: the sequence number
+/// and the endpoint. If memory runs out for an option, what stands after it is not looked at.
+pub(crate) fn registration(
+    alloc: Global,
+    words: &mut Words<'_>,
+) -> Result<(u32, Endpoint), NoRequest>
+    ensures { MatchResult result (λ read. Spec.registration_at (words_of words.old) ≡ Ok read)
+        (IsNoRegistrationAt (words_of words.old)) }
+{
+    let sequence = sequence_field(words)?;
+    let kind = kind_field(words)?;
+    let id = name_field(words, RequestFault::BadName)?;
+    let zone = name_field(words, RequestFault::BadName)?;
+    let address = address_field(words, SIGNALLING_PORT, RequestFault::BadAddress)?;
+    let mut endpoint = Endpoint::new(alloc, kind, id, zone, address);
+    add_options(sequence, &mut endpoint, words)?;
+    Ok((sequence, endpoint))
+}
+
+/// Answers `RRQ`, after its first word, or gives back its first fault.
 pub(crate) fn register<A: Answerer>(
     alloc: Global,
     words: &mut Words<'_>,
     answerer: &mut A,
     reply: &mut ReplyLine,
 ) -> Result<Heard, RequestFault>
-    ensures { HearsRegistration A.may_answer answerer.old (words_of words.old) result reply.new.line
-        answerer.new }
+    ensures { HearsRequest A.may_answer answerer.old (Spec.register_at (words_of words.old))
+        (Spec.no_memory_at (words_of words.old)) result reply.new.line answerer.new }
 {
-    let sequence = sequence_field(words)?;
-    let mut endpoint = bare_endpoint(alloc, words)?;
-    match add_options(sequence, &mut endpoint, words) {
-        Ok(()) => {
+    match registration(alloc, words) {
+        Ok((sequence, endpoint)) => {
             let request = Request::Register { sequence, endpoint };
             answerer.answer_into(alloc, request, reply);
             Ok(Heard::Answered)
@@ -118,7 +134,17 @@ fn no_memory(sequence: u32, id: Name) -> Answer
     Answer::Reply { sequence, reply }
 }
 
-/// Answers `URQ seq id`, after its first word, or gives back its first fault.
+/// Reads `URQ seq id`, after its first word: its fields, or its first fault.
+fn unregistration(words: &mut Words<'_>) -> Result<(u32, Name), RequestFault>
+    ensures { Reads (unregister_at (words_of words.old)) (λ u. Request.Unregister u.0 u.1) result }
+{
+    let sequence = sequence_field(words)?;
+    let id = name_field(words, RequestFault::BadName)?;
+    nothing_after((), words)?;
+    Ok((sequence, id))
+}
+
+/// Answers `URQ`, after its first word, or gives back its first fault.
 #[inline(never)]
 pub(crate) fn unregister<A: Answerer>(
     alloc: Global,
@@ -126,28 +152,13 @@ pub(crate) fn unregister<A: Answerer>(
     answerer: &mut A,
     reply: &mut ReplyLine,
 ) -> Result<Heard, RequestFault>
-    ensures { HearsRequest A.may_answer answerer.old (unregister_at (words_of words.old))
+    ensures { HearsRequest A.may_answer answerer.old (unregister_at (words_of words.old)) None
         result reply.new.line answerer.new }
 {
-    let sequence = sequence_field(words)?;
-    let id = name_field(words, RequestFault::BadName)?;
-    nothing_after((), words)?;
+    let (sequence, id) = unregistration(words)?;
     let request = Request::Unregister { sequence, id };
     answerer.answer_into(alloc, request, reply);
     Ok(Heard::Answered)
-}
-
-/// Kind, ID, zone and address of a registration, as an endpoint without aliases and technology
-/// prefixes.
-fn bare_endpoint(alloc: Global, words: &mut Words<'_>) -> Result<Endpoint, RequestFault>
-    ensures fields { Gives (Spec.endpoint_at (words_of words.old)) result (words_of words.new) }
-    ensures bare { IfOk result (λ bare. IsBare bare) }
-{
-    let kind = kind_field(words)?;
-    let id = name_field(words, RequestFault::BadName)?;
-    let zone = name_field(words, RequestFault::BadName)?;
-    let address = address_field(words, SIGNALLING_PORT, RequestFault::BadAddress)?;
-    Ok(Endpoint::new(alloc, kind, id, zone, address))
 }
 
 /// Adds the aliases and technology prefixes of the options of a registration with this sequence

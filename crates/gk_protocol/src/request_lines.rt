@@ -1,11 +1,15 @@
 //! What one line asks, and the answer to it.
 
+ghost use Rattle.std.specs.Prelude.{◌≡◌};
 ghost use Rattle.gk_terms.specs.Text.{words_of};
-ghost use Rattle.gk_protocol.specs.Hearing.{Hears, HearsReload};
+ghost use Rattle.gk_protocol.specs.RequestFields.{Reads};
+ghost use Rattle.gk_protocol.specs.Hearing.{Hears, owner_heard};
+ghost use Rattle.gk_protocol.specs.LineOwners.{asking_with};
 ghost use Rattle.gk_protocol.specs.Requests as Spec;
 
 use crate::answerer::Answerer;
 use crate::call_requests::{admit, change, release};
+use crate::line_owners::LineOwner;
 use crate::registrations::{register, unregister};
 use crate::reply_lines::ReplyLine;
 use crate::request_faults::RequestFault;
@@ -22,12 +26,11 @@ pub enum Heard {
     /// The reply is the line of its answer: also if memory ran out for the options of a
     /// registration.
     Answered,
-    /// `CFG`: asks that the configuration in the next lines be put in force. It is not answered
-    /// yet.
-    Reload {
-        /// The sequence number, 1 to 65535, which the reply repeats.
-        sequence: u32,
-        /// How many of the next lines belong to the request, 0 to 20,000.
+    /// The next lines belong to what is asked. It is not answered yet.
+    Owns {
+        /// What is asked with these lines.
+        owner: LineOwner,
+        /// How many of the next lines belong to it, 0 to 20,000.
         count: u32,
     },
 }
@@ -60,7 +63,7 @@ pub fn hear<A: Answerer>(
     };
     match word {
         b"RRQ" => register(alloc, words, answerer, reply),
-        b"CFG" => reload(words),
+        b"CFG" => owns(reload(words)),
         b"URQ" => unregister(alloc, words, answerer, reply),
         b"ARQ" => admit(alloc, words, answerer, reply),
         b"BRQ" => change(alloc, words, answerer, reply),
@@ -69,13 +72,22 @@ pub fn hear<A: Answerer>(
     }
 }
 
-/// `CFG seq n`, after its first word.
+/// What comes of a line to which the next lines belong.
+fn owns(read: Result<(LineOwner, u32), RequestFault>) -> Result<Heard, RequestFault>
+    ensures { result ≡ owner_heard read }
+{
+    let (owner, count) = read?;
+    Ok(Heard::Owns { owner, count })
+}
+
+/// Reads `CFG seq n`, after its first word: what it asks with the next n lines, and n; or its first
+/// fault.
 #[cold]
 #[inline(never)]
-fn reload(words: &mut Words<'_>) -> Result<Heard, RequestFault>
-    ensures { HearsReload (Spec.reload_at (words_of words.old)) result }
+fn reload(words: &mut Words<'_>) -> Result<(LineOwner, u32), RequestFault>
+    ensures { Reads (Spec.reload_at (words_of words.old)) (λ o. asking_with o.0 o.1) result }
 {
     let sequence = sequence_field(words)?;
     let count = nothing_after(count_field(words)?, words)?;
-    Ok(Heard::Reload { sequence, count })
+    Ok((LineOwner::Reload { sequence }, count))
 }

@@ -7,16 +7,16 @@ ghost use Rattle.gk_lines.specs.LineReader.{left_of, work_left, AtEndIfEnded, Co
 ghost use Rattle.gk_terms.specs.Text.{content_of};
 ghost use Rattle.gk_protocol.specs.Answers.{answer_line_of};
 ghost use Rattle.gk_protocol.specs.Session.{IsReadAhead, Ends, is_read_fault, is_write_fault};
-ghost use Rattle.gk_protocol.specs.AnswersLine.{AnswersLine, AnswersReload};
+ghost use Rattle.gk_protocol.specs.LineOwners.{request_with, lines_without_memory};
+ghost use Rattle.gk_protocol.specs.AnswersLine.{AnswersLine, AnswersOwner};
 
 use crate::answerer::Answerer;
 use crate::answers::Answer;
+use crate::line_owners::LineOwner;
 use crate::owned_lines::{TakenLines, take_lines};
-use crate::reloads::no_memory;
 use crate::reply_lines::ReplyLine;
 use crate::request_faults::RequestFault;
 use crate::request_lines::{Heard, hear};
-use crate::requests::Request;
 use crate::session_faults::SessionFault;
 use gk_lines::{LineBuffer, LineReader, ReadFault, Sink, Source, WriteFault, write_whole};
 use std::alloc::Global;
@@ -160,9 +160,9 @@ fn progress_with<R: Source, A: Answerer>(
     match hear(alloc, line.content(), answerer, reply) {
         Ok(Heard::Blank) => Ok(Progress::Blank),
         Ok(Heard::Answered) => Ok(Progress::Answered),
-        Ok(Heard::Reload { sequence, count }) => {
+        Ok(Heard::Owns { owner, count }) => {
             let taken = take_lines(alloc, count, lines, reader, line)?;
-            Ok(answer_reload(alloc, sequence, taken, answerer, reply))
+            Ok(answer_owner(alloc, owner, taken, answerer, reply))
         }
         Err(fault) => {
             show_fault(fault, reply);
@@ -171,28 +171,27 @@ fn progress_with<R: Source, A: Answerer>(
     }
 }
 
-/// Answers a reload, by what became of its lines. In a function of its own, so that no request
-/// clears the places of its answers.
+/// Answers a request with its lines, by what became of them. In a function of its own, so that no
+/// other request clears the places of its answers.
 #[cold]
 #[inline(never)]
-fn answer_reload<A: Answerer>(
+fn answer_owner<A: Answerer>(
     alloc: Global,
-    sequence: u32,
+    owner: LineOwner,
     lines: TakenLines,
     answerer: &mut A,
     reply: &mut ReplyLine,
 ) -> Progress
-    ensures { AnswersReload A.may_answer answerer.old sequence lines result reply.new.line
-        answerer.new }
+    ensures { AnswersOwner A.may_answer answerer.old (request_with owner)
+        (lines_without_memory owner) lines result reply.new.line answerer.new }
 {
     match lines {
         TakenLines::Whole(lines) => {
-            let reload = Request::Reload { sequence, lines };
-            answerer.answer_into(alloc, reload, reply);
+            answerer.answer_into(alloc, owner.request(lines), reply);
             Progress::Answered
         }
         TakenLines::NoMemory => {
-            reply.show(&no_memory(sequence));
+            reply.show(&owner.no_memory());
             Progress::Answered
         }
         TakenLines::CutShort => {

@@ -2,6 +2,8 @@
 #![tactic(auto)]
 
 #[cfg(test)]
+mod endpoint_file_tests;
+#[cfg(test)]
 mod fault_tests;
 #[cfg(test)]
 mod reply_tests;

@@ -137,42 +137,20 @@ module _ {S : Type 0} (MayAnswer : S → Request → Answer → S → Type 0)
 
 module _ {S : Type 0} (MayAnswer : S → Request → Answer → S → Type 0) where
   -- a session under a configuration that was read before
-  pub under_fails : (known new before after : Option (List ℕ)) (first begun last : S)
-      (fault : SessionFault) → first ≡ begun
+  pub under_serves : (known new before after : Option (List ℕ)) (first begun last : S)
+      (result : Result ℕ SessionFault) → first ≡ begun
       → KnownStep known new (λ bytes rest. (ahead : List ℕ) × (text : List ℕ) × IsReadAhead ahead ×
-      Ends MayAnswer bytes ahead rest first last text (Err fault) × Appends before after text)
+      Ends MayAnswer bytes ahead rest first last text result × Appends before after text)
       → KnownStep known new (λ bytes rest. (text : List ℕ) × ServesUnder MayAnswer begun bytes rest
-      text (Err (Session fault)) × Appends before after text)
-  under_fails None new before after first begun last fault same s = tt
-  under_fails (Some bytes) None before after first begun last fault same s = absurd s
-  under_fails (Some bytes) (Some rest) before after first begun last fault same s = (
+      text (Some (last, result)) × Appends before after text)
+  under_serves None new before after first begun last result same s = tt
+  under_serves (Some bytes) None before after first begun last result same s = absurd s
+  under_serves (Some bytes) (Some rest) before after first begun last result same s = (
     s.1,
     (
-      last,
       s.0,
       s.2,
-      subst (λ (b : S). Ends MayAnswer bytes s.0 rest b last s.1 (Err fault))
-          same s.3,
-    ),
-    s.4,
-  )
-
-  pub under_serves : (known new before after : Option (List ℕ)) (first begun last : S) (count : ℕ) →
-      first ≡ begun
-      → KnownStep known new (λ bytes rest. (ahead : List ℕ) × (text : List ℕ) × IsReadAhead ahead ×
-      Ends MayAnswer bytes ahead rest first last text (Ok count) × Appends before after text)
-      → KnownStep known new (λ bytes rest. (text : List ℕ) × ServesUnder MayAnswer begun bytes rest
-      text (Ok count) × Appends before after text)
-  under_serves None new before after first begun last count same s = tt
-  under_serves (Some bytes) None before after first begun last count same s = absurd s
-  under_serves (Some bytes) (Some rest) before after first begun last count same s = (
-    s.1,
-    (
-      last,
-      s.0,
-      s.2,
-      subst (λ (b : S). Ends MayAnswer bytes s.0 rest b last s.1 (Ok count))
-          same s.3,
+      subst (λ (b : S). Ends MayAnswer bytes s.0 rest b last s.1 result) same s.3,
     ),
     s.4,
   )

@@ -1,5 +1,5 @@
 -- A run: a configuration, and then requests.
-use Rattle.std.specs.Prelude.{◌≡◌, ◌⊎◌, ℕ, Bool, true, false, List, [], ◌++◌, Result, Ok, Err}
+use Rattle.std.specs.Prelude.{◌≡◌, ◌⊎◌, ℕ, Bool, true, false, List, [], ◌++◌, Option, Some, None, Result, Ok, Err}
 use Rattle.command_reader.specs.Configuration.{Configuration}
 use Rattle.command_reader.specs.Reading.{reading_in, MayRead}
 use Rattle.rulings.specs.declared.limits.Limits.{Limits}
@@ -15,6 +15,7 @@ use Rattle.gk_protocol.specs.Session.{IsReadAhead, Ends, is_read_fault, is_write
 use Rattle.configuration_reader.specs.declared.configuration.Until.TheVariants.{EndLine}
 use Rattle.configuration_reader.specs.declared.configuration.ConfigurationFault.{ConfigurationFault}
 use Rattle.configuration_reader.specs.declared.configuration.ConfigurationFault.TheVariants.{Line, Read}
+use Rattle.gkd.specs.declared.run.Ended.{Ended}
 use Rattle.gkd.specs.declared.run.RunFault.{RunFault}
 use Rattle.gkd.specs.declared.run.RunFault.TheVariants.{BadLimits, Config, Session, NoMemory}
 use Rattle.configuration_reader.specs.Configuration.{configuration_of, rest_of, IsUnended}
@@ -107,16 +108,17 @@ opening_run_fault_of opening.BadLimits = BadLimits
 opening_run_fault_of opening.NoMemory = NoMemory
 
 -- ---- a run under a configuration that was read before
+-- what is left of it: the core, and how its session ended; or why there was none
+abbrev pub how_ended : Result Ended RunFault → Option (CoreParts × Result ℕ SessionFault)
+how_ended (Ok ended) = Some (ended.core, ended.replies)
+how_ended (Err fault) = None
+
 module _ {S : Type 0} (MayAnswer : S → Request → Answer → S → Type 0) where
-  -- the bytes were served as a session that began in this state and ended so; or nothing was read
-  -- or written
-  abbrev pub ServesUnder : S → List ℕ → List ℕ → List ℕ → Result ℕ RunFault → Type 0
-  ServesUnder first bytes rest text (Ok count) =
-      (last : S) × (ahead : List ℕ) × IsReadAhead ahead
-      × Ends MayAnswer bytes ahead rest first last text (Ok count)
-  ServesUnder first bytes rest text (Err (Session fault)) =
-      (last : S) × (ahead : List ℕ) × IsReadAhead ahead
-      × Ends MayAnswer bytes ahead rest first last text (Err fault)
-  ServesUnder first bytes rest text (Err BadLimits) = (text ≡ []) × (rest ≡ bytes)
-  ServesUnder first bytes rest text (Err NoMemory) = (text ≡ []) × (rest ≡ bytes)
-  ServesUnder first bytes rest text (Err (Config fault)) = ⊥
+  -- the bytes were served as a session that began in this state and ended so, in that state; or
+  -- nothing was read or written
+  abbrev pub ServesUnder : S → List ℕ → List ℕ → List ℕ → Option (S × Result ℕ SessionFault)
+      → Type 0
+  ServesUnder first bytes rest text (Some (last, result)) =
+      (ahead : List ℕ) × IsReadAhead ahead
+      × Ends MayAnswer bytes ahead rest first last text result
+  ServesUnder first bytes rest text None = (text ≡ []) × (rest ≡ bytes)

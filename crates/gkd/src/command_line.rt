@@ -1,6 +1,8 @@
 //! The words of the command line.
 
 use clap::{Arg, ArgAction, ArgMatches, Command, Error};
+use gk_terms::limits::MOST_WORKERS;
+use gk_terms::read_number;
 use std::alloc::{AllocError, Global};
 
 /// The version of the program, as `--version` prints it.
@@ -12,12 +14,29 @@ pub enum Task<'a> {
     /// Without words: to read a configuration and then requests from standard input, and to write
     /// the replies.
     RunInput,
-    /// `run FILE`: to read the configuration from a file, and then requests from standard input,
-    /// and to write the replies.
-    RunFile { file: &'a str },
+    /// `run FILE [--record CSV]`: to read the configuration from a file, and then requests from
+    /// standard input, and to write the replies; at the end the calls, if that is asked for.
+    RunFile {
+        file: &'a str,
+        record: Option<&'a str>,
+    },
     /// `check FILE [--print]`: to say whether the configuration in a file is accepted, and to print
     /// it if that is asked for.
-    Check { file: &'a str, prints: bool },
+    Check {
+        file: &'a str,
+        prints: bool,
+    },
+    /// `trial FILE --calls CSV --endpoints FILE --workers N`: to report what the configuration in a
+    /// file would have answered to recorded calls.
+    Trial {
+        file: &'a str,
+        calls: &'a str,
+        endpoints: &'a str,
+        /// 1 to 64.
+        workers: u32,
+    },
+    /// This number of workers is not one from 1 to 64.
+    BadWorkers(&'a str),
 }
 
 /// What the words ask for. An error is a bad command line, or a call for help: its text and its
@@ -32,22 +51,43 @@ fn task_in<'a>(matches: &ArgMatches<'a>) -> Task<'a> {
     match matches.subcommand() {
         Some(("check", check)) => check_in(check),
         Some(("run", run)) => run_in(run),
+        Some(("trial", trial)) => trial_in(trial),
         _ => Task::RunInput,
     }
 }
 
-/// `run` with its file. `clap` refuses a command line without one.
+/// A word that is required: `clap` refuses a command line without it.
+fn word_in<'a>(matches: &ArgMatches<'a>, id: &str) -> &'a str {
+    matches.get_str(id).unwrap_or("")
+}
+
+/// `run` with its file.
 fn run_in<'a>(matches: &ArgMatches<'a>) -> Task<'a> {
     Task::RunFile {
-        file: matches.get_str("FILE").unwrap_or(""),
+        file: word_in(matches, "FILE"),
+        record: matches.get_str("record"),
     }
 }
 
-/// `check` with its file. `clap` refuses a command line without one.
+/// `check` with its file.
 fn check_in<'a>(matches: &ArgMatches<'a>) -> Task<'a> {
     Task::Check {
-        file: matches.get_str("FILE").unwrap_or(""),
+        file: word_in(matches, "FILE"),
         prints: matches.get_flag("print"),
+    }
+}
+
+/// `trial` with its files and its workers.
+fn trial_in<'a>(matches: &ArgMatches<'a>) -> Task<'a> {
+    let workers = word_in(matches, "workers");
+    match read_number(workers.as_bytes(), 1, MOST_WORKERS) {
+        Ok(workers) => Task::Trial {
+            file: word_in(matches, "FILE"),
+            calls: word_in(matches, "calls"),
+            endpoints: word_in(matches, "endpoints"),
+            workers,
+        },
+        Err(_) => Task::BadWorkers(workers),
     }
 }
 
@@ -62,17 +102,52 @@ fn commands<'a>(alloc: Global) -> Result<Command<'a>, AllocError> {
         .version(VERSION)
         .disable_help_subcommand(true)
         .subcommand(check_command(alloc)?)?
-        .subcommand(run_command(alloc)?)
+        .subcommand(run_command(alloc)?)?
+        .subcommand(trial_command(alloc)?)
 }
 
-/// `run FILE`.
+/// `run FILE [--record CSV]`.
 fn run_command<'a>(alloc: Global) -> Result<Command<'a>, AllocError> {
+    let record = named(alloc, "record", "CSV").help(
+        "Writes the calls of the run to this file at its end, for `gkd trial`",
+    );
     Command::new(alloc, "run")
         .about(
             "Reads the configuration from a file and then requests from standard input, and \
             writes a reply to each request on standard output",
         )
-        .arg(file(alloc))
+        .arg(file(alloc))?
+        .arg(record)
+}
+
+/// An option with a value.
+fn named<'a>(alloc: Global, name: &'a str, value: &'a str) -> Arg<'a> {
+    Arg::new(alloc, name)
+        .long(name)
+        .value_name(value)
+        .action(ArgAction::Set)
+}
+
+/// `trial FILE --calls CSV --endpoints FILE --workers N`.
+fn trial_command<'a>(alloc: Global) -> Result<Command<'a>, AllocError> {
+    let calls = named(alloc, "calls", "CSV")
+        .help("The calls, as `gkd run --record` wrote them")
+        .required(true);
+    let endpoints = named(alloc, "endpoints", "FILE")
+        .help("The endpoints that are registered: one RRQ line for each")
+        .required(true);
+    let workers = named(alloc, "workers", "N")
+        .help("How many threads share the work, 1 to 64; the report is the same for any number")
+        .required(true);
+    Command::new(alloc, "trial")
+        .about(
+            "Reports what the configuration in a file would have answered to recorded calls, and \
+            how much bandwidth would have been in use in each zone",
+        )
+        .arg(file(alloc))?
+        .arg(calls)?
+        .arg(endpoints)?
+        .arg(workers)
 }
 
 /// The file of a configuration.

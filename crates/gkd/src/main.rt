@@ -1,28 +1,32 @@
 //! `gkd`: the gatekeeper. Without words it reads a configuration and then requests from standard
 //! input, and writes a reply to each request on standard output. `gkd run FILE` reads the
-//! configuration from a file, and `gkd check FILE` says whether one is accepted.
+//! configuration from a file, `gkd check FILE` says whether one is accepted, and `gkd trial FILE`
+//! reports what one would have answered to recorded calls.
 #![tactic(auto)]
 
 mod command_line;
+mod files;
 pub mod laws;
 pub mod run;
+mod run_files;
+mod saying;
+mod trial_files;
 
-use admission::STATED_LIMITS;
 use clap::error::ErrorKind;
 use command_line::{Task, task_of};
-use command_reader::{Commands, LineFault};
 use configuration_reader::check;
 use configuration_reader::check::CheckFault;
-use configuration_reader::configuration::ConfigurationFault;
-use gk_lines::{Noted, ReadFault};
-use gk_protocol::SessionFault;
-use run::RunFault;
+use gk_lines::Noted;
+use run_files::{run_file, run_input};
+use saying::{UNWRITTEN, cannot_read, fail, refuse_configuration};
+use std::alloc::AllocGlobal;
 use std::io::{BufWriter, Write};
 use std::process::ExitCode;
+use std::rt::Runtime;
+use std::sync::Wait;
+use std::thread::Threads;
 use std::{env, fs, io};
-
-/// What is said if standard output takes no more.
-const UNWRITTEN: &str = "cannot write standard output";
+use trial_files::{TrialFiles, try_files};
 
 fn main(rt: HostRuntime) -> io::Result<ExitCode> {
     let words = match words(&rt) {
@@ -30,10 +34,34 @@ fn main(rt: HostRuntime) -> io::Result<ExitCode> {
         Err(error) => return refuse_words(&rt, &error),
     };
     match task_of(rt.alloc(), &words) {
-        Ok(Task::RunInput) => run_input(&rt),
-        Ok(Task::RunFile { file }) => run_file(&rt, file),
-        Ok(Task::Check { file, prints }) => check_file(&rt, file, prints),
+        Ok(task) => carry_out(&rt, task),
         Err(error) => refuse(&rt, &error),
+    }
+}
+
+/// Does what the command line asks for.
+fn carry_out<R: Runtime + AllocGlobal + Threads + Wait>(
+    rt: &R,
+    task: Task<'_>,
+) -> io::Result<ExitCode> {
+    match task {
+        Task::RunInput => run_input(rt),
+        Task::RunFile { file, record } => run_file(rt, file, record),
+        Task::Check { file, prints } => check_file(rt, file, prints),
+        Task::Trial {
+            file,
+            calls,
+            endpoints,
+            workers,
+        } => {
+            let files = TrialFiles {
+                candidate: file,
+                endpoints,
+                calls,
+            };
+            try_files(rt, &files, workers)
+        }
+        Task::BadWorkers(word) => refuse_workers(rt, word),
     }
 }
 
@@ -63,58 +91,14 @@ fn refuse(rt: &HostRuntime, error: &clap::Error) -> io::Result<ExitCode> {
     Ok(ExitCode::from(error.exit_code() as u8))
 }
 
-/// A run over standard input and output, within the stated limits.
-fn run_input(rt: &HostRuntime) -> io::Result<ExitCode> {
-    let mut reader = Noted::new(rt.reader());
-    let mut writer = Noted::new(io::writer(rt));
-    let result = run::run_over(rt.alloc(), STATED_LIMITS, &mut reader, &mut writer);
-    end_run(rt, result)
-}
-
-/// A run under the configuration in a file, over standard input and output, within the stated
-/// limits.
-fn run_file(rt: &HostRuntime, file: &str) -> io::Result<ExitCode> {
-    let commands = match configuration_in(rt, file) {
-        Ok(commands) => commands,
-        Err(ConfigurationFault::Line(fault)) => return refuse_configuration(rt, fault),
-        Err(ConfigurationFault::Read(_)) => return cannot_read(rt, file),
-    };
-    let mut reader = Noted::new(rt.reader());
-    let mut writer = Noted::new(io::writer(rt));
-    let result = run::run_under(
-        rt.alloc(),
-        STATED_LIMITS,
-        commands,
-        &mut reader,
-        &mut writer,
-    );
-    end_run(rt, result)
-}
-
-/// The configuration in a file.
-fn configuration_in(rt: &HostRuntime, file: &str) -> Result<Commands, ConfigurationFault> {
-    let Ok(opened) = fs::open(rt, file) else {
-        return Err(ConfigurationFault::Read(ReadFault::Failed));
-    };
-    let mut reader = Noted::new(opened);
-    check::configuration_of(rt.alloc(), &mut reader)
-}
-
-/// Says why a run ended, if it did not come to the end of its input.
-fn end_run(rt: &HostRuntime, ended: Result<u64, RunFault>) -> io::Result<ExitCode> {
-    match ended {
-        Ok(_) => Ok(ExitCode::SUCCESS),
-        Err(RunFault::Config(fault)) => refuse_configuration(rt, fault),
-        Err(RunFault::NoMemory | RunFault::Session(SessionFault::NoMemory)) => {
-            fail(rt, "no memory")
-        }
-        Err(RunFault::Session(_)) => fail(rt, "session fault"),
-        Err(RunFault::BadLimits) => fail(rt, "bad limits"),
-    }
+/// Says that a number of workers is not one.
+fn refuse_workers<R: Eprint>(rt: &R, word: &str) -> io::Result<ExitCode> {
+    eprintln!(rt; "error: invalid value '{word}' for '--workers <N>': not a number from 1 to 64")?;
+    Ok(ExitCode::from(2))
 }
 
 /// Checks the configuration in a file, and prints to standard output.
-fn check_file(rt: &HostRuntime, file: &str, prints: bool) -> io::Result<ExitCode> {
+fn check_file<R: Runtime + AllocGlobal>(rt: &R, file: &str, prints: bool) -> io::Result<ExitCode> {
     let Ok(opened) = fs::open(rt, file) else {
         return cannot_read(rt, file);
     };
@@ -137,24 +121,4 @@ fn check_file(rt: &HostRuntime, file: &str, prints: bool) -> io::Result<ExitCode
         Err(CheckFault::ReadFault(_)) => cannot_read(rt, file),
         Err(CheckFault::WriteFault) => fail(rt, UNWRITTEN),
     }
-}
-
-/// Names the first fault of a configuration on standard output.
-fn refuse_configuration(rt: &HostRuntime, fault: LineFault) -> io::Result<ExitCode> {
-    if println!(rt; "{fault}").is_err() {
-        return fail(rt, UNWRITTEN);
-    }
-    Ok(ExitCode::from(1))
-}
-
-/// Says on standard error that a file cannot be read.
-fn cannot_read(rt: &HostRuntime, file: &str) -> io::Result<ExitCode> {
-    eprintln!(rt; "gkd: cannot read {file}")?;
-    Ok(ExitCode::from(1))
-}
-
-/// Says on standard error why there is no answer.
-fn fail(rt: &HostRuntime, why: &str) -> io::Result<ExitCode> {
-    eprintln!(rt; "gkd: {why}")?;
-    Ok(ExitCode::from(1))
 }

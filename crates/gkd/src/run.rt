@@ -1,10 +1,11 @@
 //! A run: a configuration, and then requests.
 
-ghost use Rattle.std.specs.Prelude.{◌≡◌, ◌≢◌, ◌+◌, ◌^◌, ◌<◌, ◌≤◌, ◌↔◌, ℕ, List, true, false, Err, IfOk, IfErr, OnOk, IsErrOf};
+ghost use Rattle.std.specs.Prelude.{◌≡◌, ◌≢◌, ◌+◌, ◌^◌, ◌<◌, ◌≤◌, ◌↔◌, ℕ, List, true, false, Err, IfOk, IfErr, OnOk, OnErr, IsErrOf};
 ghost use Rattle.std.specs.Io.KnownBytes.{Appends, IsAtEnd};
 ghost use Rattle.gk_lines.specs.Streams.{NotesIf, KnownStep};
 ghost use Rattle.rulings.specs.Limits.{are_limits};
 ghost use Rattle.gk_protocol.specs.CoreAnswers.{MayAnswer};
+ghost use Rattle.gk_protocol.specs.Session.{is_read_fault, is_write_fault};
 ghost use Rattle.gkd.specs.Run as Spec;
 
 use admission::{Core, Limits, OpeningFault};
@@ -160,44 +161,52 @@ pub fn run_over<R: Source, W: Sink>(
     Ok(replies)
 }
 
+/// A session that has ended, and the core that it left.
+#[derive(Drop)]
+pub struct Ended {
+    /// The core, whose record has each request of the session that was recorded.
+    pub core: Core,
+    /// How many replies were written, or the fault at which the session ended.
+    pub replies: Result<u64, SessionFault>,
+}
+
 /// Answers the requests that the reader gives to its end, under a configuration that was read
-/// before. `BadLimits` and `NoMemory` come before the reader is touched; every other fault is
-/// `Session`.
+/// before, and gives back the core, also after a fault of the session. `BadLimits` and `NoMemory`
+/// come before the reader is touched; there is no other fault.
 pub fn run_under<R: Source, W: Sink>(
     alloc: Global,
     limits: Limits,
     commands: Commands,
     reader: &mut R,
     writer: &mut W,
-) -> Result<u64, RunFault>
+) -> Result<Ended, RunFault>
     ensures written { KnownStep (R.remaining reader.old) (R.remaining reader.new) (λ bytes rest.
         (text : List ℕ)
-        × Spec.ServesUnder MayAnswer (Spec.opened commands limits) bytes rest text result
+        × Spec.ServesUnder MayAnswer (Spec.opened commands limits) bytes rest text
+        (Spec.how_ended result)
         × Appends (W.contents writer.old) (W.contents writer.new) text) }
-    ensures end { OnOk result (IsAtEnd (R.remaining reader.new)) }
-    ensures buffered { result ≢ Err (RunFault.Session SessionFault.NoMemory) }
-    ensures untouched { (fault : _) → result ≡ Err fault → Spec.is_before_requests fault ≡ true
-        → (reader.new ≡ reader.old) × (writer.new ≡ writer.old) }
-    ensures reader_noted { NotesIf Spec.is_run_read_fault (R.has_failed reader.old)
-        (R.has_failed reader.new) result }
-    ensures writer_noted { NotesIf Spec.is_run_write_fault (W.has_failed writer.old)
-        (W.has_failed writer.new) result }
+    ensures end { IfOk result (λ ended. OnOk ended.replies (IsAtEnd (R.remaining reader.new))) }
+    ensures buffered { IfOk result (λ ended. ended.replies ≢ Err SessionFault.NoMemory) }
+    ensures untouched { OnErr result ((reader.new ≡ reader.old) × (writer.new ≡ writer.old)) }
+    ensures reader_noted { IfOk result (λ ended. NotesIf is_read_fault (R.has_failed reader.old)
+        (R.has_failed reader.new) ended.replies) }
+    ensures writer_noted { IfOk result (λ ended. NotesIf is_write_fault (W.has_failed writer.old)
+        (W.has_failed writer.new) ended.replies) }
     ensures limits { IsErrOf result RunFault.BadLimits ↔ (are_limits limits ≡ false) }
+    ensures memory { are_limits limits ≡ true → IfErr result
+        (λ fault. fault ≡ RunFault.NoMemory) }
     ensures turns { R.calls reader.old + 4294967295 < 2 ^ 64
         → R.calls reader.new ≤ R.calls reader.old + 4294967295 }
-    ensures turns_spent { result ≡ Err (RunFault.Session SessionFault.TurnsSpent)
+    ensures turns_spent { IfOk result (λ ended. ended.replies ≡ Err SessionFault.TurnsSpent
         → R.calls reader.old + 4294967295 < 2 ^ 64 → R.calls reader.new
-        ≡ R.calls reader.old + 4294967295 }
+        ≡ R.calls reader.old + 4294967295) }
 {
     if !limits.are_good() {
         return Err(RunFault::BadLimits);
     }
     let mut core = opened(alloc, commands, limits)?;
-    let result = session(alloc, reader, writer, &mut core, MOST_TURNS);
-    // By a call, as in `run_over`.
-    drop(core);
-    let replies = result?;
-    Ok(replies)
+    let replies = session(alloc, reader, writer, &mut core, MOST_TURNS);
+    Ok(Ended { core, replies })
 }
 
 /// A core in its opening state under a configuration.

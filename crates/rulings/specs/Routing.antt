@@ -1,10 +1,11 @@
 -- Where a call goes: the target of its digits, and then an endpoint of the target zone. This
 -- project's profile, after Cisco's flow for an admission request.
-use Rattle.std.specs.Prelude.{ℕ, List, Option, Some, None}
+use Rattle.std.specs.Prelude.{ℕ, List, Option, Some, None, option_map}
 use Rattle.command_reader.specs.declared.commands.Command.{Command}
 use Rattle.compiler.specs.Rows.{ZoneRow}
 use Rattle.compiler.specs.Technology.{default_technology_of}
-use Rattle.compiler.specs.Plan.{Target, RemoteZone, LocalZone, CallersZone, UnknownPrefix, plan_of}
+use Rattle.compiler.specs.Plan.{Target, RemoteZone, LocalZone, CallersZone, UnknownPrefix, plan_of, zone_of_target}
+use Rattle.compiler.specs.Zones.{zone_at}
 use Rattle.registry.specs.declared.endpoints.EndpointKind.{EndpointKind}
 use Rattle.registry.specs.declared.endpoints.EndpointKind.TheVariants.{Gateway, Terminal}
 use Rattle.registry.specs.Endpoint.{EndpointParts}
@@ -58,10 +59,26 @@ route_of_target commands endpoints caller digits (CallersZone technology) =
     in_local_zone commands endpoints caller None digits technology
 route_of_target commands endpoints caller digits UnknownPrefix = Refused refusals.UnknownPrefix
 
+-- the target of dialled digits, by the commands and the registered endpoints: today the commands
+-- alone decide
+abbrev pub target_for : List Command → List EndpointParts → List ℕ → Target
+target_for commands endpoints digits = plan_of commands digits
+
 -- where a call of a caller of this zone goes
 unfoldable pub route_of : List Command → List EndpointParts → List ℕ → List ℕ → Route
 route_of commands endpoints caller digits =
-    route_of_target commands endpoints caller digits (plan_of commands digits)
+    route_of_target commands endpoints caller digits (target_for commands endpoints digits)
+
+-- the zone of a number, or the caller's own if there is no number; nothing if the number is out of
+-- range
+abbrev pub zone_named : List Command → List ℕ → Option ℕ → Option (List ℕ)
+zone_named commands caller None = Some caller
+zone_named commands caller (Some number) = option_map (λ zone. zone.0) (zone_at commands number)
+
+-- the zone to which the digits lead a caller of this zone; the caller's own if they lead nowhere
+abbrev pub target_zone_of : List Command → List EndpointParts → List ℕ → List ℕ → List ℕ
+target_zone_of commands endpoints caller digits =
+    zone_of_target caller (target_for commands endpoints digits)
 
 -- ---- a target that needs no endpoint
 -- the route to a remote zone

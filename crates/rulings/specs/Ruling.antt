@@ -2,7 +2,7 @@
 -- it changes. The verdict, the entry and the effect of an event are parts of its ruling.
 use Rattle.std.specs.Prelude.{ℕ, ◌+◌, List, Option, Some, None, if◌then◌else◌}
 use Rattle.compiler.specs.Zones.{zone_meant}
-use Rattle.compiler.specs.Plan.{Target, plan_of, zone_of_target, is_remote}
+use Rattle.compiler.specs.Plan.{Target, zone_of_target, is_remote}
 use Rattle.registry.specs.Endpoint.{EndpointParts}
 use Rattle.registry.specs.Registration.{registration_refusal, endpoint_of, is_registered}
 use Rattle.bandwidth.specs.declared.open_call.OpenCall.{OpenCall}
@@ -25,7 +25,7 @@ use Rattle.rulings.specs.declared.rulings.Effect.{Effect}
 use Rattle.rulings.specs.declared.rulings.Effect.TheVariants as effects
 use Rattle.rulings.specs.State.{State}
 use Rattle.rulings.specs.Events.{PlainEvent, Registering, Unregistering, Admitting, Changing, Releasing, Reloading}
-use Rattle.rulings.specs.Routing.{route_of}
+use Rattle.rulings.specs.Routing.{target_for, route_of}
 
 -- what is ruled of an event, apart from counts and memory: the verdict; of an admission, the zone
 -- of the caller, if it is registered, and where the digits lead, if that was looked for; and what
@@ -121,7 +121,7 @@ admission_ruling s call digits units None =
     unrouted (AdmitRefused call admit.CallerNotRegistered) effects.Nothing
 admission_ruling s call digits units (Some caller) =
     if is_open s.calls call then call_open_ruling caller call
-    else admission_to s caller call units (plan_of s.commands digits)
+    else admission_to s caller call units (target_for s.commands s.endpoints digits)
     (route_of s.commands s.endpoints caller.zone digits)
 
 -- ---- bandwidth changes

@@ -80,9 +80,19 @@ are_endpoints_full s e verdict =
     is_granted verdict && not (is_registered s.endpoints e.id)
     && nat_le s.limits.endpoints (length s.endpoints)
 
+-- whether a ruling opens a call
+abbrev pub opens_call : Effect → Bool
+opens_call Nothing = false
+opens_call (Put zone) = false
+opens_call (Remove id) = false
+opens_call (Open call) = true
+opens_call (Resize call id units) = false
+opens_call (Close call id) = false
+opens_call PutInForce = false
+
 -- a call would be opened, and as many are open as the limit allows
-abbrev pub are_calls_full : State → Reply → Bool
-are_calls_full s verdict = is_granted verdict && nat_le s.limits.calls (length s.calls)
+abbrev pub are_calls_full : State → Effect → Bool
+are_calls_full s effect = opens_call effect && nat_le s.limits.calls (length s.calls)
 
 -- the configuration was replaced as often as the limit allows
 abbrev pub are_reloads_spent : State → Bool
@@ -103,7 +113,7 @@ count_refusal s (Registering e) ruling =
     else record_refusal s (Registering e) ruling.effect
 count_refusal s (Unregistering id) ruling = record_refusal s (Unregistering id) ruling.effect
 count_refusal s (Admitting id call digits units) ruling =
-    if are_calls_full s ruling.verdict then Some (AdmitRefused call admit.CallsFull)
+    if are_calls_full s ruling.effect then Some (AdmitRefused call admit.CallsFull)
     else record_refusal s (Admitting id call digits units) ruling.effect
 count_refusal s (Changing id call units) ruling =
     record_refusal s (Changing id call units) ruling.effect

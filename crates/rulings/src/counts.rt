@@ -115,9 +115,9 @@ impl Machine {
     /// Whether a call would be opened, and as many are open as the limit allows.
     fn are_calls_full(&self, ruling: &LentRuling<'_>) -> bool
         ensures { result
-            ≡ Spec.are_calls_full (States.bare self.now) (ruling_meant ruling.now).verdict }
+            ≡ Spec.are_calls_full (States.bare self.now) (ruling_meant ruling.now).effect }
     {
-        ruling.is_granted() && self.limits().calls as usize <= self.calls().len()
+        ruling.opens_call() && self.limits().calls as usize <= self.calls().len()
     }
 
     /// Whether the configuration was replaced as often as the limit allows.

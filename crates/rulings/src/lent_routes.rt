@@ -5,6 +5,7 @@ ghost use Rattle.rulings.specs.Lent as Spec;
 ghost use Rattle.rulings.specs.Routing.{destination_of};
 
 use crate::routes::{Destination, Route, RouteRefusal};
+use compiler::ZoneNo;
 use gk_terms::{Address, Name};
 use registry::{Endpoint, EndpointKind};
 
@@ -83,4 +84,14 @@ impl<'a> LentRoute<'a> {
             LentRoute::Refused(refusal) => Route::Refused(*refusal),
         }
     }
+}
+
+/// Where digits lead a caller, and the zone of the destination.
+#[derive(Clone, Copy)]
+pub struct Led<'a> {
+    /// Where they lead.
+    pub route: LentRoute<'a>,
+    /// The number of the zone of the destination; none if it is the caller's own zone, or if the
+    /// digits lead nowhere.
+    pub zone: Option<ZoneNo>,
 }

@@ -2,7 +2,7 @@
 
 ghost use Rattle.std.specs.Prelude.{◌≡◌};
 ghost use Rattle.rulings.specs.Lent as Spec;
-ghost use Rattle.rulings.specs.Step.{is_granted, is_recorded, places_needed};
+ghost use Rattle.rulings.specs.Step.{is_granted, is_recorded, places_needed, opens_call};
 
 use crate::lent_routes::DestinationKind;
 use crate::replies::{
@@ -121,6 +121,13 @@ impl LentRuling<'_> {
             | LentRuling::ChangeRefused { .. }
             | LentRuling::ReleaseRefused { .. } => false,
         }
+    }
+
+    /// Whether it opens a call.
+    pub fn opens_call(&self) -> bool
+        ensures { result ≡ opens_call (Spec.ruling_meant self.now).effect }
+    {
+        matches!(self, LentRuling::Admitted { .. })
     }
 
     /// Whether it is recorded, if no count refuses it: each is but a refused release.

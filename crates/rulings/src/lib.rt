@@ -17,7 +17,7 @@ mod rulings;
 mod verdicts;
 
 pub use events::{Event, EventKind, LentEvent};
-pub use lent_routes::DestinationKind;
+pub use lent_routes::{DestinationKind, Led, LentRoute};
 pub use lent_rulings::LentRuling;
 pub use limits::{Limits, STATED_LIMITS};
 pub use machine::Machine;
@@ -28,5 +28,5 @@ pub use replies::{
 };
 pub use reply_takers::{KeptReply, ReplyTaker};
 pub use routes::{Destination, Route, RouteRefusal};
-pub use routing::route;
+pub use routing::{led, route};
 pub use rulings::Effect;

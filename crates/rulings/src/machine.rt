@@ -105,9 +105,10 @@ impl Machine {
         &self.calls
     }
 
-    /// The limits.
+    /// The limits, each within its range.
     pub fn limits(&self) -> Limits
-        ensures { result ≡ self.now.limits }
+        ensures limits { result ≡ self.now.limits }
+        ensures good { are_limits result ≡ true }
     {
         self.limits
     }

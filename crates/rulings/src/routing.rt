@@ -1,6 +1,6 @@
 //! Where dialled digits lead: the plan of the tables, and then an endpoint of the target zone.
 
-ghost use Rattle.std.specs.Prelude.{◌≡◌, List, Some, None, IfSome, IsSome, option_and_then};
+ghost use Rattle.std.specs.Prelude.{◌≡◌, ℕ, List, Some, None, IfSome, IsSome, option_and_then};
 ghost use Rattle.std.specs.Option.{option_copied};
 ghost use Rattle.command_reader.specs.declared.commands.Command.{Command};
 ghost use Rattle.compiler.specs.Plan as Plans;
@@ -10,7 +10,7 @@ ghost use Rattle.registry.specs.Registration.{by_alias};
 ghost use Rattle.rulings.specs.Lent.{route_meant};
 ghost use Rattle.rulings.specs.Routing as Spec;
 
-use crate::lent_routes::{DestinationKind, LentRoute};
+use crate::lent_routes::{DestinationKind, Led, LentRoute};
 use crate::routes::{Route, RouteRefusal};
 use compiler::{Plan, RowNo, Tables, ZoneNo};
 use gk_terms::{Dialled, Name, TechPrefix};
@@ -28,7 +28,40 @@ pub fn route(tables: &Tables, registry: &Registry, caller: &Name, digits: &Diall
     ensures { result ≡ Spec.route_of
         tables.now.commands registry.now.endpoints caller.now digits.now }
 {
-    route_of_plan(tables, registry, &tables.plan(digits), caller, digits).route()
+    led(tables, registry, caller, digits).route.route()
+}
+
+/// Where the digits lead a caller of this zone, as `route` has it, with the zone of the
+/// destination.
+pub fn led<'a>(
+    tables: &'a Tables,
+    registry: &'a Registry,
+    caller: &Name,
+    digits: &Dialled,
+) -> Led<'a>
+    ensures route { route_meant result.route ≡ Spec.route_of
+        tables.now.commands registry.now.endpoints caller.now digits.now }
+    ensures zone { Spec.zone_named tables.now.commands caller.now result.zone
+        ≡ Some (Spec.target_zone_of tables.now.commands registry.now.endpoints caller.now
+        digits.now) }
+{
+    let plan = tables.plan(digits);
+    Led {
+        route: route_of_plan(tables, registry, &plan, caller, digits),
+        zone: zone_of_plan(tables, &plan),
+    }
+}
+
+/// The number of the zone to which a plan leads; none if it is the caller's own, or nowhere.
+fn zone_of_plan(tables: &Tables, plan: &Plan) -> Option<ZoneNo>
+    ensures { (caller : List ℕ) → IfSome (Plans.target_of tables.now.commands plan.now)
+        (λ target. Spec.zone_named tables.now.commands caller result
+        ≡ Some (Plans.zone_of_target caller target)) }
+{
+    match plan {
+        Plan::Remote(zone) | Plan::Local { zone, .. } => Some(*zone),
+        Plan::Caller { .. } | Plan::UnknownPrefix => None,
+    }
 }
 
 #[tactic(auto, unfolding(crate::specs::Routing::route_of))]
@@ -41,7 +74,7 @@ pub fn route_of_plan<'a>(
     digits: &Dialled,
 ) -> LentRoute<'a>
     requires planned { Plans.target_of tables.now.commands plan.now
-        ≡ Some (Plans.plan_of tables.now.commands digits.now) }
+        ≡ Some (Spec.target_for tables.now.commands registry.now.endpoints digits.now) }
     ensures { route_meant result ≡ Spec.route_of
         tables.now.commands registry.now.endpoints caller.now digits.now }
 {

@@ -1,0 +1,262 @@
+-- What one entry adds to the rows of a record, and to the calls that are open after them.
+use Rattle.std.proofs.Common.{◌≡◌, ◌≤◌, ℕ, ◌+◌, ◌==◌, Bool, true, false, not, ◌&&◌, ◌||◌, cond, List, [], ◌∷◌, length, nat_le, Option, Some, None, refl, sym, ap, subst, ◌∙◌, true≢false, arith}
+use Rattle.std.specs.Option.{option_and_then}
+use Rattle.std.proofs.lemmas.Bool.{ne_eqb, leb-false, lt-leb}
+use Rattle.command_reader.specs.declared.commands.Command.{Command}
+use Rattle.registry.specs.Endpoint.{EndpointParts}
+use Rattle.bandwidth.specs.declared.open_call.OpenCall.{OpenCall}
+use Rattle.bandwidth.specs.Calls.{is_open as is_open_call, with_call, without_call, with_changed}
+use Rattle.bandwidth.proofs.CallLemmas.{Ascend}
+use Rattle.call_rows.specs.declared.rows.AdmittedCall.{AdmittedCall}
+use Rattle.call_rows.specs.declared.rows.CallEvent.{CallEvent}
+use Rattle.call_rows.specs.declared.rows.CallEvent.TheVariants as rows
+use Rattle.call_rows.specs.Rows.{RowParts, leads_somewhere, is_of_a_call, is_row}
+use Rattle.call_rows.specs.OpenCalls.{Open as OpenOne, with_units, without, opens_after}
+use Rattle.call_rows.specs.declared.snapshots.PushFault.{PushFault}
+use Rattle.call_rows.specs.declared.snapshots.PushFault.TheVariants as faults
+use Rattle.call_rows.specs.Pushing.{most_open, is_open, opening_fault, event_fault}
+use Rattle.rulings.specs.declared.rulings.Effect.{Effect}
+use Rattle.rulings.specs.declared.rulings.Effect.TheVariants.{Nothing, Put, Remove, Open, Resize, Close, PutInForce}
+use Rattle.rulings.specs.Founded.{IsFounded}
+use Rattle.rulings.specs.State.{State}
+use Rattle.rulings.specs.Events.{PlainEvent, endpoint_asking, put_in_force}
+use Rattle.rulings.specs.Step.{with_registered, with_commands, with_effect}
+use Rattle.decision_record.specs.Rows.{row_of}
+use Rattle.admission.proofs.CallsLemmas.{length-with_changed}
+use Rattle.admission.proofs.OpenRowLemmas.{one_if, times, open_if_there, closed_if_not_there, times_units, length_units, times_without, length_without, held_times, not_held, held_with, length_with, IsFound, found_if_owned, held_without, held_changed, length_closed, held_there}
+use Rattle.admission.proofs.ToldRowLemmas.{opens_none, IsGranted, Tells}
+
+-- the calls that rows leave open are those of a state, but for a call of number 0, which has no row
+pub record AreOpen (opens : List OpenOne) (calls : List OpenCall) : Type 0 where
+  pub same : (number : ℕ) → (number == 0) ≡ false → times number opens ≡ held_times number calls
+  pub few : length opens + held_times 0 calls ≤ length calls
+
+-- the row that comes next, if there is one, is not refused for its call, and then the calls that
+-- rows leave open are these
+abbrev pub Passes : List OpenOne → ℕ → Option RowParts → List OpenCall → Type 0
+Passes opens seen None calls = AreOpen opens calls
+Passes opens seen (Some row) calls =
+    (event_fault opens row.event ≡ None) × AreOpen (opens_after seen row.event opens) calls
+
+-- ---- whether there is a row
+-- a row of an admission that leads to a destination, by the tests of its type
+admitted_by : (row : RowParts) (first call granted leads : Bool) → first ≡ false → leads ≡ true
+    → cond (not first && (not call && (not granted || leads))) (Some row) None
+    ≡ cond call None (Some row)
+admitted_by row true call granted leads positive leading = absurd (true≢false positive)
+admitted_by row false call granted false positive leading = absurd (true≢false (sym leading))
+admitted_by row false true true true positive leading = refl
+admitted_by row false true false true positive leading = refl
+admitted_by row false false true true positive leading = refl
+admitted_by row false false false true positive leading = refl
+
+other_by : (row : RowParts) (first call : Bool) → first ≡ false
+    → cond (not first && not call) (Some row) None ≡ cond call None (Some row)
+other_by row true call positive = absurd (true≢false positive)
+other_by row false true positive = refl
+other_by row false false positive = refl
+
+module _ (opens : List OpenOne) (seen number : ℕ) (positive : (number == 0) ≡ false) where
+  -- the row of this event
+  abbrev row_saying : CallEvent → RowParts
+  row_saying event = record { number = number; event = event }
+
+  -- nothing is said of a call that is open
+  quiet : (said : Option CallEvent) (calls : List OpenCall) → opens_none said ≡ true
+      → AreOpen opens calls → Passes opens seen (option_and_then (row_of number) said) calls
+  quiet None calls told are = are
+  quiet (Some (rows.Changed call units)) calls told are = absurd (true≢false (sym told))
+  quiet (Some (rows.Released call)) calls told are = absurd (true≢false (sym told))
+  quiet (Some (rows.Admitted asked)) calls told are =
+      by_grant asked.granted refl told (is_row (row_saying (rows.Admitted asked)))
+    where
+      by_grant : (granted : Bool) → asked.granted ≡ granted → not granted ≡ true → (t : Bool)
+          → Passes opens seen (cond t (Some (row_saying (rows.Admitted asked))) None) calls
+      by_grant true is told t = absurd (true≢false (sym told))
+      by_grant false is told false = are
+      by_grant false is told true = (
+        ap (λ g. cond g (opening_fault asked.call opens) None) is,
+        subst (λ g. AreOpen
+            (cond g (record { call = asked.call; units = asked.units; admission = seen } ∷ opens)
+            opens) calls) (sym is) are,
+      )
+
+  -- a call is opened
+  opened : (asked : AdmittedCall) (calls : List OpenCall) (call : OpenCall) (most : ℕ)
+      → asked.granted ≡ true → leads_somewhere asked.route ≡ true → asked.call ≡ call.number
+      → AreOpen opens calls → is_open_call calls call.number ≡ false
+      → nat_le most (length calls) ≡ false → most ≤ most_open
+      → Passes opens seen (row_of number (rows.Admitted asked)) (with_call calls call)
+  opened asked calls call most granted leads is are closed room limited =
+      subst (λ o. Passes opens seen o (with_call calls call))
+      (sym (admitted_by (row_saying (rows.Admitted asked)) (number == 0) (asked.call == 0)
+      asked.granted (leads_somewhere asked.route) positive leads))
+      (by (asked.call == 0) refl)
+    where
+      longer : length (with_call calls call) ≡ length calls + 1
+      longer = length_with calls call closed
+
+      held : (n : ℕ) → held_times n (with_call calls call)
+          ≡ held_times n calls + one_if (asked.call == n)
+      held n =
+          held_with n calls call closed
+          ∙ ap (λ m. held_times n calls + one_if (m == n)) (sym is)
+
+      by : (t : Bool) → (asked.call == 0) ≡ t
+          → Passes opens seen (cond t None (Some (row_saying (rows.Admitted asked))))
+          (with_call calls call)
+      by true none = record {
+        same = λ n other.
+            let unlike = ne_eqb asked.call n (λ e. true≢false
+            (sym none ∙ ap (λ m. m == 0) e ∙ other)) in
+            let more = held n in
+            let before = are.same n other in
+            let nothing = ap one_if unlike in
+            omega (arith, more, before, nothing);
+        few = let more = held 0 in let one = ap one_if none in
+            let before = are.few in
+            omega (arith, more, one, before, longer);
+      }
+      by false some = (
+        ap (λ g. cond g (opening_fault asked.call opens) None) granted
+            ∙ ap (λ t. cond t (Some faults.CallOpen)
+            (cond (nat_le most_open (length opens)) (Some faults.TooMany) None)) shut
+            ∙ ap (λ t. cond t (Some faults.TooMany) None) fits,
+        subst (λ g. AreOpen
+            (cond g (record { call = asked.call; units = asked.units; admission = seen } ∷ opens)
+            opens) (with_call calls call)) (sym granted)
+            (record {
+              same = λ n other. let more = held n in let before = are.same n other in
+                  omega (arith, more, before);
+              few = let more = held 0 in let none = ap one_if some in
+                  let before = are.few in
+                  omega (arith, more, none, before, longer);
+            }),
+      )
+        where
+          shut : is_open asked.call opens ≡ false
+          shut =
+              closed_if_not_there asked.call opens
+              (are.same asked.call some
+              ∙ ap (λ n. held_times n calls) is ∙ not_held call.number calls closed)
+
+          fits : nat_le most_open (length opens) ≡ false
+          fits =
+              let before = are.few in
+              let below = leb-false most (length calls) room in
+              lt-leb most_open (length opens) (omega (arith, before, below, limited))
+
+  -- a call is given other units
+  resized : (calls : List OpenCall) (call units : ℕ) → IsFound calls call → Ascend calls
+      → AreOpen opens calls
+      → Passes opens seen (row_of number (rows.Changed call units)) (with_changed calls call units)
+  resized calls call units is_found order are =
+      subst (λ o. Passes opens seen o (with_changed calls call units))
+      (sym (other_by (row_saying (rows.Changed call units)) (number == 0) (call == 0) positive))
+      (by (call == 0) refl)
+    where
+      by : (t : Bool) → (call == 0) ≡ t
+          → Passes opens seen (cond t None (Some (row_saying (rows.Changed call units))))
+          (with_changed calls call units)
+      by true none = record {
+        same = λ n other. are.same n other ∙ sym (held_changed n calls call is_found order units);
+        few = let same = held_changed 0 calls call is_found order units in
+            let long = length-with_changed calls call units in
+            let before = are.few in omega (arith, same, long, before);
+      }
+      by false some = (
+        ap (λ t. cond t None (Some faults.NoCall))
+            (open_if_there call opens
+            (subst (λ n. 1 ≤ n) (sym (are.same call some)) (held_there calls call is_found))),
+        record {
+          same = λ n other.
+              times_units n call units opens ∙ are.same n other
+              ∙ sym (held_changed n calls call is_found order units);
+          few = let same = held_changed 0 calls call is_found order units in
+              let long = length-with_changed calls call units in
+              let as_long = length_units call units opens in
+              let before = are.few in omega (arith, same, long, as_long, before);
+        },
+      )
+
+  -- a call is closed
+  closed : (calls : List OpenCall) (call : ℕ) → IsFound calls call → Ascend calls
+      → AreOpen opens calls
+      → Passes opens seen (row_of number (rows.Released call)) (without_call calls call)
+  closed calls call is_found order are =
+      subst (λ o. Passes opens seen o (without_call calls call))
+      (sym (other_by (row_saying (rows.Released call)) (number == 0) (call == 0) positive))
+      (by (call == 0) refl)
+    where
+      shorter : length (without_call calls call) + 1 ≡ length calls
+      shorter = length_closed 0 calls call is_found order
+
+      by : (t : Bool) → (call == 0) ≡ t
+          → Passes opens seen (cond t None (Some (row_saying (rows.Released call))))
+          (without_call calls call)
+      by true none = record {
+        same = λ n other.
+            let unlike = ne_eqb call n (λ e. true≢false
+            (sym none ∙ ap (λ m. m == 0) e ∙ other)) in
+            let fewer = held_without n calls call is_found order in
+            let before = are.same n other in
+            let nothing = ap one_if unlike in
+            omega (arith, fewer, before, nothing);
+        few = let fewer = held_without 0 calls call is_found order in
+            let one = ap one_if none in
+            let before = are.few in omega (arith, fewer, one, before, shorter);
+      }
+      by false some = (
+        ap (λ t. cond t None (Some faults.NoCall)) (open_if_there call opens there),
+        record {
+          same = λ n other.
+              let fewer = held_without n calls call is_found order in
+              let less = times_without n call opens there in
+              let before = are.same n other in omega (arith, fewer, less, before);
+          few = let fewer = held_without 0 calls call is_found order in
+              let less = length_without call opens there in
+              let none = ap one_if some in
+              let before = are.few in omega (arith, fewer, less, none, before, shorter);
+        },
+      )
+        where
+          there : 1 ≤ times call opens
+          there = subst (λ n. 1 ≤ n) (sym (are.same call some)) (held_there calls call is_found)
+
+  -- ---- whatever is ruled
+  pub effect_passes : (s : State) (event : PlainEvent) (said : Option CallEvent) (effect : Effect)
+      → Tells said effect → IsFounded s event effect → Ascend s.calls
+      → s.limits.calls ≤ most_open → AreOpen opens s.calls
+      → Passes opens seen (option_and_then (row_of number) said) (with_effect s event effect).calls
+  effect_passes s event said Nothing told founded order limited are =
+      quiet said s.calls told are
+  effect_passes s event said (Put zone) told founded order limited are =
+      subst (λ o. Passes opens seen (option_and_then (row_of number) o)
+      (with_registered s zone (endpoint_asking event)).calls) (sym told)
+      (by (endpoint_asking event))
+    where
+      by : (asking : Option EndpointParts) → AreOpen opens (with_registered s zone asking).calls
+      by None = are
+      by (Some e) = are
+  effect_passes s event said (Remove id) told founded order limited are =
+      subst (λ o. Passes opens seen (option_and_then (row_of number) o) s.calls) (sym told) are
+  effect_passes s event said (Open call) told founded order limited are =
+      subst (λ o. Passes opens seen (option_and_then (row_of number) o) (with_call s.calls call))
+      (sym told.said_is)
+      (opened told.asked s.calls call s.limits.calls told.granted told.leads told.number_is are
+      founded.closed founded.room limited)
+  effect_passes s event said (Resize call id units) told founded order limited are =
+      subst (λ o. Passes opens seen (option_and_then (row_of number) o)
+      (with_changed s.calls call units)) (sym told)
+      (resized s.calls call units (found_if_owned s.calls call id founded) order are)
+  effect_passes s event said (Close call id) told founded order limited are =
+      subst (λ o. Passes opens seen (option_and_then (row_of number) o)
+      (without_call s.calls call)) (sym told)
+      (closed s.calls call (found_if_owned s.calls call id founded) order are)
+  effect_passes s event said PutInForce told founded order limited are =
+      subst (λ o. Passes opens seen (option_and_then (row_of number) o)
+      (with_commands s (put_in_force event)).calls) (sym told) (by (put_in_force event))
+    where
+      by : (asked : Option (List Command)) → AreOpen opens (with_commands s asked).calls
+      by None = are
+      by (Some commands) = are

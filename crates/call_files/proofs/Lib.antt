@@ -1,0 +1,6 @@
+pub mod CallsLemmas
+pub mod FieldLemmas
+pub mod ReadLemmas
+pub mod RouteLemmas
+pub mod WriterLemmas
+pub mod read_back

@@ -1,0 +1,209 @@
+//! Writing a call file.
+
+ghost use Rattle.std.specs.Prelude.{◌≡◌, ◌++◌, OnOk, OnErr};
+ghost use Rattle.std.specs.Io.KnownBytes.{Appends};
+ghost use Rattle.gk_lines.specs.Streams.{NotesIf, AppendsFront, AppendsUpTo};
+ghost use Rattle.csv.specs.Writing.{default_writer, row_text};
+ghost use Rattle.call_rows.specs.declared.rows.CallEvent.TheVariants as events;
+ghost use Rattle.call_files.specs.Rows.{fields_from, granted_word, header};
+ghost use Rattle.call_files.specs.Calls.{SaysRows, calls_text, row_said, rows_said};
+ghost use Rattle.call_files.specs.RowWriter.{is_write_fault};
+
+use crate::route_texts::show_route;
+use crate::row_writer::{RowWriter, WriteRowsFault};
+use crate::sound_rows::row_is_sound;
+use call_rows::{AdmittedCall, CallEvent, CallRow, Snapshot};
+use gk_lines::{LineBuffer, Sink};
+use gk_terms::Units;
+use itoa::Buffer;
+use std::alloc::Global;
+
+/// Writes the call file of a snapshot's rows: the header, and a record for each row, as `csv`
+/// writes them by default. `read_calls` reads it as the same rows: its first record is the header,
+/// and those after it say the rows, without a fault.
+///
+/// For a writer that had not failed before, `WriteFault` comes exactly if it fails in this call.
+/// After a fault the writer has taken a front of the text.
+pub fn write_calls<W: Sink>(
+    alloc: Global,
+    snapshot: &Snapshot,
+    writer: &mut W,
+) -> Result<(), WriteRowsFault>
+    ensures whole { OnOk result (Appends (W.contents writer.old) (W.contents writer.new)
+        (calls_text snapshot.now.rows)) }
+    ensures front { OnErr result (AppendsFront (W.contents writer.old) (W.contents writer.new)
+        (calls_text snapshot.now.rows)) }
+    ensures noted { NotesIf is_write_fault (W.has_failed writer.old) (W.has_failed writer.new)
+        result }
+    ensures reads_back { OnOk result (SaysRows (calls_text snapshot.now.rows) snapshot.now.rows) }
+{
+    let mut rows = RowWriter::new(alloc);
+    write_header(&mut rows, writer)?;
+    write_rows(&mut rows, snapshot, writer)?;
+    rows.send(writer)
+}
+
+/// Writes the header.
+fn write_header<W: Sink>(rows: &mut RowWriter, writer: &mut W) -> Result<(), WriteRowsFault>
+    ensures added { OnOk result (AppendsUpTo (W.contents writer.old) (W.contents writer.new)
+        (rows.old ++ row_text default_writer header) rows.new) }
+    ensures front { OnErr result (AppendsFront (W.contents writer.old) (W.contents writer.new)
+        (rows.old ++ row_text default_writer header)) }
+    ensures noted { NotesIf is_write_fault (W.has_failed writer.old) (W.has_failed writer.new)
+        result }
+{
+    let fields: [&[u8]; 8] = [
+        b"number", b"event", b"call", b"zone", b"digits", b"units", b"granted", b"route",
+    ];
+    rows.row(&fields, writer)
+}
+
+/// Writes the rows.
+fn write_rows<W: Sink>(
+    rows: &mut RowWriter,
+    snapshot: &Snapshot,
+    writer: &mut W,
+) -> Result<(), WriteRowsFault>
+    ensures added { OnOk result (AppendsUpTo (W.contents writer.old) (W.contents writer.new)
+        (rows.old ++ rows_said snapshot.now.rows) rows.new) }
+    ensures front { OnErr result (AppendsFront (W.contents writer.old) (W.contents writer.new)
+        (rows.old ++ rows_said snapshot.now.rows)) }
+    ensures noted { NotesIf is_write_fault (W.has_failed writer.old) (W.has_failed writer.new)
+        result }
+    ensures reads_back { OnOk result (SaysRows (calls_text snapshot.now.rows) snapshot.now.rows) }
+{
+    for place in 0..snapshot.len() {
+        let Some(row) = snapshot.row(place) else {
+            unreachable!()
+        };
+        row_is_sound(&row);
+        write_row(rows, &row, writer)?;
+    }
+    Ok(())
+}
+
+/// Writes a row.
+fn write_row<W: Sink>(
+    rows: &mut RowWriter,
+    row: &CallRow,
+    writer: &mut W,
+) -> Result<(), WriteRowsFault>
+    ensures added { OnOk result (AppendsUpTo (W.contents writer.old) (W.contents writer.new)
+        (rows.old ++ row_said row.now) rows.new) }
+    ensures front { OnErr result (AppendsFront (W.contents writer.old) (W.contents writer.new)
+        (rows.old ++ row_said row.now)) }
+    ensures noted { NotesIf is_write_fault (W.has_failed writer.old) (W.has_failed writer.new)
+        result }
+{
+    let number = row.number();
+    match row.event() {
+        CallEvent::Admitted(asked) => write_admitted(rows, number, asked, writer),
+        CallEvent::Changed { call, units } => write_changed(rows, number, *call, *units, writer),
+        CallEvent::Released { call } => write_released(rows, number, *call, writer),
+    }
+}
+
+/// Writes the row of an admission.
+fn write_admitted<W: Sink>(
+    rows: &mut RowWriter,
+    number: u32,
+    asked: &AdmittedCall,
+    writer: &mut W,
+) -> Result<(), WriteRowsFault>
+    ensures added { OnOk result (AppendsUpTo (W.contents writer.old) (W.contents writer.new)
+        (rows.old ++ row_text default_writer (fields_from number (events.Admitted asked.now)))
+        rows.new) }
+    ensures front { OnErr result (AppendsFront (W.contents writer.old) (W.contents writer.new)
+        (rows.old ++ row_text default_writer (fields_from number (events.Admitted asked.now)))) }
+    ensures noted { NotesIf is_write_fault (W.has_failed writer.old) (W.has_failed writer.new)
+        result }
+{
+    let mut number_text = Buffer::new();
+    let mut call_text = Buffer::new();
+    let mut units_text = Buffer::new();
+    let mut route_text = LineBuffer::new();
+    show_route(&mut route_text, &asked.route);
+    let (zone, digits) = (asked.zone, asked.digits);
+    let fields: [&[u8]; 8] = [
+        number_text.format(number).as_bytes(),
+        b"ARQ",
+        call_text.format(asked.call).as_bytes(),
+        zone.as_bytes(),
+        digits.as_bytes(),
+        units_text.format(asked.units.value()).as_bytes(),
+        granted_word(asked.granted),
+        route_text.as_bytes(),
+    ];
+    rows.row(&fields, writer)
+}
+
+/// Whether an admission was granted, in a word.
+fn granted_word(granted: bool) -> &'static [u8]
+    ensures { result.now ≡ granted_word granted }
+{
+    if granted { b"yes" } else { b"no" }
+}
+
+#[tactic(auto, using(crate::proofs::WriterLemmas::front_of_same))]
+/// Writes the row of a change.
+fn write_changed<W: Sink>(
+    rows: &mut RowWriter,
+    number: u32,
+    call: u32,
+    units: Units,
+    writer: &mut W,
+) -> Result<(), WriteRowsFault>
+    ensures added { OnOk result (AppendsUpTo (W.contents writer.old) (W.contents writer.new)
+        (rows.old ++ row_text default_writer (fields_from number (events.Changed call units)))
+        rows.new) }
+    ensures front { OnErr result (AppendsFront (W.contents writer.old) (W.contents writer.new)
+        (rows.old ++ row_text default_writer (fields_from number (events.Changed call units)))) }
+    ensures noted { NotesIf is_write_fault (W.has_failed writer.old) (W.has_failed writer.new)
+        result }
+{
+    let mut number_text = Buffer::new();
+    let mut call_text = Buffer::new();
+    let mut units_text = Buffer::new();
+    let fields: [&[u8]; 8] = [
+        number_text.format(number).as_bytes(),
+        b"BRQ",
+        call_text.format(call).as_bytes(),
+        b"",
+        b"",
+        units_text.format(units.value()).as_bytes(),
+        b"",
+        b"",
+    ];
+    rows.row(&fields, writer)
+}
+
+#[tactic(auto, using(crate::proofs::WriterLemmas::front_of_same))]
+/// Writes the row of a release.
+fn write_released<W: Sink>(
+    rows: &mut RowWriter,
+    number: u32,
+    call: u32,
+    writer: &mut W,
+) -> Result<(), WriteRowsFault>
+    ensures added { OnOk result (AppendsUpTo (W.contents writer.old) (W.contents writer.new)
+        (rows.old ++ row_text default_writer (fields_from number (events.Released call)))
+        rows.new) }
+    ensures front { OnErr result (AppendsFront (W.contents writer.old) (W.contents writer.new)
+        (rows.old ++ row_text default_writer (fields_from number (events.Released call)))) }
+    ensures noted { NotesIf is_write_fault (W.has_failed writer.old) (W.has_failed writer.new)
+        result }
+{
+    let mut number_text = Buffer::new();
+    let mut call_text = Buffer::new();
+    let fields: [&[u8]; 8] = [
+        number_text.format(number).as_bytes(),
+        b"DRQ",
+        call_text.format(call).as_bytes(),
+        b"",
+        b"",
+        b"",
+        b"",
+        b"",
+    ];
+    rows.row(&fields, writer)
+}

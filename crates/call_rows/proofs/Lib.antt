@@ -1,0 +1,6 @@
+mod ToldLemmas
+mod OpenLemmas
+mod RowLemmas
+mod KeptLemmas
+mod HeldLemmas
+pub mod MoveLemmas

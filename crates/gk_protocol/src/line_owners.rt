@@ -1,0 +1,39 @@
+//! Requests to which the next lines belong.
+
+ghost use Rattle.std.specs.Prelude.{◌≡◌};
+ghost use Rattle.gk_protocol.specs.LineOwners.{request_with, lines_without_memory};
+
+use crate::answers::Answer;
+use crate::owned_lines::OwnedLines;
+use crate::reloads;
+use crate::requests::Request;
+
+/// What a line asks with the lines after it, until they are there.
+#[derive(Clone, Copy, Debug, PartialEq, Eq)]
+pub enum LineOwner {
+    /// `CFG`: that the configuration in the lines be put in force.
+    Reload {
+        /// The sequence number, 1 to 65535, which the reply repeats.
+        sequence: u32,
+    },
+}
+
+impl LineOwner {
+    /// The request with its lines.
+    pub(crate) fn request(self, lines: OwnedLines) -> Request
+        ensures { result ≡ request_with self lines }
+    {
+        match self {
+            LineOwner::Reload { sequence } => Request::Reload { sequence, lines },
+        }
+    }
+
+    /// The answer if memory runs out for the lines.
+    pub(crate) fn no_memory(self) -> Answer
+        ensures { result ≡ lines_without_memory self }
+    {
+        match self {
+            LineOwner::Reload { sequence } => reloads::no_memory(sequence),
+        }
+    }
+}

@@ -1,0 +1,12 @@
+mod ChunkLemmas
+mod LevelLemmas
+mod NumberLemmas
+mod PeakLemmas
+mod SpelledLemmas
+mod StandingLemmas
+mod SummaryLemmas
+mod ZoneLemmas
+mod ReportLemmas
+mod JoinLemmas
+mod TrialLemmas
+mod WritingLemmas

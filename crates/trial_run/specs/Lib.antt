@@ -1,0 +1,14 @@
+pub mod Answers
+pub mod Chunks
+pub mod HeldAnswers
+pub mod HeldPeaks
+pub mod HeldRoutes
+pub mod Levels
+pub mod Numbers
+pub mod Peaks
+pub mod Report
+pub mod ReportText
+pub mod Spelled
+pub mod Touched
+pub mod Tried
+pub mod TriedRow
