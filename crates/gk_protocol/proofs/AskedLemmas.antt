@@ -14,7 +14,7 @@ use Rattle.gk_protocol.specs.declared.requests.Request.TheVariants.{Register}
 use Rattle.gk_protocol.specs.declared.line_owners.LineOwner.{LineOwner}
 use Rattle.gk_protocol.specs.declared.answers.Answer.{Answer}
 use Rattle.gk_protocol.specs.declared.answers.Answer.TheVariants.{Malformed}
-use Rattle.gk_protocol.specs.Answers.{answer_line_of}
+use Rattle.gk_protocol.specs.Answers.{answer_text_of}
 use Rattle.gk_protocol.specs.Asking.{Asking, Whole}
 use Rattle.gk_protocol.specs.Asking as asking
 use Rattle.gk_protocol.specs.RequestFields.{Reads}
@@ -78,7 +78,7 @@ module _ {S : Type 0} (MayAnswer : S → Request → Answer → S → Type 0) wh
         (λ (asked : (request : Request) × (read ≡ Ok request)
         × AnswersInto MayAnswer old request reply new). inl asked)
         (λ (lacking : (answer : Answer) × (no_memory ≡ Some answer)
-        × (reply ≡ answer_line_of answer) × (new ≡ old)).
+        × (reply ≡ answer_text_of answer) × (new ≡ old)).
         inr (lacking.0, lacks lacking.0 lacking.1, lacking.2, lacking.3)) h,
   )
   heard_request old new line reply read no_memory (Ok Blank) asks lacks h = absurd h
@@ -125,7 +125,7 @@ module _ {S : Type 0} (MayAnswer : S → Request → Answer → S → Type 0) wh
             (h.1 ∙ ap whole_request_of asked.1) asked.2.1,
       ))
       (λ (lacks : (answer : Answer) × (no_memory_answer_of line ≡ Some answer) ×
-      (reply ≡ answer_line_of answer) × (new ≡ old)). (
+      (reply ≡ answer_text_of answer) × (new ≡ old)). (
         lacks.0,
         lacks.2,
         (h.0, h.1, inr (lacks.1, lacks.3)),

@@ -5,6 +5,9 @@ pub mod HandedLemmas
 pub mod LineGroupLemmas
 pub mod OwnedLemmas
 pub mod RawLineLemmas
+pub mod ReportLemmas
 pub mod RegistrationLemmas
 pub mod SessionLemmas
 pub mod SessionUnderWay
+pub mod TrialLemmas
+pub mod WritingLemmas

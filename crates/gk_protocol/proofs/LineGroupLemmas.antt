@@ -11,7 +11,7 @@ use Rattle.gk_protocol.specs.declared.request_faults.RequestFault.TheVariants.{C
 use Rattle.gk_protocol.specs.declared.requests.Request.{Request}
 use Rattle.gk_protocol.specs.declared.answers.Answer.{Answer}
 use Rattle.gk_protocol.specs.declared.answers.Answer.TheVariants.{Malformed}
-use Rattle.gk_protocol.specs.Answers.{answer_line_of}
+use Rattle.gk_protocol.specs.Answers.{answer_text_of}
 use Rattle.gk_protocol.specs.Asking.{Asking, Owns}
 use Rattle.gk_protocol.specs.declared.owned_lines.TakenLines.{TakenLines}
 use Rattle.gk_protocol.specs.declared.owned_lines.TakenLines.TheVariants as taken
@@ -52,7 +52,7 @@ module _ {S : Type 0} (MayAnswer : S → Request → Answer → S → Type 0) wh
     pub asks : (at_end : Bool) (more : List (List ℕ))
         → asked_in at_end 0 (raws ++ more) ≡ one ∷ asked_in at_end 0 more
     pub answer : Answer
-    pub line : reply ≡ answer_line_of answer
+    pub line : reply ≡ answer_text_of answer
     pub get : MayGet MayAnswer now one answer new
 
   module _ (ended mid_ended now_ended : Bool) (kept bytes rest mid next : List ℕ) (old now : S)
@@ -194,7 +194,7 @@ module _ {S : Type 0} (MayAnswer : S → Request → Answer → S → Type 0) wh
       pub taken : LinesTaken now_ended bytes next (u.raws ++ raws)
       pub asks : asked_in true 0 raws ≡ (record { request = Err CutShort; no_memory = None }) ∷ []
       pub none : next ≡ []
-      pub line : reply ≡ answer_line_of (Malformed CutShort)
+      pub line : reply ≡ answer_text_of (Malformed CutShort)
       pub same : new ≡ now
 
     cut_owner : (reply : List ℕ) (new : S) (owned : ℕ) (request : List ℕ → Request)

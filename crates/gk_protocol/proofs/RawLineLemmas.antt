@@ -10,7 +10,7 @@ use Rattle.gk_protocol.specs.declared.request_faults.RequestFault.{RequestFault}
 use Rattle.gk_protocol.specs.declared.request_faults.RequestFault.TheVariants.{LineTooLong}
 use Rattle.gk_protocol.specs.declared.requests.Request.{Request}
 use Rattle.gk_protocol.specs.declared.answers.Answer.{Answer}
-use Rattle.gk_protocol.specs.Answers.{answer_line_of}
+use Rattle.gk_protocol.specs.Answers.{answer_text_of}
 use Rattle.gk_protocol.specs.Asking.{Asking}
 use Rattle.gk_protocol.specs.Registrations.{registering_of, registering_by_word, no_memory_to, no_memory_answer_of}
 use Rattle.gk_protocol.specs.Requests.{asking_of, asking_at, whole_request_of}
@@ -73,7 +73,7 @@ module _ {S : Type 0} (MayAnswer : S → Request → Answer → S → Type 0) wh
   -- one more reply
   runs_then : (old mid new : S) (asked : List Asked) (one : Asked) (text : List ℕ) (answer : Answer)
       → Runs MayAnswer old asked text mid → MayGet MayAnswer mid one answer new
-      → Runs MayAnswer old (asked ++ one ∷ []) (text ++ answer_line_of answer) new
+      → Runs MayAnswer old (asked ++ one ∷ []) (text ++ answer_text_of answer) new
   runs_then old mid new [] one text answer runs get =
       let same : mid ≡ old = runs.1 in
       let first : MayGet MayAnswer old one answer new =
@@ -83,16 +83,16 @@ module _ {S : Type 0} (MayAnswer : S → Request → Answer → S → Type 0) wh
         new,
         first,
         (refl, refl),
-        ap (λ t. t ++ answer_line_of answer) runs.0 ∙ sym (append-nil (answer_line_of answer)),
+        ap (λ t. t ++ answer_text_of answer) runs.0 ∙ sym (append-nil (answer_text_of answer)),
       )
   runs_then old mid new (a ∷ others) one text answer runs get = (
     runs.0,
-    runs.1 ++ answer_line_of answer,
+    runs.1 ++ answer_text_of answer,
     runs.2,
     runs.3,
     runs_then runs.2 mid new others one runs.1 answer runs.4 get,
-    ap (λ t. t ++ answer_line_of answer) runs.5 ∙ append_assoc (answer_line_of runs.0) runs.1
-        (answer_line_of answer),
+    ap (λ t. t ++ answer_text_of answer) runs.5 ∙ append_assoc (answer_text_of runs.0) runs.1
+        (answer_text_of answer),
   )
 
   -- ---- raw lines that were taken, and what they ask
@@ -131,7 +131,7 @@ module _ {S : Type 0} (MayAnswer : S → Request → Answer → S → Type 0) wh
         → ((at_end : Bool) (more : List (List ℕ))
         → asked_in at_end 0 (raws ++ more) ≡ one ∷ asked_in at_end 0 more)
         → MayGet MayAnswer now one answer new
-        → IsUnderWay MayAnswer now_ended bytes next old new (text ++ answer_line_of answer) (count +
+        → IsUnderWay MayAnswer now_ended bytes next old new (text ++ answer_text_of answer) (count +
         1)
     answered_lines one answer new asks get = record {
       raws = u.raws ++ raws;
@@ -151,13 +151,13 @@ module _ {S : Type 0} (MayAnswer : S → Request → Answer → S → Type 0) wh
     pub answered_at_end : (one : Asked) (answer : Answer) (new : S)
         → asked_in true 0 raws ≡ one ∷ [] → next ≡ []
         → MayGet MayAnswer now one answer new
-        → IsWhole MayAnswer bytes old new (text ++ answer_line_of answer) (count + 1)
+        → IsWhole MayAnswer bytes old new (text ++ answer_text_of answer) (count + 1)
     answered_at_end one answer new asks none get =
         let asked : requests_of bytes ≡ u.asked ++ one ∷ [] =
         ap (asked_in true 0) (all_taken now_ended bytes next (u.raws ++ raws) taken none)
         ∙ asked_at_end one asks in
         record {
-          runs = subst (λ (a : List Asked). Runs MayAnswer old a (text ++ answer_line_of answer)
+          runs = subst (λ (a : List Asked). Runs MayAnswer old a (text ++ answer_text_of answer)
               new)
               (sym asked) (runs_then old now new u.asked one text answer u.runs get);
           counted = omega (arith, u.counted, length-append u.asked (one ∷ []), ap length asked);
@@ -168,7 +168,7 @@ module _ {S : Type 0} (MayAnswer : S → Request → Answer → S → Type 0) wh
         → asked_in true 0 raws ≡ one ∷ []
         → ((filter (list_any (λ b. b == 10)) (u.raws ++ raws) ≡ u.raws ++ raws)
         × (asked_in false 0 raws ≡ one ∷ [])) ⊎ (next ≡ [])
-        → MayGet MayAnswer now one answer new → answer_line_of answer ≡ written ++ lost
+        → MayGet MayAnswer now one answer new → answer_text_of answer ≡ written ++ lost
         → IsCutShort MayAnswer bytes next old new (text ++ written)
     cut_lines one answer new written lost asks whole get line = record {
       read = taken.read;

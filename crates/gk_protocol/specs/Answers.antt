@@ -1,6 +1,6 @@
 -- Answers as lines. Each stands as its words, with a space between each two.
-use Rattle.std.specs.Prelude.{ℕ, List, [], ◌∷◌, ◌++◌, codes, decimal}
-use Rattle.gk_terms.specs.Text.{line_text}
+use Rattle.std.specs.Prelude.{ℕ, min, List, [], ◌∷◌, ◌++◌, length, codes, decimal}
+use Rattle.gk_terms.specs.Text.{line_text, raw_lines_of}
 use Rattle.gk_terms.specs.Reason.{word_of}
 use Rattle.gk_terms.specs.declared.reasons.Reason.TheVariants as reason
 use Rattle.command_reader.specs.Printing.{limit_word}
@@ -27,8 +27,10 @@ use Rattle.rulings.specs.declared.replies.Reply.{Reply as CoreReply}
 use Rattle.rulings.specs.declared.replies.Reply.TheVariants as reply
 use Rattle.gk_protocol.specs.declared.request_faults.RequestFault.{RequestFault}
 use Rattle.gk_protocol.specs.declared.request_faults.RequestFault.TheVariants as fault
+use Rattle.gk_protocol.specs.declared.answers.TrialRefusal.{TrialRefusal}
+use Rattle.gk_protocol.specs.declared.answers.TrialRefusal.TheVariants as trial
 use Rattle.gk_protocol.specs.declared.answers.Answer.{Answer}
-use Rattle.gk_protocol.specs.declared.answers.Answer.TheVariants.{Reply, Misconfigured, Malformed}
+use Rattle.gk_protocol.specs.declared.answers.Answer.TheVariants.{Reply, Misconfigured, Tried, TryRefused, Malformed}
 
 -- ---- why a registration is refused
 abbrev pub duplicate_word : Duplicate → List ℕ
@@ -152,13 +154,41 @@ fault_word fault.BadDigits = codes "digits"
 fault_word fault.BadNumber = codes "number"
 fault_word fault.CutShort = codes "cut"
 
+-- ---- trials
+-- how many lines a report has; 4,294,967,295 if there are more
+abbrev pub report_lines : List ℕ → ℕ
+report_lines report = min (length (raw_lines_of report)) 4294967295
+
+-- why there is no trial: the line that is at fault, or 0, and the word
+abbrev pub trial_refusal_words : TrialRefusal → List (List ℕ)
+trial_refusal_words trial.BadWorkers = codes "0" ∷ codes "bad-workers" ∷ []
+trial_refusal_words (trial.Misconfigured fault) = decimal fault.line ∷ kind_word fault.kind ∷ []
+trial_refusal_words trial.NoThread = codes "0" ∷ codes "no-thread" ∷ []
+trial_refusal_words trial.NoMemory = codes "0" ∷ codes "no-memory" ∷ []
+
 -- ---- answers
 abbrev pub answer_words_of : Answer → List (List ℕ)
 answer_words_of (Reply sequence reply) = reply_words sequence reply
 answer_words_of (Misconfigured sequence fault) =
     codes "CRJ" ∷ decimal sequence ∷ decimal fault.line ∷ kind_word fault.kind ∷ []
+answer_words_of (Tried sequence report) =
+    codes "TCF" ∷ decimal sequence ∷ decimal (report_lines report) ∷ []
+answer_words_of (TryRefused sequence refusal) =
+    codes "TRJ" ∷ decimal sequence ∷ trial_refusal_words refusal
 answer_words_of (Malformed fault) = codes "ERR" ∷ fault_word fault ∷ []
 
--- an answer's line, with its line feed
+-- an answer's first line, with its line feed
 abbrev pub answer_line_of : Answer → List ℕ
 answer_line_of answer = line_text (answer_words_of answer)
+
+-- the lines after it
+abbrev pub answer_body_of : Answer → List ℕ
+answer_body_of (Reply sequence reply) = []
+answer_body_of (Misconfigured sequence fault) = []
+answer_body_of (Tried sequence report) = report
+answer_body_of (TryRefused sequence refusal) = []
+answer_body_of (Malformed fault) = []
+
+-- an answer as it is written
+abbrev pub answer_text_of : Answer → List ℕ
+answer_text_of answer = answer_line_of answer ++ answer_body_of answer

@@ -11,7 +11,7 @@ use Rattle.gk_protocol.specs.declared.owned_lines.TakenLines.{TakenLines}
 use Rattle.gk_protocol.specs.declared.owned_lines.TakenLines.TheVariants as taken
 use Rattle.gk_protocol.specs.declared.sessions.Progress.{Progress}
 use Rattle.gk_protocol.specs.declared.sessions.Progress.TheVariants.{Blank, Answered, CutShort}
-use Rattle.gk_protocol.specs.Answers.{answer_line_of}
+use Rattle.gk_protocol.specs.Answers.{answer_text_of}
 use Rattle.gk_protocol.specs.Registrations.{no_memory_answer_of}
 use Rattle.gk_protocol.specs.Requests.{asking_of, whole_request_of}
 use Rattle.gk_protocol.specs.Hearing.{AnswersInto}
@@ -32,9 +32,9 @@ module _ {S : Type 0} (MayAnswer : S → Request → Answer → S → Type 0) wh
   AnswersOwner old request no_memory (taken.Whole lines) Answered reply new =
       AnswersInto MayAnswer old (request lines) reply new
   AnswersOwner old request no_memory taken.NoMemory Answered reply new =
-      (reply ≡ answer_line_of no_memory) × (new ≡ old)
+      (reply ≡ answer_text_of no_memory) × (new ≡ old)
   AnswersOwner old request no_memory taken.CutShort CutShort reply new =
-      (reply ≡ answer_line_of (Malformed fault.CutShort)) × (new ≡ old)
+      (reply ≡ answer_text_of (Malformed fault.CutShort)) × (new ≡ old)
   AnswersOwner old request no_memory lines progress reply new = ⊥
 
   -- the next lines belong to what a line asks, and are taken; or their end was not read, and the
@@ -55,7 +55,7 @@ module _ {S : Type 0} (MayAnswer : S → Request → Answer → S → Type 0) wh
   abbrev pub AnswersByItself : S → List ℕ → Result Progress ReadFault → List ℕ → S → Type 0
   AnswersByItself old line (Ok Blank) reply new = (asking_of line ≡ Ok None) × (new ≡ old)
   AnswersByItself old line (Ok Answered) reply new =
-      (answer : Answer) × (reply ≡ answer_line_of answer) × AnswersAlone old line answer new
+      (answer : Answer) × (reply ≡ answer_text_of answer) × AnswersAlone old line answer new
   AnswersByItself old line (Ok CutShort) reply new = ⊥
   AnswersByItself old line (Err fault) reply new = ⊥
 

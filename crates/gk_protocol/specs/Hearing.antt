@@ -9,7 +9,7 @@ use Rattle.gk_protocol.specs.declared.request_lines.Heard.TheVariants.{Blank, An
 use Rattle.gk_protocol.specs.declared.line_owners.LineOwner.{LineOwner}
 use Rattle.gk_protocol.specs.declared.requests.Request.{Request}
 use Rattle.gk_protocol.specs.declared.answers.Answer.{Answer}
-use Rattle.gk_protocol.specs.Answers.{answer_line_of}
+use Rattle.gk_protocol.specs.Answers.{answer_text_of}
 use Rattle.gk_protocol.specs.LineOwners.{asking_with}
 use Rattle.gk_protocol.specs.Registrations.{no_memory_to, no_memory_answer_of}
 use Rattle.gk_protocol.specs.Requests.{asking_of, whole_request_of}
@@ -19,7 +19,7 @@ use Rattle.gk_protocol.specs.Requests.{asking_of, whole_request_of}
 abbrev pub LacksOptions : NoRequest → Result Heard RequestFault → List ℕ → Type 0
 LacksOptions (Fault fault) heard reply = heard ≡ Err fault
 LacksOptions (NoMemory sequence id) heard reply =
-    (heard ≡ Ok Answered) × (reply ≡ answer_line_of (no_memory_to (sequence, id)))
+    (heard ≡ Ok Answered) × (reply ≡ answer_text_of (no_memory_to (sequence, id)))
 
 -- what comes of a line to which the next lines belong
 abbrev pub owner_heard : Result (LineOwner × ℕ) RequestFault → Result Heard RequestFault
@@ -30,7 +30,7 @@ module _ {S : Type 0} (MayAnswer : S → Request → Answer → S → Type 0) wh
   -- a request may get an answer of which this is the line
   abbrev pub AnswersInto : S → Request → List ℕ → S → Type 0
   AnswersInto old request line new =
-      (answer : Answer) × MayAnswer old request answer new × (line ≡ answer_line_of answer)
+      (answer : Answer) × MayAnswer old request answer new × (line ≡ answer_text_of answer)
 
   -- a request that was read is answered; or memory ran out for its fields, as the reply says, and
   -- the answerer is left as it was. A fault is given back, and leaves it too
@@ -38,7 +38,7 @@ module _ {S : Type 0} (MayAnswer : S → Request → Answer → S → Type 0) wh
       → Result Heard RequestFault → List ℕ → S → Type 0
   HearsRequest old read no_memory (Ok Answered) reply new =
       ((request : Request) × (read ≡ Ok request) × AnswersInto old request reply new)
-      ⊎ ((answer : Answer) × (no_memory ≡ Some answer) × (reply ≡ answer_line_of answer)
+      ⊎ ((answer : Answer) × (no_memory ≡ Some answer) × (reply ≡ answer_text_of answer)
       × (new ≡ old))
   HearsRequest old read no_memory (Err fault) reply new = (read ≡ Err fault) × (new ≡ old)
   HearsRequest old read no_memory heard reply new = ⊥

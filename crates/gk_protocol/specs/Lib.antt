@@ -8,6 +8,7 @@ pub mod LineOwners
 pub mod OwnedLines
 pub mod RegistrationOptions
 pub mod Registrations
+pub mod ReplyText
 pub mod RequestFields
 pub mod Requests
 pub mod Session

@@ -22,6 +22,10 @@ asked_units_of text = number_of 0 4294967295 text
 abbrev pub owned_count_of : List ℕ → Option ℕ
 owned_count_of text = number_of 0 MOST_LINES text
 
+-- a count of workers that is asked for
+abbrev pub asked_workers_of : List ℕ → Option ℕ
+asked_workers_of text = number_of 0 65535 text
+
 abbrev pub endpoint_kind_of : List ℕ → Option EndpointKind
 endpoint_kind_of word =
     if bytes_eq word (codes "GW") then Some Gateway

@@ -7,13 +7,14 @@ use Rattle.gk_terms.specs.Dialled.{dialled_of}
 use Rattle.rulings.specs.declared.replies.ReloadRefusal.TheVariants as reload
 use Rattle.rulings.specs.declared.replies.Reply.TheVariants.{ReloadRefused}
 use Rattle.gk_protocol.specs.declared.answers.Answer.{Answer}
-use Rattle.gk_protocol.specs.declared.answers.Answer.TheVariants.{Reply}
+use Rattle.gk_protocol.specs.declared.answers.Answer.TheVariants.{Reply, TryRefused}
+use Rattle.gk_protocol.specs.declared.answers.TrialRefusal.TheVariants as trial
 use Rattle.gk_protocol.specs.declared.request_faults.RequestFault.{RequestFault}
 use Rattle.gk_protocol.specs.declared.request_faults.RequestFault.TheVariants as fault
 use Rattle.gk_protocol.specs.declared.requests.Request.{Request}
-use Rattle.gk_protocol.specs.declared.requests.Request.TheVariants.{Unregister, Admit, Change, Release, Reload}
+use Rattle.gk_protocol.specs.declared.requests.Request.TheVariants.{Unregister, Admit, Change, Release, Reload, Try}
 use Rattle.gk_protocol.specs.Asking.{Asking, Whole, Owns}
-use Rattle.gk_protocol.specs.RequestFields.{sequence_number_of, asked_call_of, asked_units_of, owned_count_of, field_at}
+use Rattle.gk_protocol.specs.RequestFields.{sequence_number_of, asked_call_of, asked_units_of, owned_count_of, asked_workers_of, field_at}
 use Rattle.gk_protocol.specs.Registrations.{register_at}
 
 -- ---- URQ seq id
@@ -62,6 +63,19 @@ reload_at words = do
   nothing_more fault.Extra
       (Owns count.0 (Reload sequence.0) (reload_without_memory sequence.0)) count.1
 
+-- ---- TRY seq workers n, to which the next n lines belong
+-- its refusal if memory runs out
+abbrev pub trial_without_memory : ℕ → Answer
+trial_without_memory sequence = TryRefused sequence trial.NoMemory
+
+abbrev pub try_at : List (List ℕ) → Result Asking RequestFault
+try_at words = do
+  sequence ← field_at sequence_number_of fault.BadSequence words
+  workers ← field_at asked_workers_of fault.BadNumber sequence.1
+  count ← field_at owned_count_of fault.BadNumber workers.1
+  nothing_more fault.Extra
+      (Owns count.0 (Try sequence.0 workers.0) (trial_without_memory sequence.0)) count.1
+
 -- ---- a line
 -- what is asked, if it could be read
 abbrev pub asked_of : Result Asking RequestFault → Result (Option Asking) RequestFault
@@ -73,7 +87,7 @@ abbrev pub whole_request_of : Result Request RequestFault → Result (Option Ask
 whole_request_of (Ok request) = Ok (Some (Whole request))
 whole_request_of (Err fault) = Err fault
 
--- the request of another first word than RRQ and CFG
+-- the request of another first word than RRQ, CFG and TRY
 abbrev pub other_request_at : List ℕ → List (List ℕ) → Result Request RequestFault
 other_request_at word words =
     if bytes_eq word (codes "URQ") then unregister_at words
@@ -85,7 +99,8 @@ other_request_at word words =
 abbrev pub other_asking_at : List ℕ → List (List ℕ) → Result (Option Asking) RequestFault
 other_asking_at word words =
     if bytes_eq word (codes "CFG") then asked_of (reload_at words)
-    else whole_request_of (other_request_at word words)
+    else (if bytes_eq word (codes "TRY") then asked_of (try_at words)
+    else whole_request_of (other_request_at word words))
 
 -- what the words of a line ask; without a word they ask nothing
 abbrev pub asking_at : List (List ℕ) → Result (Option Asking) RequestFault

@@ -13,7 +13,7 @@ use Rattle.gk_lines.specs.declared.line_reader.ReadFault as read
 use Rattle.gk_lines.specs.declared.line_reader.ReadFault.TheVariants as line
 use Rattle.gk_protocol.specs.declared.answers.Answer.{Answer}
 use Rattle.gk_protocol.specs.declared.answers.Answer.TheVariants.{Malformed}
-use Rattle.gk_protocol.specs.Answers.{answer_line_of}
+use Rattle.gk_protocol.specs.Answers.{answer_text_of}
 use Rattle.gk_protocol.specs.Registrations.{no_memory_answer_of}
 use Rattle.gk_protocol.specs.Requests.{asking_of}
 
@@ -103,7 +103,7 @@ module _ {S : Type 0} (MayAnswer : S → Request → Answer → S → Type 0) wh
   Runs old (asked ∷ others) text new =
       (answer : Answer) × (rest : List ℕ) × (mid : S) × MayGet old asked answer mid
       × Runs mid others rest new
-      × (text ≡ answer_line_of answer ++ rest)
+      × (text ≡ answer_text_of answer ++ rest)
 
   -- ---- how a session ends
   -- at the end of its input: each request was answered, in so many replies
@@ -134,7 +134,7 @@ module _ {S : Type 0} (MayAnswer : S → Request → Answer → S → Type 0) wh
     pub answered : MayGet mid last answer new
     pub written : List ℕ
     pub lost : List ℕ
-    pub line : answer_line_of answer ≡ written ++ lost
+    pub line : answer_text_of answer ≡ written ++ lost
     pub text_is : text ≡ replies ++ written
 
   -- what a session over these bytes wrote, by how it ended, with these bytes read ahead of what it

@@ -7,10 +7,10 @@ ghost use Rattle.rulings.specs.Lent.{destination_meant};
 ghost use Rattle.rulings.specs.Routes as RouteSpec;
 ghost use Rattle.gk_protocol.specs.Answers as Spec;
 
-use crate::answers::Answer;
+use crate::answers::{Answer, TrialRefusal};
 use crate::refusal_words::{
     admit_refusal, change_refusal, kind_word, register_refusal, release_refusal,
-    reload_refusal_word, unregister_refusal,
+    reload_refusal_word, trial_refusal, unregister_refusal,
 };
 use crate::request_faults::RequestFault;
 use admission::{
@@ -22,7 +22,7 @@ use gk_lines::LineBuffer;
 use gk_terms::{Address, Name, Units, Version};
 
 #[tactic(auto, using(gk_lines::proofs::LineBufferLemmas::line_in_room))]
-/// Makes it the line of an answer, with its line feed. Each answer has room.
+/// Makes it the first line of an answer, with its line feed. Each answer has room.
 pub fn show(line: &mut LineBuffer, answer: &Answer)
     ensures { line.new ≡ Spec.answer_line_of answer.now }
 {
@@ -30,7 +30,7 @@ pub fn show(line: &mut LineBuffer, answer: &Answer)
     line.push_byte(b'\n');
 }
 
-/// Makes it the words of an answer.
+/// Makes it the words of an answer's first line.
 fn show_words(line: &mut LineBuffer, answer: &Answer)
     ensures words { line.new ≡ line_of_words (Spec.answer_words_of answer.now) }
     ensures room { room_of (Spec.answer_words_of answer.now) < ROOM_BYTES }
@@ -38,6 +38,8 @@ fn show_words(line: &mut LineBuffer, answer: &Answer)
     match answer {
         Answer::Reply { sequence, reply } => show_reply(line, *sequence, reply),
         Answer::Misconfigured { sequence, fault } => misconfigured(line, *sequence, fault),
+        Answer::Tried { sequence, report } => tried(line, *sequence, report.line_count()),
+        Answer::TryRefused { sequence, reason } => try_refused(line, *sequence, reason),
         Answer::Malformed(fault) => malformed(line, *fault),
     }
 }
@@ -296,6 +298,33 @@ fn misconfigured(line: &mut LineBuffer, sequence: u32, fault: &LineFault)
     line.number(sequence);
     line.number(fault.line);
     line.word(kind_word(fault.kind));
+}
+
+/// `TCF seq m`
+#[cold]
+#[inline(never)]
+fn tried(line: &mut LineBuffer, sequence: u32, count: u32)
+    ensures words { line.new
+        ≡ line_of_words (codes "TCF" ∷ decimal sequence ∷ decimal count ∷ []) }
+    ensures room { room_of (codes "TCF" ∷ decimal sequence ∷ decimal count ∷ []) < ROOM_BYTES }
+{
+    line.begin(b"TCF");
+    line.number(sequence);
+    line.number(count);
+}
+
+/// `TRJ seq` and why
+#[cold]
+#[inline(never)]
+fn try_refused(line: &mut LineBuffer, sequence: u32, reason: &TrialRefusal)
+    ensures words { line.new ≡ line_of_words
+        (codes "TRJ" ∷ decimal sequence ∷ Spec.trial_refusal_words reason.now) }
+    ensures room { room_of (codes "TRJ" ∷ decimal sequence ∷ Spec.trial_refusal_words reason.now)
+        < ROOM_BYTES }
+{
+    line.begin(b"TRJ");
+    line.number(sequence);
+    trial_refusal(line, reason);
 }
 
 /// `ERR` and the word of the fault

@@ -63,7 +63,7 @@ pub(crate) fn admit<A: Answerer>(
     reply: &mut ReplyLine,
 ) -> Result<Heard, RequestFault>
     ensures { HearsRequest A.may_answer answerer.old (Spec.admit_at (words_of words.old)) None
-        result reply.new.line answerer.new }
+        result reply.new.text answerer.new }
 {
     let (sequence, id, call, digits, units) = admission(words)?;
     let request = Request::Admit {
@@ -86,7 +86,7 @@ pub(crate) fn change<A: Answerer>(
     reply: &mut ReplyLine,
 ) -> Result<Heard, RequestFault>
     ensures { HearsRequest A.may_answer answerer.old (Spec.change_at (words_of words.old)) None
-        result reply.new.line answerer.new }
+        result reply.new.text answerer.new }
 {
     let (sequence, id, call, units) = change_of_call(words)?;
     let request = Request::Change {
@@ -108,7 +108,7 @@ pub(crate) fn release<A: Answerer>(
     reply: &mut ReplyLine,
 ) -> Result<Heard, RequestFault>
     ensures { HearsRequest A.may_answer answerer.old (Spec.release_at (words_of words.old)) None
-        result reply.new.line answerer.new }
+        result reply.new.text answerer.new }
 {
     let (sequence, id, call) = release_of_call(words)?;
     let request = Request::Release { sequence, id, call };

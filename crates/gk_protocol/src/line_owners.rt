@@ -3,7 +3,7 @@
 ghost use Rattle.std.specs.Prelude.{◌≡◌};
 ghost use Rattle.gk_protocol.specs.LineOwners.{request_with, lines_without_memory};
 
-use crate::answers::Answer;
+use crate::answers::{Answer, TrialRefusal};
 use crate::owned_lines::OwnedLines;
 use crate::reloads;
 use crate::requests::Request;
@@ -16,6 +16,13 @@ pub enum LineOwner {
         /// The sequence number, 1 to 65535, which the reply repeats.
         sequence: u32,
     },
+    /// `TRY`: that the calls so far be tried under the configuration in the lines.
+    Try {
+        /// The sequence number, 1 to 65535, which the reply repeats.
+        sequence: u32,
+        /// How many workers are asked for, 0 to 65535.
+        workers: u32,
+    },
 }
 
 impl LineOwner {
@@ -25,6 +32,11 @@ impl LineOwner {
     {
         match self {
             LineOwner::Reload { sequence } => Request::Reload { sequence, lines },
+            LineOwner::Try { sequence, workers } => Request::Try {
+                sequence,
+                workers,
+                lines,
+            },
         }
     }
 
@@ -34,6 +46,10 @@ impl LineOwner {
     {
         match self {
             LineOwner::Reload { sequence } => reloads::no_memory(sequence),
+            LineOwner::Try { sequence, .. } => Answer::TryRefused {
+                sequence,
+                reason: TrialRefusal::NoMemory,
+            },
         }
     }
 }

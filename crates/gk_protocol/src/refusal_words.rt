@@ -1,18 +1,19 @@
 //! Why a request is refused: the reason and the words after it, at the end of a line.
 
-ghost use Rattle.std.specs.Prelude.{◌≡◌, ◌≤◌, ◌<◌, ◌∷◌, [], length};
+ghost use Rattle.std.specs.Prelude.{◌≡◌, ◌≤◌, ◌<◌, ◌∷◌, [], length, codes, decimal};
 ghost use Rattle.gk_terms.specs.Reason.{word_of};
 ghost use Rattle.gk_lines.specs.LineBuffer.{with_words, room_of};
 ghost use Rattle.command_reader.specs.Printing as Limits;
 ghost use Rattle.rulings.specs.Routes as RouteSpec;
 ghost use Rattle.gk_protocol.specs.Answers as Spec;
 
+use crate::answers::TrialRefusal;
 use admission::{
     AdmitRefusal, ChangeRefusal, Duplicate, RegisterRefusal, ReleaseRefusal, ReloadRefusal,
     RouteRefusal, UnregisterRefusal,
 };
 use bandwidth::Over;
-use command_reader::FaultKind;
+use command_reader::{FaultKind, LineFault};
 use compiler::LimitKind;
 use gk_lines::LineBuffer;
 use gk_terms::Reason;
@@ -113,6 +114,37 @@ pub(crate) fn reload_refusal_word(refusal: ReloadRefusal) -> &'static [u8]
         ReloadRefusal::RecordFull => b"record-full",
         ReloadRefusal::NoMemory => b"no-memory",
     }
+}
+
+/// Adds why there is no trial: the line that is at fault, or 0, and the word.
+pub(crate) fn trial_refusal(line: &mut LineBuffer, refusal: &TrialRefusal)
+    ensures words { line.new ≡ with_words line.old (Spec.trial_refusal_words refusal.now) }
+    ensures room { room_of (Spec.trial_refusal_words refusal.now) < 64 }
+{
+    match refusal {
+        TrialRefusal::BadWorkers => without_line(line, b"bad-workers"),
+        TrialRefusal::Misconfigured(fault) => faulty_line(line, fault),
+        TrialRefusal::NoThread => without_line(line, b"no-thread"),
+        TrialRefusal::NoMemory => without_line(line, b"no-memory"),
+    }
+}
+
+/// Adds the number of a line that is at fault, and the name of its fault's kind.
+fn faulty_line(line: &mut LineBuffer, fault: &LineFault)
+    ensures words { line.new ≡ with_words line.old
+        (decimal fault.now.line ∷ Spec.kind_word fault.now.kind ∷ []) }
+    ensures room { room_of (decimal fault.now.line ∷ Spec.kind_word fault.now.kind ∷ []) < 64 }
+{
+    line.number(fault.line);
+    line.word(kind_word(fault.kind));
+}
+
+/// Adds 0 in the place of a line's number, and a word.
+fn without_line(line: &mut LineBuffer, why: &[u8])
+    ensures { line.new ≡ with_words line.old (codes "0" ∷ why.now ∷ []) }
+{
+    line.word(b"0");
+    line.word(why);
 }
 
 /// The name of the kind of a configuration's fault.

@@ -97,7 +97,7 @@ pub(crate) fn register<A: Answerer>(
     reply: &mut ReplyLine,
 ) -> Result<Heard, RequestFault>
     ensures { HearsRequest A.may_answer answerer.old (Spec.register_at (words_of words.old))
-        (Spec.no_memory_at (words_of words.old)) result reply.new.line answerer.new }
+        (Spec.no_memory_at (words_of words.old)) result reply.new.text answerer.new }
 {
     match registration(alloc, words) {
         Ok((sequence, endpoint)) => {
@@ -114,12 +114,12 @@ pub(crate) fn register<A: Answerer>(
 #[cold]
 #[inline(never)]
 fn lack_options(none: NoRequest, reply: &mut ReplyLine) -> Result<Heard, RequestFault>
-    ensures { LacksOptions none result reply.new.line }
+    ensures { LacksOptions none result reply.new.text }
 {
     match none {
         NoRequest::Fault(fault) => Err(fault),
         NoRequest::NoMemory { sequence, id } => {
-            reply.show(&no_memory(sequence, id));
+            reply.show(no_memory(sequence, id));
             Ok(Heard::Answered)
         }
     }
@@ -153,7 +153,7 @@ pub(crate) fn unregister<A: Answerer>(
     reply: &mut ReplyLine,
 ) -> Result<Heard, RequestFault>
     ensures { HearsRequest A.may_answer answerer.old (unregister_at (words_of words.old)) None
-        result reply.new.line answerer.new }
+        result reply.new.text answerer.new }
 {
     let (sequence, id) = unregistration(words)?;
     let request = Request::Unregister { sequence, id };

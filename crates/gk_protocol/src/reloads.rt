@@ -10,19 +10,11 @@ ghost use Rattle.gk_protocol.specs.CoreAnswers as Spec;
 use crate::answerer::replied;
 use crate::answers::Answer;
 use crate::owned_lines::OwnedLines;
+use crate::owned_tables::{NoTables, tables_in};
 use admission::{Core, Event, ReloadRefusal, Reply};
-use command_reader::{FaultKind, LineFault, read};
 use compiler::Tables;
-use std::alloc::{AllocError, AllocFailed, Global};
+use std::alloc::Global;
 use std::sync::Arc;
-
-/// Why there are no tables to put in force.
-pub(crate) enum NoTables {
-    /// The first fault of the lines, which is not that memory ran out.
-    Faulty(LineFault),
-    /// Memory ran out while the lines were read, compiled or shared.
-    NoMemory,
-}
 
 /// Answers `CFG`: reads the lines, compiles them and puts them in force, whole. The lines are read
 /// and compiled before anything is asked of the core: a fault of a line is named although no
@@ -58,44 +50,7 @@ fn tables_of(alloc: Global, lines: &mut OwnedLines) -> Result<Arc<Tables>, NoTab
         (λ tables. reading_in (lines_of lines.old) ≡ Ok (arc_value tables))
         (Spec.IsNoConfiguration (lines_of lines.old)) }
 {
-    let commands = read(alloc, lines.as_bytes())?;
-    lines.clear();
-    let tables = Tables::compile(alloc, commands)?;
+    let tables = tables_in(alloc, lines)?;
     let shared = Arc::new(alloc, tables)?;
     Ok(shared)
-}
-
-impl From<LineFault> for NoTables {
-    ghost use Rattle.gk_protocol.specs.CoreAnswers.{IsNoTablesFor};
-
-    ghost from_gives = { IsNoTablesFor };
-
-    fn from(fault: LineFault) -> NoTables {
-        match fault.kind {
-            FaultKind::NoMemory => NoTables::NoMemory,
-            _ => NoTables::Faulty(fault),
-        }
-    }
-}
-
-impl From<AllocError> for NoTables {
-    ghost use Rattle.std.specs.Prelude.{◌≡◌};
-    ghost use Rattle.gk_protocol.specs.declared.reloads.NoTables.TheVariants.{NoMemory};
-
-    ghost from_gives = { λ _ none. none ≡ NoMemory };
-
-    fn from(_refused: AllocError) -> NoTables {
-        NoTables::NoMemory
-    }
-}
-
-impl<T: Drop> From<AllocFailed<T>> for NoTables {
-    ghost use Rattle.std.specs.Prelude.{◌≡◌};
-    ghost use Rattle.gk_protocol.specs.declared.reloads.NoTables.TheVariants.{NoMemory};
-
-    ghost from_gives = { λ _ none. none ≡ NoMemory };
-
-    fn from(_refused: AllocFailed<T>) -> NoTables {
-        NoTables::NoMemory
-    }
 }

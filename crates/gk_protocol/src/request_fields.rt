@@ -15,6 +15,9 @@ use registry::EndpointKind;
 /// The port of an address that gives none: that of H.225.0's call signalling.
 pub const SIGNALLING_PORT: u16 = 1720;
 
+/// The greatest count of workers that a request may ask for.
+const MOST_ASKED_WORKERS: u32 = 65_535;
+
 /// The next word as a sequence number, 1 to 65535.
 pub fn sequence_field(words: &mut Words<'_>) -> Result<u32, RequestFault>
     ensures { Gives
@@ -22,6 +25,15 @@ pub fn sequence_field(words: &mut Words<'_>) -> Result<u32, RequestFault>
         (words_of words.new) }
 {
     number_field(words, 1, MOST_SEQUENCE, RequestFault::BadSequence)
+}
+
+/// The next word as a count of workers, 0 to 65535, whether so many may be had or not.
+pub fn workers_field(words: &mut Words<'_>) -> Result<u32, RequestFault>
+    ensures { Gives (Spec.field_at Spec.asked_workers_of RequestFault.BadNumber (words_of
+        words.old)) result
+        (words_of words.new) }
+{
+    number_field(words, 0, MOST_ASKED_WORKERS, RequestFault::BadNumber)
 }
 
 /// The next word as the kind of an endpoint, `GW` or `TERM`.

@@ -13,7 +13,7 @@ use crate::line_owners::LineOwner;
 use crate::registrations::{register, unregister};
 use crate::reply_lines::ReplyLine;
 use crate::request_faults::RequestFault;
-use crate::request_fields::{count_field, nothing_after, sequence_field};
+use crate::request_fields::{count_field, nothing_after, sequence_field, workers_field};
 use gk_terms::limits::MOST_LINE_BYTES;
 use gk_terms::words::Words;
 use std::alloc::Global;
@@ -52,7 +52,7 @@ pub fn hear<A: Answerer>(
     answerer: &mut A,
     reply: &mut ReplyLine,
 ) -> Result<Heard, RequestFault>
-    ensures { Hears A.may_answer answerer.old line.now result reply.new.line answerer.new }
+    ensures { Hears A.may_answer answerer.old line.now result reply.new.text answerer.new }
 {
     if line.len() > MOST_LINE_BYTES {
         return Err(RequestFault::LineTooLong);
@@ -64,6 +64,7 @@ pub fn hear<A: Answerer>(
     match word {
         b"RRQ" => register(alloc, words, answerer, reply),
         b"CFG" => owns(reload(words)),
+        b"TRY" => owns(trial(words)),
         b"URQ" => unregister(alloc, words, answerer, reply),
         b"ARQ" => admit(alloc, words, answerer, reply),
         b"BRQ" => change(alloc, words, answerer, reply),
@@ -90,4 +91,16 @@ fn reload(words: &mut Words<'_>) -> Result<(LineOwner, u32), RequestFault>
     let sequence = sequence_field(words)?;
     let count = nothing_after(count_field(words)?, words)?;
     Ok((LineOwner::Reload { sequence }, count))
+}
+
+/// Reads `TRY seq workers n`, after its first word, likewise.
+#[cold]
+#[inline(never)]
+fn trial(words: &mut Words<'_>) -> Result<(LineOwner, u32), RequestFault>
+    ensures { Reads (Spec.try_at (words_of words.old)) (λ o. asking_with o.0 o.1) result }
+{
+    let sequence = sequence_field(words)?;
+    let workers = workers_field(words)?;
+    let count = nothing_after(count_field(words)?, words)?;
+    Ok((LineOwner::Try { sequence, workers }, count))
 }

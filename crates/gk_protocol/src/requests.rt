@@ -61,4 +61,14 @@ pub enum Request {
         /// The lines of the configuration.
         lines: OwnedLines,
     },
+    /// `TRY`, of this project: the calls so far under another configuration, which is not put in
+    /// force.
+    Try {
+        /// The sequence number, 1 to 65535, which the reply repeats.
+        sequence: u32,
+        /// How many workers are asked for, 0 to 65535.
+        workers: u32,
+        /// The lines of the configuration.
+        lines: OwnedLines,
+    },
 }

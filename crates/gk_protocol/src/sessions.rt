@@ -1,11 +1,11 @@
 //! A session: requests in, replies out.
 
-ghost use Rattle.std.specs.Prelude.{◌≡◌, ◌≢◌, ◌+◌, ◌^◌, ◌<◌, ◌≤◌, ℕ, List, [], IfOk, IfErr, OnOk, OnErr};
+ghost use Rattle.std.specs.Prelude.{◌≡◌, ◌≢◌, ◌+◌, ◌^◌, ◌<◌, ◌≤◌, ℕ, List, [], ◌++◌, IfOk, IfErr, OnOk, OnErr};
 ghost use Rattle.std.specs.Io.KnownBytes.{Appends, IsAtEnd};
 ghost use Rattle.gk_lines.specs.Streams.{Notes, NotesIf, KnownStep, AppendsFront};
 ghost use Rattle.gk_lines.specs.LineReader.{left_of, work_left, AtEndIfEnded, CountsTurns, is_failure};
 ghost use Rattle.gk_terms.specs.Text.{content_of};
-ghost use Rattle.gk_protocol.specs.Answers.{answer_line_of};
+ghost use Rattle.gk_protocol.specs.Answers.{answer_text_of};
 ghost use Rattle.gk_protocol.specs.Session.{IsReadAhead, Ends, is_read_fault, is_write_fault};
 ghost use Rattle.gk_protocol.specs.LineOwners.{request_with, lines_without_memory};
 ghost use Rattle.gk_protocol.specs.AnswersLine.{AnswersLine, AnswersOwner};
@@ -23,7 +23,8 @@ use std::alloc::Global;
 
 /// Answers the requests that the reader gives to its end, and says how many replies were written.
 /// The reader is called at most so many `turns`; each request is answered, and its reply written in
-/// one call of the writer if it takes the whole, before the reader is called again.
+/// one call of the writer if it takes the whole, before the reader is called again; the lines of a
+/// trial's report take a second call.
 ///
 /// `ReadFault` comes exactly if the reader fails, `WriteFault` exactly if the writer fails or takes
 /// no byte, `TurnsSpent` only if the reader was called as often as it may be. `NoMemory` does not
@@ -144,7 +145,7 @@ fn progress_with<R: Source, A: Answerer>(
     ensures progress { KnownStep (left_of lines.old (R.remaining reader.old))
         (left_of lines.new (R.remaining reader.new))
         (AnswersLine A.may_answer lines.old.ended lines.new.ended answerer.old
-        (content_of line.old) result reply.new.line answerer.new) }
+        (content_of line.old) result reply.new.text answerer.new) }
     ensures ended { AtEndIfEnded lines.new (R.remaining reader.new) }
     ensures part_read { IfErr result (λ _. lines.new.pending ≡ []) }
     ensures nothing_left { IfOk result (λ progress. progress ≡ Progress.CutShort
@@ -183,7 +184,7 @@ fn answer_owner<A: Answerer>(
     reply: &mut ReplyLine,
 ) -> Progress
     ensures { AnswersOwner A.may_answer answerer.old (request_with owner)
-        (lines_without_memory owner) lines result reply.new.line answerer.new }
+        (lines_without_memory owner) lines result reply.new.text answerer.new }
 {
     match lines {
         TakenLines::Whole(lines) => {
@@ -191,11 +192,11 @@ fn answer_owner<A: Answerer>(
             Progress::Answered
         }
         TakenLines::NoMemory => {
-            reply.show(&owner.no_memory());
+            reply.show(owner.no_memory());
             Progress::Answered
         }
         TakenLines::CutShort => {
-            reply.show(&Answer::Malformed(RequestFault::CutShort));
+            reply.show(Answer::Malformed(RequestFault::CutShort));
             Progress::CutShort
         }
     }
@@ -205,18 +206,35 @@ fn answer_owner<A: Answerer>(
 #[cold]
 #[inline(never)]
 fn show_fault(fault: RequestFault, reply: &mut ReplyLine)
-    ensures { reply.new.line ≡ answer_line_of (Answer.Malformed fault) }
+    ensures { reply.new.text ≡ answer_text_of (Answer.Malformed fault) }
 {
-    reply.show(&Answer::Malformed(fault));
+    reply.show(Answer::Malformed(fault));
 }
 
-/// Writes a reply, in one call of the writer if it takes the whole.
+/// Writes a reply: its first line in one call of the writer if it takes the whole, and so the lines
+/// after it, if there are any.
 fn send<W: Sink>(reply: &ReplyLine, writer: &mut W) -> Result<(), WriteFault>
     ensures whole { OnOk result
-        (Appends (W.contents writer.old) (W.contents writer.new) reply.now.line) }
+        (Appends (W.contents writer.old) (W.contents writer.new) reply.now.text) }
     ensures front { OnErr result
-        (AppendsFront (W.contents writer.old) (W.contents writer.new) reply.now.line) }
+        (AppendsFront (W.contents writer.old) (W.contents writer.new) reply.now.text) }
     ensures noted { Notes (W.has_failed writer.old) (W.has_failed writer.new) result }
 {
-    write_whole(writer, reply.as_bytes())
+    let (line, body) = reply.parts();
+    write_both(line, body, writer)
+}
+
+#[tactic(auto, using(crate::proofs::WritingLemmas::front_and_more, crate::proofs::WritingLemmas::whole_and_front))]
+/// Writes one text, and then another.
+fn write_both<W: Sink>(first: &[u8], second: &[u8], writer: &mut W) -> Result<(), WriteFault>
+    ensures whole { OnOk result
+        (Appends (W.contents writer.old) (W.contents writer.new) (first.now ++ second.now)) }
+    ensures front { OnErr result
+        (AppendsFront (W.contents writer.old) (W.contents writer.new) (first.now ++ second.now)) }
+    ensures noted { Notes (W.has_failed writer.old) (W.has_failed writer.new) result }
+{
+    match write_whole(writer, first) {
+        Ok(()) => write_whole(writer, second),
+        Err(fault) => Err(fault),
+    }
 }

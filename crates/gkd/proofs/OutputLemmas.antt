@@ -1,7 +1,7 @@
 -- What is computed as the output of a run is one that it may write, and the only one if memory
--- lasts.
+-- lasts and threads are started.
 use Rattle.std.proofs.Common.{◌≡◌, ℕ, Bool, true, false, cond, List, [], ◌∷◌, ◌++◌, refl, sym, ap, subst, ◌∙◌, ⊎_elim, inl, inr}
-use Rattle.std.specs.Prelude.{◌≢◌, Option, Some, None, Result, Ok, Err, option_map}
+use Rattle.std.specs.Prelude.{◌≢◌, ◌⊎◌, Option, Some, None, Result, Ok, Err, MatchBool, option_map}
 use Rattle.command_reader.specs.declared.faults.LineFault.{LineFault}
 use Rattle.command_reader.specs.Configuration.{Configuration}
 use Rattle.command_reader.specs.Reading.{reading_in}
@@ -14,17 +14,18 @@ use Rattle.rulings.specs.declared.replies.Reply.{Reply as CoreReply}
 use Rattle.admission.proofs.CoreLemmas.{answers_as_the_machine}
 use Rattle.gk_protocol.specs.declared.request_faults.RequestFault.{RequestFault}
 use Rattle.gk_protocol.specs.declared.requests.Request.{Request}
-use Rattle.gk_protocol.specs.declared.requests.Request.TheVariants.{Register, Unregister, Admit, Change, Release, Reload}
+use Rattle.gk_protocol.specs.declared.requests.Request.TheVariants.{Register, Unregister, Admit, Change, Release, Reload, Try}
 use Rattle.gk_protocol.specs.declared.answers.Answer.{Answer}
-use Rattle.gk_protocol.specs.declared.answers.Answer.TheVariants.{Reply}
-use Rattle.gk_protocol.specs.Answers.{answer_line_of}
-use Rattle.gk_protocol.specs.Requests.{reload_without_memory}
-use Rattle.gk_protocol.specs.CoreAnswers.{Replies, ReloadsBy, MayLackMemory, MayAnswer}
+use Rattle.gk_protocol.specs.declared.answers.Answer.TheVariants.{Reply, TryRefused}
+use Rattle.gk_protocol.specs.declared.answers.TrialRefusal.TheVariants as trial
+use Rattle.gk_protocol.specs.Answers.{answer_text_of}
+use Rattle.gk_protocol.specs.Requests.{reload_without_memory, trial_without_memory}
+use Rattle.gk_protocol.specs.CoreAnswers.{are_workers, Replies, ReloadsBy, MayLackMemory, TriesBy, MayTry, MayAnswer}
 use Rattle.gk_protocol.specs.Session.{Asked, requests_of, Answered, MayGet, Runs}
 use Rattle.configuration_reader.specs.declared.configuration.Until.TheVariants.{EndLine}
 use Rattle.configuration_reader.specs.Configuration.{configuration_of, rest_of}
 use Rattle.gkd.specs.Run.{opened}
-use Rattle.gkd.specs.Output.{reloading, answer_to, core_with, answer_of, core_of, replies_of, output_after, output_of, OutputIsRun, AnsweredInMemory, RunsInMemory, OutputIsRunInMemory, OutputIsOnlyRun}
+use Rattle.gkd.specs.Output.{reloading, tried_by, trial_answer, answer_to, core_with, answer_of, core_of, replies_of, output_after, output_of, OutputIsRun, AnsweredInMemory, RunsInMemory, OutputIsRunInMemory, OutputIsOnlyRun}
 use Rattle.gkd.proofs.MemoryLemmas.{lasts}
 
 replied : (core : CoreParts) (sequence : ℕ) (event : PlainEvent) → Replies core sequence event
@@ -37,9 +38,37 @@ replied core sequence event = (
 )
 
 reloaded : (core : CoreParts) (sequence : ℕ) (read : Result Configuration LineFault) → ReloadsBy
-    core sequence read (answer_to core sequence (reloading read)) (core_with core (reloading read))
+    core sequence read (answer_to core sequence (reloading sequence read))
+    (core_with core (reloading sequence read))
 reloaded core sequence (Ok configuration) = replied core sequence (Reloading configuration.commands)
 reloaded core sequence (Err fault) = (refl, refl)
+
+-- what may be answered to a trial, if there may be as many workers or not
+abbrev TriesIf : CoreParts → ℕ → List (List ℕ) → Answer → Bool → Type 0
+TriesIf core sequence lines answer may =
+    MatchBool may
+    (TriesBy core sequence (reading_in lines) answer
+    ⊎ ((answer ≡ trial_without_memory sequence) × MayLackMemory lines))
+    (answer ≡ TryRefused sequence trial.BadWorkers)
+
+-- the answer that is computed
+abbrev tried_if : CoreParts → ℕ → List (List ℕ) → Bool → Answer
+tried_if core sequence lines may =
+    cond may (tried_by core sequence (reading_in lines)) (TryRefused sequence trial.BadWorkers)
+
+tries_by : (core : CoreParts) (sequence : ℕ) (read : Result Configuration LineFault) → TriesBy core
+    sequence read (tried_by core sequence read)
+tries_by core sequence (Ok configuration) = inl refl
+tries_by core sequence (Err fault) = refl
+
+tries_if : (core : CoreParts) (sequence : ℕ) (lines : List (List ℕ)) (may : Bool) → TriesIf core
+    sequence lines (tried_if core sequence lines may) may
+tries_if core sequence lines true = inl (tries_by core sequence (reading_in lines))
+tries_if core sequence lines false = refl
+
+tries : (core : CoreParts) (sequence workers : ℕ) (lines : List (List ℕ)) → MayTry core sequence
+    workers lines (trial_answer core sequence workers lines)
+tries core sequence workers lines = tries_if core sequence lines (are_workers workers)
 
 answered : (core : CoreParts) (request : Result Request RequestFault) → Answered MayAnswer core
     request (answer_of core request) (core_of core request)
@@ -51,6 +80,8 @@ answered core (Ok (Change sequence id call units)) = replied core sequence (Chan
 answered core (Ok (Release sequence id call)) = replied core sequence (Releasing id call)
 answered core (Ok (Reload sequence lines)) = inl (reloaded core sequence
     (reading_in (lines_of lines)))
+answered core (Ok (Try sequence workers lines)) =
+    (tries core sequence workers (lines_of lines), refl)
 answered core (Err fault) = (refl, refl)
 
 may_get : (core : CoreParts) (asked : Asked) → MayGet MayAnswer core asked
@@ -135,10 +166,29 @@ reply_in_memory old new sequence event answer replies lasts = by replies.2
 reload_in_memory : (old new : CoreParts) (sequence : ℕ) (read : Result Configuration LineFault)
     (answer : Answer) → ReloadsBy old sequence read answer new → Some
     (reload_without_memory sequence) ≢ Some answer
-    → (answer ≡ answer_to old sequence (reloading read)) × (new ≡ core_with old (reloading read))
+    → (answer ≡ answer_to old sequence (reloading sequence read))
+    × (new ≡ core_with old (reloading sequence read))
 reload_in_memory old new sequence (Ok configuration) answer replies lasts = reply_in_memory old new
     sequence (Reloading configuration.commands) answer replies lasts
 reload_in_memory old new sequence (Err fault) answer replies lasts = replies
+
+tried_in_memory_by : (core : CoreParts) (sequence : ℕ) (read : Result Configuration LineFault)
+    (answer : Answer) → TriesBy core sequence read answer
+    → TryRefused sequence trial.NoThread ≢ answer → answer ≡ tried_by core sequence read
+tried_in_memory_by core sequence (Ok configuration) answer (inl reported) threads = reported
+tried_in_memory_by core sequence (Ok configuration) answer (inr lacking) threads =
+    absurd (threads (sym lacking))
+tried_in_memory_by core sequence (Err fault) answer refused threads = refused
+
+tried_in_memory_if : (core : CoreParts) (sequence : ℕ) (lines : List (List ℕ)) (answer : Answer)
+    (may : Bool) → TriesIf core sequence lines answer may
+    → Some (trial_without_memory sequence) ≢ Some answer
+    → TryRefused sequence trial.NoThread ≢ answer → answer ≡ tried_if core sequence lines may
+tried_in_memory_if core sequence lines answer true (inl by_lines) lasts threads =
+    tried_in_memory_by core sequence (reading_in lines) answer by_lines threads
+tried_in_memory_if core sequence lines answer true (inr lacking) lasts threads =
+    absurd (lasts (ap Some (sym lacking.0)))
+tried_in_memory_if core sequence lines answer false refused lasts threads = refused
 
 only_answer : (old new : CoreParts) (request : Result Request RequestFault) (answer : Answer) →
     AnsweredInMemory old request answer new → (answer ≡ answer_of old request) ×
@@ -159,6 +209,10 @@ only_answer old new (Ok (Reload sequence lines)) answer a =
     new sequence (reading_in (lines_of lines)) answer r a.1)
     (λ (r : (answer ≡ reload_without_memory sequence) × (new ≡ old) × MayLackMemory
     (lines_of lines)). absurd (a.1 (ap Some (sym r.0)))) a.0
+only_answer old new (Ok (Try sequence workers lines)) answer a = (
+  tried_in_memory_if old sequence (lines_of lines) answer (are_workers workers) a.0.0 a.1 a.2,
+  a.0.1,
+)
 only_answer old new (Err fault) answer a = a
 
 only_text : (core : CoreParts) (asked : List Asked) (text : List ℕ) (last : CoreParts) →
@@ -167,10 +221,10 @@ only_text core [] text last r = sym r.0
 only_text core (asked ∷ others) text last r =
     let one : (r.0 ≡ answer_of core asked.request) × (r.2 ≡ core_of core asked.request) =
     only_answer core r.2 asked.request r.0 r.3 in
-    ap (λ answer. answer_line_of answer ++ replies_of (core_of core asked.request) others) (sym
+    ap (λ answer. answer_text_of answer ++ replies_of (core_of core asked.request) others) (sym
     one.0)
-    ∙ ap (λ (mid : CoreParts). answer_line_of r.0 ++ replies_of mid others) (sym one.1)
-    ∙ ap (λ rest. answer_line_of r.0 ++ rest) (only_text r.2 others r.1 last r.4)
+    ∙ ap (λ (mid : CoreParts). answer_text_of r.0 ++ replies_of mid others) (sym one.1)
+    ∙ ap (λ rest. answer_text_of r.0 ++ rest) (only_text r.2 others r.1 last r.4)
     ∙ sym r.5
 
 -- what is computed under an accepted configuration
@@ -201,33 +255,76 @@ event_lasts core sequence event = mapped_apart sequence (no_memory_reply_of even
     (step (state_of core) event).reply (lasts (state_of core) event)
 
 reload_lasts : (core : CoreParts) (sequence : ℕ) (read : Result Configuration LineFault) → Some
-    (reload_without_memory sequence) ≢ Some (answer_to core sequence (reloading read))
+    (reload_without_memory sequence) ≢ Some (answer_to core sequence (reloading sequence read))
 reload_lasts core sequence (Ok configuration) = event_lasts core sequence
     (Reloading configuration.commands)
 reload_lasts core sequence (Err fault) = λ h. cc
 
+-- no reply to an event, and no fault of a reload, says that a thread could not be started
+reply_apart : (lacking sequence : ℕ) (reply : CoreReply) → TryRefused lacking trial.NoThread ≢ Reply
+    sequence reply
+reply_apart lacking sequence reply h = cc
+
+reload_apart : (core : CoreParts) (sequence : ℕ) (read : Result Configuration LineFault) →
+    TryRefused sequence trial.NoThread ≢ answer_to core sequence (reloading sequence read)
+reload_apart core sequence (Ok configuration) h = cc
+reload_apart core sequence (Err fault) h = cc
+
+-- the computed answer to a trial says neither
+trial_lasts_by : (core : CoreParts) (sequence : ℕ) (read : Result Configuration LineFault) → Some
+    (trial_without_memory sequence) ≢ Some (tried_by core sequence read)
+trial_lasts_by core sequence (Ok configuration) h = cc
+trial_lasts_by core sequence (Err fault) h = cc
+
+trial_lasts : (core : CoreParts) (sequence : ℕ) (lines : List (List ℕ)) (may : Bool) → Some
+    (trial_without_memory sequence) ≢ Some (tried_if core sequence lines may)
+trial_lasts core sequence lines true = trial_lasts_by core sequence (reading_in lines)
+trial_lasts core sequence lines false = λ h. cc
+
+trial_apart_by : (core : CoreParts) (sequence : ℕ) (read : Result Configuration LineFault) →
+    TryRefused sequence trial.NoThread ≢ tried_by core sequence read
+trial_apart_by core sequence (Ok configuration) h = cc
+trial_apart_by core sequence (Err fault) h = cc
+
+trial_apart : (core : CoreParts) (sequence : ℕ) (lines : List (List ℕ)) (may : Bool) → TryRefused
+    sequence trial.NoThread ≢ tried_if core sequence lines may
+trial_apart core sequence lines true = trial_apart_by core sequence (reading_in lines)
+trial_apart core sequence lines false = λ h. cc
+
+-- the machine's reply to an event is one that is given in memory
+event_in_memory : (core : CoreParts) (sequence : ℕ) (event : PlainEvent)
+    → Replies core sequence event (Reply sequence (step (state_of core) event).reply)
+    (core_after core event)
+    × (option_map (Reply sequence) (no_memory_reply_of event)
+    ≢ Some (Reply sequence (step (state_of core) event).reply))
+    × (TryRefused sequence trial.NoThread ≢ Reply sequence (step (state_of core) event).reply)
+event_in_memory core sequence event = (
+  replied core sequence event,
+  event_lasts core sequence event,
+  reply_apart sequence sequence (step (state_of core) event).reply,
+)
+
 answered_in_memory : (core : CoreParts) (request : Result Request RequestFault) → AnsweredInMemory
     core request (answer_of core request) (core_of core request)
 answered_in_memory core (Ok (Register sequence endpoint)) =
-    (replied core sequence (Registering endpoint), event_lasts core sequence (Registering endpoint))
+    event_in_memory core sequence (Registering endpoint)
 answered_in_memory core (Ok (Unregister sequence id)) =
-    (replied core sequence (Unregistering id), event_lasts core sequence (Unregistering id))
-answered_in_memory core (Ok (Admit sequence id call digits units)) = (
-  replied core sequence (Admitting id call digits units),
-  event_lasts core sequence
-      (Admitting id call digits units),
-)
-answered_in_memory core (Ok (Change sequence id call units)) = (
-  replied core sequence (Changing id call units),
-  event_lasts core sequence
-      (Changing id call units),
-)
+    event_in_memory core sequence (Unregistering id)
+answered_in_memory core (Ok (Admit sequence id call digits units)) =
+    event_in_memory core sequence (Admitting id call digits units)
+answered_in_memory core (Ok (Change sequence id call units)) =
+    event_in_memory core sequence (Changing id call units)
 answered_in_memory core (Ok (Release sequence id call)) =
-    (replied core sequence (Releasing id call), event_lasts core sequence (Releasing id call))
+    event_in_memory core sequence (Releasing id call)
 answered_in_memory core (Ok (Reload sequence lines)) = (
   inl (reloaded core sequence (reading_in (lines_of lines))),
-  reload_lasts core sequence
-      (reading_in (lines_of lines)),
+  reload_lasts core sequence (reading_in (lines_of lines)),
+  reload_apart core sequence (reading_in (lines_of lines)),
+)
+answered_in_memory core (Ok (Try sequence workers lines)) = (
+  (tries core sequence workers (lines_of lines), refl),
+  trial_lasts core sequence (lines_of lines) (are_workers workers),
+  trial_apart core sequence (lines_of lines) (are_workers workers),
 )
 answered_in_memory core (Err fault) = (refl, refl)
 

@@ -1,6 +1,7 @@
 -- The worked rows, computed.
 use Rattle.std.proofs.Common.{refl}
 use Rattle.std.specs.Fmt.{digits}
+use Rattle.csv.specs.Writing.{escaped, fields_text, is_blank}
 use Rattle.compiler.specs.Plan.{plan_of}
 use Rattle.command_reader.specs.Line.{command_of}
 use Rattle.command_reader.specs.Reading.{line_after}
@@ -12,7 +13,7 @@ use Rattle.decision_record.specs.History.{state_of}
 use Rattle.gk_protocol.specs.Registrations.{registering_of}
 use Rattle.gk_protocol.specs.Requests.{asking_of}
 use Rattle.gkd.specs.Output.{output_of}
-use Rattle.gkd.specs.Rows.{FirstRun, OpenCall, FullRecord, Stranger, Faults, ByPatternCostAndHopoff, PrefixAlone, GreatestPriority, PriorityZero, UnknownPrefix, AliasOrDefault, NoDefault, OtherAliases, LongDigits, FullTotal, SessionBeforeTotal, BetweenZones, ToRemoteZones, RaisedAndLowered, CountedInTargetZone, ByOwnerAlone, RoutedByNewLines, LimitedByNewLines, WithoutSecondZone, FaultyReloads, SmallestLimits}
+use Rattle.gkd.specs.Rows.{FirstRun, OpenCall, FullRecord, Stranger, Faults, ByPatternCostAndHopoff, PrefixAlone, GreatestPriority, PriorityZero, UnknownPrefix, AliasOrDefault, NoDefault, OtherAliases, LongDigits, FullTotal, SessionBeforeTotal, BetweenZones, ToRemoteZones, RaisedAndLowered, CountedInTargetZone, ByOwnerAlone, RoutedByNewLines, LimitedByNewLines, WithoutSecondZone, FaultyReloads, SmallestLimits, TriedOnCalls, TriedByNone}
 
 pub first_run : FirstRun
 unfolding digits plan_of route_of command_of line_after over_of ruling_of count_refusal state_after
@@ -143,3 +144,13 @@ pub smallest_limits : SmallestLimits
 unfolding digits plan_of route_of command_of line_after over_of ruling_of count_refusal state_after
     step state_of asking_of registering_of output_of
 smallest_limits = refl
+
+pub tried_on_calls : TriedOnCalls
+unfolding digits plan_of route_of command_of line_after over_of ruling_of count_refusal state_after
+    step state_of asking_of registering_of output_of escaped fields_text is_blank
+tried_on_calls = refl
+
+pub tried_by_none : TriedByNone
+unfolding digits plan_of route_of command_of line_after over_of ruling_of count_refusal state_after
+    step state_of asking_of registering_of output_of escaped fields_text is_blank
+tried_by_none = refl

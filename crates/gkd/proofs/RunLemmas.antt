@@ -136,21 +136,23 @@ module _ {S : Type 0} (MayAnswer : S → Request → Answer → S → Type 0)
   run_bad (Some bytes) before = ([], (refl, refl), appends_nothing before)
 
 module _ {S : Type 0} (MayAnswer : S → Request → Answer → S → Type 0) where
-  -- a session under a configuration that was read before
-  pub under_serves : (known new before after : Option (List ℕ)) (first begun last : S)
-      (result : Result ℕ SessionFault) → first ≡ begun
+  -- a session under a configuration that was read before; what it began with and what it left are
+  -- told by others
+  pub under_serves : (known new before after : Option (List ℕ)) (first begun last left : S)
+      (result : Result ℕ SessionFault) → first ≡ begun → left ≡ last
       → KnownStep known new (λ bytes rest. (ahead : List ℕ) × (text : List ℕ) × IsReadAhead ahead ×
       Ends MayAnswer bytes ahead rest first last text result × Appends before after text)
       → KnownStep known new (λ bytes rest. (text : List ℕ) × ServesUnder MayAnswer begun bytes rest
-      text (Some (last, result)) × Appends before after text)
-  under_serves None new before after first begun last result same s = tt
-  under_serves (Some bytes) None before after first begun last result same s = absurd s
-  under_serves (Some bytes) (Some rest) before after first begun last result same s = (
+      text (Some (left, result)) × Appends before after text)
+  under_serves None new before after first begun last left result same kept s = tt
+  under_serves (Some bytes) None before after first begun last left result same kept s = absurd s
+  under_serves (Some bytes) (Some rest) before after first begun last left result same kept s = (
     s.1,
     (
       s.0,
       s.2,
-      subst (λ (b : S). Ends MayAnswer bytes s.0 rest b last s.1 result) same s.3,
+      subst (λ (b : S). Ends MayAnswer bytes s.0 rest b left s.1 result) same
+          (subst (λ (e : S). Ends MayAnswer bytes s.0 rest first e s.1 result) (sym kept) s.3),
     ),
     s.4,
   )

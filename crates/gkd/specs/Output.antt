@@ -1,5 +1,5 @@
--- What a run writes if memory lasts, computed.
-use Rattle.std.specs.Prelude.{◌≡◌, ◌≢◌, ℕ, List, [], ◌∷◌, ◌++◌, Option, Some, Result, Ok, Err, option_map, flat_map}
+-- What a run writes if memory lasts and threads are started, computed.
+use Rattle.std.specs.Prelude.{◌≡◌, ◌≢◌, ℕ, List, [], ◌∷◌, ◌++◌, Option, Some, Result, Ok, Err, option_map, flat_map, if◌then◌else◌}
 use Rattle.command_reader.specs.declared.faults.LineFault.{LineFault}
 use Rattle.command_reader.specs.Configuration.{Configuration}
 use Rattle.command_reader.specs.Reading.{reading_in}
@@ -10,12 +10,13 @@ use Rattle.rulings.specs.Step.{step, no_memory_reply_of}
 use Rattle.decision_record.specs.History.{CoreParts, state_of, core_after}
 use Rattle.gk_protocol.specs.declared.request_faults.RequestFault.{RequestFault}
 use Rattle.gk_protocol.specs.declared.requests.Request.{Request}
-use Rattle.gk_protocol.specs.declared.requests.Request.TheVariants.{Register, Unregister, Admit, Change, Release, Reload}
+use Rattle.gk_protocol.specs.declared.requests.Request.TheVariants.{Register, Unregister, Admit, Change, Release, Reload, Try}
 use Rattle.gk_protocol.specs.declared.answers.Answer.{Answer}
-use Rattle.gk_protocol.specs.declared.answers.Answer.TheVariants.{Reply, Misconfigured, Malformed}
-use Rattle.gk_protocol.specs.Answers.{answer_line_of}
-use Rattle.gk_protocol.specs.Requests.{reload_without_memory}
-use Rattle.gk_protocol.specs.CoreAnswers.{MayAnswer}
+use Rattle.gk_protocol.specs.declared.answers.Answer.TheVariants.{Reply, Misconfigured, Tried, TryRefused, Malformed}
+use Rattle.gk_protocol.specs.declared.answers.TrialRefusal.TheVariants as trial
+use Rattle.gk_protocol.specs.Answers.{answer_text_of}
+use Rattle.gk_protocol.specs.Requests.{reload_without_memory, trial_without_memory}
+use Rattle.gk_protocol.specs.CoreAnswers.{are_workers, report_under, MayAnswer}
 use Rattle.gk_protocol.specs.Session.{Asked, requests_of, Runs}
 use Rattle.configuration_reader.specs.declared.configuration.Until.TheVariants.{EndLine}
 use Rattle.configuration_reader.specs.Configuration.{configuration_of, rest_of}
@@ -29,44 +30,59 @@ sequence_of (Admit sequence id call digits units) = sequence
 sequence_of (Change sequence id call units) = sequence
 sequence_of (Release sequence id call) = sequence
 sequence_of (Reload sequence lines) = sequence
+sequence_of (Try sequence workers lines) = sequence
 
--- a reload of what was read, or its fault
-abbrev pub reloading : Result Configuration LineFault → Result PlainEvent LineFault
-reloading (Ok configuration) = Ok (Reloading configuration.commands)
-reloading (Err fault) = Err fault
+-- a reload of what was read, or the answer that names its fault
+abbrev pub reloading : ℕ → Result Configuration LineFault → Result PlainEvent Answer
+reloading sequence (Ok configuration) = Ok (Reloading configuration.commands)
+reloading sequence (Err fault) = Err (Misconfigured sequence fault)
 
--- the event that a request asks for, or the first fault of the lines that belong to it
-abbrev pub event_of : Request → Result PlainEvent LineFault
-event_of (Register sequence endpoint) = Ok (Registering endpoint)
-event_of (Unregister sequence id) = Ok (Unregistering id)
-event_of (Admit sequence id call digits units) = Ok (Admitting id call digits units)
-event_of (Change sequence id call units) = Ok (Changing id call units)
-event_of (Release sequence id call) = Ok (Releasing id call)
-event_of (Reload sequence lines) = reloading (reading_in (lines_of lines))
+-- the answer to a trial by what was read: the report under the configuration, or the fault
+abbrev pub tried_by : CoreParts → ℕ → Result Configuration LineFault → Answer
+tried_by core sequence (Ok configuration) = Tried sequence (report_under core configuration)
+tried_by core sequence (Err fault) = TryRefused sequence (trial.Misconfigured fault)
 
--- the machine's answer to an event, and the core after it; a fault leaves the core
-abbrev pub answer_to : CoreParts → ℕ → Result PlainEvent LineFault → Answer
+-- the answer to a trial; that there may not be so many workers comes before a fault of the lines
+abbrev pub trial_answer : CoreParts → ℕ → ℕ → List (List ℕ) → Answer
+trial_answer core sequence workers lines =
+    if are_workers workers then tried_by core sequence (reading_in lines)
+    else TryRefused sequence trial.BadWorkers
+
+-- the event that a request asks for; or the answer that leaves the core, to a trial, and to a
+-- reload whose lines have a fault
+abbrev pub event_of : CoreParts → Request → Result PlainEvent Answer
+event_of core (Register sequence endpoint) = Ok (Registering endpoint)
+event_of core (Unregister sequence id) = Ok (Unregistering id)
+event_of core (Admit sequence id call digits units) = Ok (Admitting id call digits units)
+event_of core (Change sequence id call units) = Ok (Changing id call units)
+event_of core (Release sequence id call) = Ok (Releasing id call)
+event_of core (Reload sequence lines) = reloading sequence (reading_in (lines_of lines))
+event_of core (Try sequence workers lines) =
+    Err (trial_answer core sequence workers (lines_of lines))
+
+-- the machine's answer to an event, and the core after it; or the answer that leaves the core
+abbrev pub answer_to : CoreParts → ℕ → Result PlainEvent Answer → Answer
 answer_to core sequence (Ok event) = Reply sequence (step (state_of core) event).reply
-answer_to core sequence (Err fault) = Misconfigured sequence fault
+answer_to core sequence (Err answer) = answer
 
-abbrev pub core_with : CoreParts → Result PlainEvent LineFault → CoreParts
+abbrev pub core_with : CoreParts → Result PlainEvent Answer → CoreParts
 core_with core (Ok event) = core_after core event
-core_with core (Err fault) = core
+core_with core (Err answer) = core
 
 -- the same of what was asked
 abbrev pub answer_of : CoreParts → Result Request RequestFault → Answer
-answer_of core (Ok request) = answer_to core (sequence_of request) (event_of request)
+answer_of core (Ok request) = answer_to core (sequence_of request) (event_of core request)
 answer_of core (Err fault) = Malformed fault
 
 abbrev pub core_of : CoreParts → Result Request RequestFault → CoreParts
-core_of core (Ok request) = core_with core (event_of request)
+core_of core (Ok request) = core_with core (event_of core request)
 core_of core (Err fault) = core
 
--- the lines of the answers, one after another
+-- the answers as they are written, one after another
 abbrev pub replies_of : CoreParts → List Asked → List ℕ
 replies_of core [] = []
 replies_of core (asked ∷ others) =
-    answer_line_of (answer_of core asked.request) ++ replies_of (core_of core asked.request) others
+    answer_text_of (answer_of core asked.request) ++ replies_of (core_of core asked.request) others
 
 abbrev pub output_after : Limits → List ℕ → Result Configuration LineFault
     → Result (List ℕ) LineFault
@@ -89,7 +105,7 @@ OutputIsRun =
     × Runs MayAnswer (opened configuration limits)
     (requests_of (rest_of EndLine bytes)) text last)
 
--- ---- if memory lasts
+-- ---- if memory lasts and threads are started
 -- the answer to a request that says that memory ran out for it, if there is one
 abbrev pub without_memory : Request → Option Answer
 without_memory (Register sequence endpoint) =
@@ -103,21 +119,27 @@ without_memory (Change sequence id call units) =
 without_memory (Release sequence id call) =
     option_map (Reply sequence) (no_memory_reply_of (Releasing id call))
 without_memory (Reload sequence lines) = Some (reload_without_memory sequence)
+without_memory (Try sequence workers lines) = Some (trial_without_memory sequence)
 
--- a core's answer to a request, which does not say that memory ran out for it; or the fault of a
--- line that is none
+-- the answer to a request that says that a thread could not be started for it
+abbrev pub without_thread : Request → Answer
+without_thread request = TryRefused (sequence_of request) trial.NoThread
+
+-- a core's answer to a request, which says neither; or the fault of a line that is none
 abbrev pub AnsweredInMemory : CoreParts → Result Request RequestFault → Answer → CoreParts → Type 0
 AnsweredInMemory old (Ok request) answer new =
     MayAnswer old request answer new × (without_memory request ≢ Some answer)
+    × (without_thread request ≢ answer)
 AnsweredInMemory old (Err fault) answer new = (answer ≡ Malformed fault) × (new ≡ old)
 
--- these requests may get these lines as replies, one after another, and memory runs out for none
+-- these requests may get this text as replies, one after another, and memory and threads are there
+-- for each of them
 abbrev pub RunsInMemory : CoreParts → List Asked → List ℕ → CoreParts → Type 0
 RunsInMemory old [] text new = (text ≡ []) × (new ≡ old)
 RunsInMemory old (asked ∷ others) text new =
     (answer : Answer) × (rest : List ℕ) × (mid : CoreParts)
     × AnsweredInMemory old asked.request answer mid × RunsInMemory mid others rest new
-    × (text ≡ answer_line_of answer ++ rest)
+    × (text ≡ answer_text_of answer ++ rest)
 
 -- the requests after an accepted configuration may get just these replies then
 abbrev pub OutputIsRunInMemory : Type 0

@@ -61,22 +61,25 @@ Faults = Writes stated
     ∷ codes "ERR option" ∷ codes "ERR line" ∷ [])
 
 -- ---- a dial plan
--- two zones here, and two of other gatekeepers, of which gk-y is the cheaper
-abbrev pub zones : List (List ℕ)
-zones =
+-- two zones here, and two of other gatekeepers, of which gk-y is the cheaper; and where 9 leads
+abbrev pub zones : List (List ℕ) → List (List ℕ)
+zones nines =
     codes "gatekeeper" ∷ codes " zone local gk-a example.com 10.0.0.1"
     ∷ codes " zone local gk-b example.com"
     ∷ codes " zone remote gk-x example.com 10.9.0.1 1719 cost 50"
     ∷ codes " zone remote gk-y example.com 10.9.0.2 1719 cost 20"
-    ∷ codes " zone prefix gk-a 408*" ∷ codes " zone prefix gk-b 4085......"
-    ∷ codes " zone prefix gk-x 9*" ∷ codes " zone prefix gk-y 9*" ∷ []
+    ∷ codes " zone prefix gk-a 408*" ∷ codes " zone prefix gk-b 4085......" ∷ nines
 
 -- a default technology, if it is set; a hop-off zone; limits; and lines that are added
-abbrev pub dial_plan : List (List ℕ) → List (List ℕ) → List (List ℕ)
-dial_plan default added =
-    zones ++ default ++ codes " gw-type-prefix 2# hopoff gk-x"
+abbrev pub plan_over : List (List ℕ) → List (List ℕ) → List (List ℕ) → List (List ℕ)
+plan_over nines default added =
+    zones nines ++ default ++ codes " gw-type-prefix 2# hopoff gk-x"
     ∷ codes " bandwidth total zone gk-a 256" ∷ codes " bandwidth session default 128"
     ∷ added ++ codes " no shutdown" ∷ codes "end" ∷ []
+
+abbrev pub dial_plan : List (List ℕ) → List (List ℕ) → List (List ℕ)
+dial_plan default added =
+    plan_over (codes " zone prefix gk-x 9*" ∷ codes " zone prefix gk-y 9*" ∷ []) default added
 
 abbrev pub default_technology : List (List ℕ)
 default_technology = codes " gw-type-prefix 1#* default-technology" ∷ []
@@ -329,3 +332,46 @@ SmallestLimits =
     ∷ codes "ARJ 4 1002 resourceUnavailable calls-full" ∷ codes "CCF 5 2"
     ∷ codes "CRJ 6 0 reloads-spent" ∷ codes "ARJ 7 1003 resourceUnavailable record-full"
     ∷ codes "DCF 8 1001" ∷ codes "URJ 9 ta undefinedReason record-full" ∷ [])
+
+-- ---- trials
+-- calls to other gatekeepers and between the two zones; one of them is released, and one is refused
+-- for the total of gk-a
+abbrev pub tried_calls : List (List ℕ)
+tried_calls =
+    codes "ARQ 5 ta 1001 9123 640" ∷ codes "ARQ 6 ta 1002 4085551234 1280"
+    ∷ codes "ARQ 7 gb1 1003 9124 640" ∷ codes "DRQ 8 ta 1002" ∷ codes "ARQ 9 ta 1004 2#9123 1280"
+    ∷ codes "ARQ 10 ta 1005 9125 1280" ∷ []
+
+abbrev pub replies_to_calls : List (List ℕ)
+replies_to_calls =
+    codes "ACF 5 1001 ZONE gk-y 10.9.0.2:1719 640"
+    ∷ codes "ACF 6 1002 GW gb1 10.0.2.1:1720 1280"
+    ∷ codes "ACF 7 1003 ZONE gk-y 10.9.0.2:1719 640" ∷ codes "DCF 8 1002"
+    ∷ codes "ACF 9 1004 ZONE gk-x 10.9.0.1:1719 1280"
+    ∷ codes "ARJ 10 1005 requestDenied total gk-a" ∷ []
+
+-- the same dial plan, in which 9 leads to gk-b
+abbrev pub candidate : List (List ℕ)
+candidate = plan_over (codes " zone prefix gk-b 9*" ∷ []) default_technology []
+
+-- three workers, and none
+abbrev pub TriedOnCalls : Type 0
+TriedOnCalls = Writes stated
+    (dial_plan default_technology []
+    ++ after_endpoints (tried_calls ++ codes "TRY 11 3 14" ∷ candidate))
+    (after_registered (replies_to_calls ++ codes "TCF 11 11"
+    ∷ codes "number,digits,recorded,candidate,verdict"
+    ∷ codes "5,9123,ZONE gk-y 10.9.0.2:1719,GW gb1 10.0.2.1:1720,changed"
+    ∷ codes "6,4085551234,GW gb1 10.0.2.1:1720,GW gb1 10.0.2.1:1720,same"
+    ∷ codes "7,9124,ZONE gk-y 10.9.0.2:1719,GW gb1 10.0.2.1:1720,changed"
+    ∷ codes "9,2#9123,ZONE gk-x 10.9.0.1:1719,ZONE gk-x 10.9.0.1:1719,same"
+    ∷ codes "10,9125,ZONE gk-y 10.9.0.2:1719,GW gb1 10.0.2.1:1720,changed"
+    ∷ codes "peak,gk-a,1920,," ∷ codes "peak,gk-b,2560,," ∷ codes "peak,gk-x,1280,,"
+    ∷ codes "peak,gk-y,0,," ∷ codes "count,5,2,3," ∷ []))
+
+abbrev pub TriedByNone : Type 0
+TriedByNone = Writes stated
+    (dial_plan default_technology []
+    ++ codes "TRY 1 0 14" ∷ candidate ++ codes "TRY 2 65 1" ∷ codes "zone" ∷ codes "TRY 3 64 1"
+    ∷ codes "zone" ∷ [])
+    (codes "TRJ 1 0 bad-workers" ∷ codes "TRJ 2 0 bad-workers" ∷ codes "TRJ 3 1 Missing" ∷ [])

@@ -6,7 +6,7 @@ use gk_terms::read_number;
 use std::alloc::{AllocError, Global};
 
 /// The version of the program, as `--version` prints it.
-const VERSION: &str = "0.2.0";
+const VERSION: &str = "0.3.0";
 
 /// What `gkd` is asked to do.
 #[derive(Clone, Copy, Debug, PartialEq, Eq)]

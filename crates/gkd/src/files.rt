@@ -8,7 +8,7 @@ use std::alloc::{AllocGlobal, Global};
 use std::rt::Runtime;
 use std::{fs, io};
 
-/// Why the text of a file is not there.
+/// Why a file was not read.
 #[derive(Clone, Copy, Debug, PartialEq, Eq)]
 pub enum Unread {
     /// It cannot be opened, or a read failed.

@@ -1,5 +1,5 @@
-//! Laws of the definitions: what they compute to, that this is a run, the only one if memory lasts,
-//! and with which figures.
+//! Laws of the definitions: what they compute to, that this is a run, the only one if memory lasts
+//! and threads are started, and with which figures.
 
 ghost use Rattle.std.specs.Prelude.{◌≡◌};
 ghost use Rattle.gkd.specs.Figures.{AreStated};
@@ -14,7 +14,8 @@ pub fn output_is_run()
     ensures { OutputIsRun }
 {}
 
-/// If memory runs out for no request, that is still a run, and no other output is.
+/// If memory runs out for no request, and each thread of a trial is started, that is still a run,
+/// and no other output is.
 pub fn output_is_only_run()
     ensures run { OutputIsRunInMemory }
     ensures only { OutputIsOnlyRun }
@@ -56,4 +57,6 @@ pub fn worked_rows()
     ensures without_second_zone { Rows.WithoutSecondZone }
     ensures faulty_reloads { Rows.FaultyReloads }
     ensures smallest_limits { Rows.SmallestLimits }
+    ensures tried_on_calls { Rows.TriedOnCalls }
+    ensures tried_by_none { Rows.TriedByNone }
 {}

@@ -15,9 +15,10 @@ use configuration_reader::configuration::{
     ConfigurationFault, MOST_TURNS, Until, read_configuration,
 };
 use gk_lines::{LineReader, Sink, Source};
-use gk_protocol::{SessionFault, let_go, session, session_from};
+use gk_protocol::{SessionFault, TryingCore, let_go, session, session_from};
 use std::alloc::{AllocError, AllocFailed, Global};
-use std::sync::Arc;
+use std::sync::{Arc, Wait};
+use std::thread::Threads;
 use thiserror::Error;
 
 /// Why a run ended before the end of its input.
@@ -101,12 +102,14 @@ impl<T: Drop> From<AllocFailed<T>> for RunFault {
 /// Reads a configuration, and then answers the requests after it to the end of the input. The
 /// configuration ends with the first line of at most 512 bytes whose only word is `end`, or with
 /// the input. `Ok` gives the number of replies that were written. The reader is called at most
-/// 4,294,967,295 times, for the configuration and the requests together.
+/// 4,294,967,295 times, for the configuration and the requests together. A trial takes its threads
+/// from `rt`.
 ///
 /// `BadLimits` comes before the reader is touched. `Config` comes once the configuration was read
 /// to its end; a fault of reading before that is `Session`. At `BadLimits`, `Config` and `NoMemory`
 /// nothing was written.
-pub fn run_over<R: Source, W: Sink>(
+pub fn run_over<T: Threads + Wait, R: Source, W: Sink>(
+    rt: &T,
     alloc: Global,
     limits: Limits,
     reader: &mut R,
@@ -152,7 +155,8 @@ pub fn run_over<R: Source, W: Sink>(
     }
     let mut lines = LineReader::new(MOST_TURNS);
     let commands = read_configuration(alloc, &mut lines, reader, Until::EndLine)?;
-    let mut core = opened(alloc, commands, limits)?;
+    let core = opened(alloc, commands, limits)?;
+    let mut core = TryingCore::new(core, rt);
     let result = session_from(alloc, &mut lines, reader, writer, &mut core);
     let_go(lines);
     // By a call: else each exit has all parts of the core among the facts of its proof.
@@ -171,9 +175,11 @@ pub struct Ended {
 }
 
 /// Answers the requests that the reader gives to its end, under a configuration that was read
-/// before, and gives back the core, also after a fault of the session. `BadLimits` and `NoMemory`
+/// before, and gives back the core, also after a fault of the session. A trial takes its threads
+/// from `rt`. `BadLimits` and `NoMemory`
 /// come before the reader is touched; there is no other fault.
-pub fn run_under<R: Source, W: Sink>(
+pub fn run_under<T: Threads + Wait, R: Source, W: Sink>(
+    rt: &T,
     alloc: Global,
     limits: Limits,
     commands: Commands,
@@ -204,9 +210,13 @@ pub fn run_under<R: Source, W: Sink>(
     if !limits.are_good() {
         return Err(RunFault::BadLimits);
     }
-    let mut core = opened(alloc, commands, limits)?;
+    let core = opened(alloc, commands, limits)?;
+    let mut core = TryingCore::new(core, rt);
     let replies = session(alloc, reader, writer, &mut core, MOST_TURNS);
-    Ok(Ended { core, replies })
+    Ok(Ended {
+        core: core.into_core(),
+        replies,
+    })
 }
 
 /// A core in its opening state under a configuration.

@@ -19,7 +19,7 @@ use std::{fs, io};
 pub fn run_input<R: Runtime + AllocGlobal + Threads + Wait>(rt: &R) -> io::Result<ExitCode> {
     let mut reader = Noted::new(rt.reader());
     let mut writer = Noted::new(io::writer(rt));
-    let result = run_over(rt.alloc(), STATED_LIMITS, &mut reader, &mut writer);
+    let result = run_over(rt, rt.alloc(), STATED_LIMITS, &mut reader, &mut writer);
     end_run(rt, result)
 }
 
@@ -38,6 +38,7 @@ pub fn run_file<R: Runtime + AllocGlobal + Threads + Wait>(
     let mut reader = Noted::new(rt.reader());
     let mut writer = Noted::new(io::writer(rt));
     let ended = run_under(
+        rt,
         rt.alloc(),
         STATED_LIMITS,
         commands,

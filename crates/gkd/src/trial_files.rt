@@ -83,7 +83,9 @@ fn report<R: Runtime + AllocGlobal + Threads + Wait>(
     match trial(rt, rt.alloc(), calls, tables, workers, &OpenGate) {
         Ok(report) => print_report(rt, &report),
         Err(TrialFault::NoThread) => fail(rt, "no thread"),
-        Err(TrialFault::NoMemory | TrialFault::BadWorkers) => fail(rt, "no memory"),
+        Err(TrialFault::NoMemory) => fail(rt, "no memory"),
+        // The command line was refused if there is no such number of workers.
+        Err(TrialFault::BadWorkers) => fail(rt, "bad workers"),
     }
 }
 

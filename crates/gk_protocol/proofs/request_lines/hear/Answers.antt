@@ -3,7 +3,7 @@ use Rattle.std.specs.Prelude.{None, codes}
 use Rattle.std.proofs.lemmas.Slice.Eq.{text_from_reads}
 use Rattle.gk_terms.specs.Text.{words_of}
 use Rattle.gk_protocol.specs.Registrations.{register_at, no_memory_at}
-use Rattle.gk_protocol.specs.Requests.{admit_at, change_at, release_at, reload_at, unregister_at}
+use Rattle.gk_protocol.specs.Requests.{admit_at, change_at, release_at, reload_at, try_at, unregister_at}
 use Rattle.gk_protocol.proofs.AskedLemmas.{asks_at, registers_at, heard_request, heard_owner, lacks_none, lacks_options}
 use Rattle.gk_protocol.proofs.request_lines.hear.Goals as goal
 
@@ -29,6 +29,16 @@ returns-in-CFG g c =
     heard_owner g.A.Answerer.may_answer _ c.args.line.now _ (reload_at words) _ _
     (asks_at c.args.line.now word (codes "CFG") words (search rules) (search rules) first)
     c.reload.ensures c.owns.ensures
+
+pub returns-in-TRY : goal.returns-in-TRY
+returns-in-TRY g c =
+    let word = c.in-Some.word.now in
+    let words = words_of c.next.new.self in
+    let first = text_from_reads word (codes "TRY") (search rules)
+    (search rules, (search rules, (search rules, tt))) in
+    heard_owner g.A.Answerer.may_answer _ c.args.line.now _ (try_at words) _ _
+    (asks_at c.args.line.now word (codes "TRY") words (search rules) (search rules) first)
+    c.trial.ensures c.owns-in-TRY.ensures
 
 pub returns-in-URQ : goal.returns-in-URQ
 returns-in-URQ g c =

@@ -14,12 +14,12 @@ returns-in-Ok-Answered-clause-progress g c =
     let line = content_of c.args.line.now in
     let arm = c.in-Ok-Answered in
     let told : Hears g.A.Answerer.may_answer c.args.answerer.now c.content.result.now
-    (Ok heard.Answered) c.hear.new.reply.line c.hear.new.answerer = rw (arm.field-0-is) at
+    (Ok heard.Answered) c.hear.new.reply.text c.hear.new.answerer = rw (arm.field-0-is) at
     arm.ensures in
     by_itself g.A.Answerer.may_answer _ c.args.lines.now.ended c.args.answerer.now
     c.hear.new.answerer line _ (Ok Answered)
     (answered_by_itself g.A.Answerer.may_answer c.args.answerer.now c.hear.new.answerer line
-    c.hear.new.reply.line (rw c.content.ensures at told))
+    c.hear.new.reply.text (rw c.content.ensures at told))
 
 pub returns-in_err-taken-in-Ok-Owns-clause-progress
     : goal.returns-in_err-taken-in-Ok-Owns-clause-progress
@@ -28,14 +28,14 @@ returns-in_err-taken-in-Ok-Owns-clause-progress g c =
     let line = content_of c.args.line.now in
     let arm = c.in-Ok-Owns in
     let told : Hears g.A.Answerer.may_answer c.args.answerer.now c.content.result.now
-    (Ok (heard.Owns arm.owner arm.count)) c.hear.new.reply.line c.hear.new.answerer =
+    (Ok (heard.Owns arm.owner arm.count)) c.hear.new.reply.text c.hear.new.answerer =
     rw (arm.field-0-is) at arm.ensures in
     let asks : Hears g.A.Answerer.may_answer c.args.answerer.now line
-    (Ok (heard.Owns arm.owner arm.count)) c.hear.new.reply.line c.hear.new.answerer =
+    (Ok (heard.Owns arm.owner arm.count)) c.hear.new.reply.text c.hear.new.answerer =
     rw c.content.ensures at told in
     rw (p.1, p.2, asks.1)
     (owner_unread g.A.Answerer.may_answer _ _ _ _ c.args.answerer.now line
-    c.hear.new.reply.line arm.count (request_with arm.owner) (lines_without_memory arm.owner)
+    c.hear.new.reply.text arm.count (request_with arm.owner) (lines_without_memory arm.owner)
     c.in_err-taken-in-Ok-Owns.field-0.0 asks.0 c.in_err-taken-in-Ok-Owns.ensures.taken)
 
 pub returns-in-Err-clause-progress : goal.returns-in-Err-clause-progress
@@ -47,6 +47,6 @@ returns-in-Err-clause-progress g c =
       Malformed fault,
       c.show_fault.ensures,
       answered_fault g.A.Answerer.may_answer
-          c.args.answerer.now c.hear.new.answerer line c.hear.new.reply.line fault
+          c.args.answerer.now c.hear.new.answerer line c.hear.new.reply.text fault
           (rw c.content.ensures at c.in-Err.ensures),
     )

@@ -4,8 +4,8 @@ use Rattle.gk_lines.specs.LineReader.{work_left, left_of, AtEndIfEnded, CountsTu
 use Rattle.gk_protocol.proofs.SessionUnderWay.{UnderWay}
 use Rattle.gk_protocol.proofs.sessions.session_from.Given as goal
 
-abbrev pub invariant-loop-lines : goal.invariant-loop-lines
-invariant-loop-lines g l =
+abbrev pub invariant-loop-reply : goal.invariant-loop-reply
+invariant-loop-reply g l =
     let remaining = g.R.Source.remaining in
     let contents = g.W.Sink.contents in
     record {
@@ -20,5 +20,5 @@ invariant-loop-lines g l =
       writer_noted : g.W.Sink.has_failed l.writer ≡ g.W.Sink.has_failed l.fn.writer;
     }
 
-abbrev pub decreases-loop-lines : goal.decreases-loop-lines
-decreases-loop-lines g l = work_left l.lines
+abbrev pub decreases-loop-reply : goal.decreases-loop-reply
+decreases-loop-reply g l = work_left l.lines

@@ -1,7 +1,7 @@
 use Rattle.std.proofs.lemmas.Result.{err_from_is_err_and}
 use Rattle.gk_protocol.specs.CoreAnswers.{MayAnswer}
 use Rattle.gkd.specs.Run.{OpensWithin}
-use Rattle.std.proofs.Common.{ap}
+use Rattle.std.proofs.Common.{ap, ◌∙◌}
 use Rattle.gk_lines.specs.LineReader.{LineReaderParts}
 use Rattle.gkd.proofs.RunLemmas.{run_serves, run_refuses, run_lacks, noted_then, turns_within}
 use Rattle.gkd.proofs.run.run_over.Goals as goal
@@ -11,7 +11,7 @@ pub returns-clause-written : goal.returns-clause-written
 returns-clause-written g c =
     run_serves MayAnswer (OpensWithin c.args.limits) _ c.new-lines.result
     c.read_configuration.new.lines _ _ _ _ _ _ _ _ _ (Ok c.in_ok-replies.replies)
-    c.new-lines.ensures c.in_ok-commands.ensures.read c.in_ok-core.ensures.opened
+    c.new-lines.ensures c.in_ok-commands.ensures.read (c.new-core.ensures ∙ c.in_ok-core.ensures.opened)
     c.let_go.ensures (rw c.in_ok-replies.was at c.session_from-result.ensures.written)
 
 pub returns-in_err-commands-clause-written : goal.returns-in_err-commands-clause-written
@@ -38,7 +38,7 @@ returns-in_err-replies-clause-written g c =
     rw (p.1, p.2)
     (run_serves MayAnswer (OpensWithin c.args.limits) _ c.new-lines.result
     c.read_configuration.new.lines _ _ _ _ _ _ _ _ _ (Err c.in_err-replies.field-0.0)
-    c.new-lines.ensures c.in_ok-commands.ensures.read c.in_ok-core.ensures.opened
+    c.new-lines.ensures c.in_ok-commands.ensures.read (c.new-core.ensures ∙ c.in_ok-core.ensures.opened)
     c.let_go.ensures (rw c.in_err-replies.was at c.session_from-result.ensures.written))
 
 pub returns-in_err-replies-clause-reader_noted : goal.returns-in_err-replies-clause-reader_noted
