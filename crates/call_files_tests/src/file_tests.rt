@@ -22,11 +22,12 @@ const OTHER_ROWS: &[u8] = b"1,ARQ,4294967295,\"a,b\",#*,0,yes,\"TERM \"\"t\"\" 0
 4,ARQ,1,z,1,5,no,no-gateway\n\
 4294967295,ARQ,4294967295,z,1,5,no,no-default\n";
 
-/// A call file of these rows.
+/// A call file of these rows; an empty one if memory runs out, which is no call file.
 fn file_of(alloc: Global, rows: &[u8]) -> Vec<u8> {
     let mut file = Vec::new(alloc);
-    let _ = file.extend_from_slice(HEADER).unwrap();
-    let _ = file.extend_from_slice(rows).unwrap();
+    if file.extend_from_slice(HEADER).is_err() || file.extend_from_slice(rows).is_err() {
+        return Vec::new(alloc);
+    }
     file
 }
 

@@ -98,8 +98,9 @@ fn each_of_64_workers_begins_once(rt: HostRuntime) {
         panic!(rt; "no memory");
     };
     assert!(rt; is_tried(&rt, rt.alloc(), 64, &gate));
-    for worker in 0..66 {
-        let begun = gate.begun[worker].load(Ordering::SeqCst);
-        assert!(rt; (begun == 1) == (worker > 0 && worker < 65));
+    assert!(rt; gate.begun.len() == 66);
+    for (worker, count) in gate.begun.iter().enumerate() {
+        let due = if worker > 0 && worker < 65 { 1 } else { 0 };
+        assert!(rt; count.load(Ordering::SeqCst) == due);
     }
 }
