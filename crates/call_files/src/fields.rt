@@ -144,7 +144,7 @@ fn admitted_in(fields: &ByteRecord) -> Result<CallEvent, CallsFaultKind>
     }))
 }
 
-/// A change, which has no zone, digits, answer and route.
+/// A change, which has no zone, digits, answer or route.
 fn changed_in(fields: &ByteRecord) -> Result<CallEvent, CallsFaultKind>
     ensures { result ≡ Spec.changed_in (fields_of fields.now) }
 {

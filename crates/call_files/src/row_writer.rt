@@ -103,7 +103,7 @@ impl RowWriter {
         self.send(writer)
     }
 
-    /// Sends what waits. Nothing waits any more, after a fault neither: then the writer has taken
+    /// Sends what waits. Nothing waits any more, not even after a fault: then the writer has taken
     /// a front of it. `WriteFault` comes only if the writer fails in this call.
     pub fn send<W: Sink>(&mut self, writer: &mut W) -> Result<(), WriteRowsFault>
         ensures whole { OnOk result (Appends (W.contents writer.old) (W.contents writer.new)

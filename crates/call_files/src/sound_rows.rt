@@ -9,7 +9,7 @@ use call_rows::{AdmittedCall, CallEvent, CallRow};
 use gk_terms::{Address, Name};
 use rulings::{Destination, Route};
 
-/// A row is one.
+/// Each part of the row keeps what its type keeps.
 pub(crate) fn row_is_sound(row: &CallRow)
     ensures { IsRow row.now }
 {
@@ -17,7 +17,7 @@ pub(crate) fn row_is_sound(row: &CallRow)
     event_is_sound(row.event());
 }
 
-/// What it says is an event.
+/// Each part of the event keeps what its type keeps.
 fn event_is_sound(event: &CallEvent)
     ensures { IsEvent event.now }
 {

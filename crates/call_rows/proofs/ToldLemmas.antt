@@ -102,7 +102,7 @@ told_at f xs ys told place =
     (sym (slice_get-map f xs place)
     ∙ ap (λ os. slice_get os place) told ∙ slice_get-map Some ys place)
 
--- if each passes a test, it is found also behind the test
+-- if each passes a test, it is found through the test too
 pub told_if : {X Y : Type 0} (f : X → Option Y) (test : Y → Bool) (xs : List X) (ys : List Y)
     → map f xs ≡ map Some ys → list_all test ys ≡ true → (place : ℕ)
     → option_and_then (λ x. option_and_then (λ y. if test y then Some y else None) (f x))

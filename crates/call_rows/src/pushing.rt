@@ -23,7 +23,7 @@ impl Snapshot {
     /// `OutOfOrder`, if its number is not greater than that of the last one; as `CallOpen` and then
     /// as `TooMany`, if it is a granted admission and a call of its number is open, or 50,000 calls
     /// are; and as `NoCall`, if it is a change or a release and no call of its number is open.
-    /// `NoMemory` comes only in the place of none of these. After an error nothing has changed.
+    /// `NoMemory` comes only if none of these does. After an error nothing has changed.
     pub fn push(&mut self, row: &CallRow) -> Result<(), PushFault>
         ensures { Pushes self.old row.now result self.new }
     {

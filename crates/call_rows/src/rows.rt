@@ -45,7 +45,7 @@ pub enum CallEvent {
 }
 
 impl CallEvent {
-    /// Whether it may be a row's: its call has a number, from 1 on, and a destination if it was
+    /// Whether a row may say it: its call has a number from 1 on, and a destination if it was
     /// granted.
     fn is_of_a_call(&self) -> bool
         ensures { result ≡ is_of_a_call self.now }

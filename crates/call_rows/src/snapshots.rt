@@ -131,14 +131,14 @@ impl Snapshot {
         self.admissions.len()
     }
 
-    /// The admission at this place among them, from 0.
+    /// The admission at this place among the admissions, from 0.
     pub fn admission(&self, place: usize) -> Option<NumberedAdmission>
         ensures { result ≡ slice_get (admissions_of self.now.rows) place }
     {
         self.admissions.get(place)
     }
 
-    /// The zone of the caller of the admission at this place among them, from 0.
+    /// The zone of the caller of the admission at this place among the admissions, from 0.
     pub fn zone(&self, place: usize) -> Option<Name>
         ensures { result
             ≡ option_map (λ a. a.asked.zone) (slice_get (admissions_of self.now.rows) place) }
@@ -146,7 +146,7 @@ impl Snapshot {
         self.admissions.zone(place)
     }
 
-    /// What was dialled for the admission at this place among them, from 0.
+    /// What was dialled for the admission at this place among the admissions, from 0.
     pub fn digits(&self, place: usize) -> Option<Dialled>
         ensures { result
             ≡ option_map (λ a. a.asked.digits) (slice_get (admissions_of self.now.rows) place) }
@@ -154,7 +154,8 @@ impl Snapshot {
         self.admissions.digits(place)
     }
 
-    /// Whether the digits of the admission at this place among them, from 0, led to this route.
+    /// Whether the digits of the admission at this place among the admissions, from 0, led to this
+    /// route.
     pub fn has_route(&self, place: usize, route: &LentRoute<'_>) -> bool
         ensures { (result ≡ true)
             ↔ (option_map (λ a. a.asked.route) (slice_get (admissions_of self.now.rows) place)

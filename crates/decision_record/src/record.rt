@@ -183,7 +183,7 @@ impl Record {
     }
 
     /// Whether the receipt is that of the entry at its number.
-    fn stands(&self, receipt: &Receipt) -> bool
+    pub fn stands(&self, receipt: &Receipt) -> bool
         ensures { (result ≡ true) ↔ Stands self.now.entries receipt.now }
     {
         match self.get(receipt.number) {

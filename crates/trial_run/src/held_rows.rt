@@ -43,8 +43,8 @@ impl Model for HeldRow {
 }
 
 impl HeldRow {
-    /// The row of an admission that the candidate leads there. Takes memory only for names of more
-    /// than 19 characters.
+    /// The row of an admission that the candidate leads to this route. Takes memory only for names
+    /// of more than 19 characters.
     pub(crate) fn led(
         alloc: Global,
         admission: &NumberedAdmission,

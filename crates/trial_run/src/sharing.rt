@@ -6,7 +6,7 @@ use std::alloc::Global;
 use std::snapshot::Snapshot;
 use std::sync::Wait;
 use std::thread;
-use std::thread::{Promise, PromisedHandle, Scope, SpawnError, Threads};
+use std::thread::{Promise, PromisedHandle, Scope, Threads};
 
 /// Work that comes in pieces, which are numbered from 0.
 pub trait Shares: Sync {
