@@ -1,6 +1,6 @@
 //! What is shown to readers.
 
-ghost use Rattle.std.specs.Prelude.{◌≡◌, ◌+◌, length, Some, IfOk, IsTrue};
+ghost use Rattle.std.specs.Prelude.{◌≡◌, ◌+◌, ◌-◌, length, nat_le, Some, IfOk, IsTrue};
 ghost use Rattle.std.specs.Arc.{arc_value};
 ghost use mathlib.Core.List.{IsPrefix};
 ghost use Rattle.publisher.specs.History.{draft_of, generations_in, last_of, shown_by};
@@ -91,8 +91,10 @@ impl Publication {
     /// which then says that this is in force.
     pub(crate) fn has<J: Imprint>(&self, told: &Front<J>) -> bool
         requires { self.now.stem.seen.book ≡ J.book }
-        ensures { IsTrue result → IsPrefix (generations_in told.now)
+        ensures told { IsTrue result → IsPrefix (generations_in told.now)
             (shown_by self.now.stem.seen.log (arc_value self.now.tables).commands) }
+        ensures exact { result
+            ≡ nat_le (length told.now - 1) (length self.now.stem.seen.log) }
     {
         told.meet(&self.stem);
         let shown = self.stem.len();

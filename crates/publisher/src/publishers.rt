@@ -1,6 +1,6 @@
 //! The publisher of tables.
 
-ghost use Rattle.std.specs.Prelude.{◌≡◌, ◌+◌, ◌<◌, ◌⊎◌, ◌^◌, [], ◌∷◌, ◌++◌, length, IfOk, IfSome, IfErr, Err, Some, MatchBool};
+ghost use Rattle.std.specs.Prelude.{◌≡◌, ◌+◌, ◌<◌, ◌⊎◌, ◌^◌, [], ◌∷◌, ◌++◌, length, nat_lt, IfOk, IfSome, IfErr, Err, Some, MatchBool};
 ghost use Rattle.std.specs.Arc.{arc_value};
 ghost use mathlib.Core.List.{IsPrefix};
 ghost use Rattle.publisher.specs.declared.faults.NewFault.TheVariants.{BadPlaces};
@@ -28,7 +28,7 @@ use std::sync::{Arc, Wait};
 /// The greatest number of places for readers.
 pub const MOST_PLACES: u32 = 32;
 
-/// A history with so many entries takes no more publications.
+/// A history with so many entries takes no more publications: 2^61.
 const MOST_ENTRIES: u64 = 1 << 61;
 
 /// Puts tables in force, one version after another, for readers that never wait. It can't be let
@@ -136,7 +136,7 @@ impl<J: Imprint> Publisher<J> {
             (version ≡ length self.new)) }
         ensures refused { IfErr result (λ _. self.new ≡ self.old) }
     {
-        if self.newest.len() >= MOST_ENTRIES {
+        if !has_room(&self.newest) {
             return Err(NoMemory);
         }
         let version = self.version + 1;
@@ -178,6 +178,13 @@ impl<J: Imprint> Publisher<J> {
         } = self;
         copies.take(rt);
     }
+}
+
+/// Whether the history takes another publication.
+fn has_room<J: Imprint>(newest: &Front<J>) -> bool
+    ensures { result ≡ nat_lt (length newest.now) 2305843009213693952 }
+{
+    newest.len() < MOST_ENTRIES
 }
 
 /// These tables as a draft at the end of the history, and as the publication that is to be shown.

@@ -1,6 +1,6 @@
 //! Readers of the tables in force.
 
-ghost use Rattle.std.specs.Prelude.{◌≡◌, ◌-◌, true, length, Some, IfOk, slice_get};
+ghost use Rattle.std.specs.Prelude.{◌≡◌, ◌⊎◌, ◌-◌, true, length, Some, IfOk, slice_get};
 ghost use Rattle.std.specs.Arc.{arc_value};
 ghost use mathlib.Core.List.{IsPrefix};
 ghost use Rattle.compiler.specs.Plan.{plan_of, target_of};
@@ -95,13 +95,15 @@ impl<J: Imprint> Reader<J> {
         replace_with(&mut self.place, (&self.told, digits), route_of)
     }
 
-    /// Takes in what its publisher told. From then on it reads the last of those publications or a
+    /// Takes in what its publisher told: the longer of this and what it was told before is kept, and
+    /// the other is a beginning of it. From then on it reads the last of those publications or a
     /// later one. It takes no memory.
     #[tactic(auto, using(crate::proofs::Prefixes::prefix_self))]
     pub fn learn(&mut self, told: Told<J>)
         ensures same { self.new.list ≡ self.old.list }
         ensures kept { IsPrefix self.old.told self.new.told }
         ensures told { IsPrefix told self.new.told }
+        ensures longer { (self.new.told ≡ self.old.told) ⊎ (self.new.told ≡ told) }
     {
         let other = told.into_front();
         if self.told.is_shorter(&other) {

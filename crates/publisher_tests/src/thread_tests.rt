@@ -16,7 +16,7 @@ use std::test::Fail;
 use std::thread::{Threads, join};
 
 /// The last version of the long run.
-const LAST: u32 = 1001;
+const LAST: u32 = 4097;
 
 /// What the publisher told last, and its version.
 #[derive(Drop)]
@@ -25,13 +25,15 @@ struct Letter<J: Imprint> {
     told: Told<J>,
 }
 
-/// Where each of four readers finds what it was told, and whether all is published.
+/// Where each of four readers finds what it was told, the version that all were told of, and whether
+/// all is published.
 #[derive(Drop)]
 struct Posts<J: Imprint> {
     first: Mutex<Option<Letter<J>>>,
     second: Mutex<Option<Letter<J>>>,
     third: Mutex<Option<Letter<J>>>,
     fourth: Mutex<Option<Letter<J>>>,
+    version: AtomicU64,
     over: AtomicU64,
 }
 
@@ -43,13 +45,14 @@ impl<J: Imprint> Posts<J> {
             second: Mutex::new(None),
             third: Mutex::new(None),
             fourth: Mutex::new(None),
+            version: AtomicU64::new(1),
             over: AtomicU64::new(0),
         }
     }
 }
 
 #[test]
-fn readers_beside_a_thousand_publications(rt: HostRuntime) -> Result<(), Fail> {
+fn readers_beside_4096_publications(rt: HostRuntime) -> Result<(), Fail> {
     let digits = Dialled::read(b"12")?;
     let first = tables_of_version(rt.alloc(), 1).ok_or("no memory")?;
     let (published, read) = read_beside::<Brand, _>(&rt, rt.alloc(), Blank::new(), first, &digits);
@@ -57,7 +60,7 @@ fn readers_beside_a_thousand_publications(rt: HostRuntime) -> Result<(), Fail> {
     Ok(())
 }
 
-/// Publishes 1,000 versions beside four readers. The last version, and what each reader read last:
+/// Publishes 4,096 versions beside four readers. The last version, and what each reader read last:
 /// none if it saw something wrong.
 fn read_beside<J: Imprint + Send + Sync, R: Threads + Wait + Abort + Sync>(
     rt: &R,
@@ -119,15 +122,15 @@ fn read_by_four<J: Imprint + Send + Sync, R: Threads + Wait + Sync>(
         || {
             join(
                 rt,
-                || read_on(rt, a, &posts.first, &posts.over, digits),
-                || read_on(rt, b, &posts.second, &posts.over, digits),
+                || read_on(rt, a, &posts.first, posts, digits),
+                || read_on(rt, b, &posts.second, posts, digits),
             )
         },
         || {
             join(
                 rt,
-                || read_on(rt, c, &posts.third, &posts.over, digits),
-                || read_on(rt, d, &posts.fourth, &posts.over, digits),
+                || read_on(rt, c, &posts.third, posts, digits),
+                || read_on(rt, d, &posts.fourth, posts, digits),
             )
         },
     );
@@ -154,6 +157,7 @@ fn published_on<J: Imprint, R: Wait>(
         tell(rt, publisher, &posts.second, version);
         tell(rt, publisher, &posts.third, version);
         tell(rt, publisher, &posts.fourth, version);
+        posts.version.store(u64::from(version), Ordering::SeqCst);
     }
     posts.over.store(1, Ordering::SeqCst);
     version
@@ -166,7 +170,7 @@ fn is_published<J: Imprint, R: Wait>(
     publisher: &mut Publisher<J>,
     version: u32,
 ) -> bool
-    requires { length publisher.old < 2000 }
+    requires { length publisher.old < 5000 }
     ensures { length publisher.new ≤ length publisher.old + 1 }
 {
     let Some(tables) = tables_of_version(alloc, version) else {
@@ -191,22 +195,24 @@ fn tell<J: Imprint, R: Wait>(
     *post.lock(rt) = Some(Letter { version, told });
 }
 
-/// Reads on until all is published. The version that it read last: none if a version was lower than
-/// one before or than one that it was told of, or if it read tables that aren't those of their
-/// version.
+/// Reads on until all is published, once for each version that it sees told. The version that it
+/// read last: none if a version was lower than one before or than one that it was told of, or if it
+/// read tables that aren't those of their version.
 fn read_on<J: Imprint, R: Wait>(
     rt: &R,
     reader: &mut Reader<J>,
     post: &Mutex<Option<Letter<J>>>,
-    over: &AtomicU64,
+    posts: &Posts<J>,
     digits: &Dialled,
 ) -> Option<u32> {
     let mut last = 1;
     for _ in rt.forever() {
-        let is_over = over.load(Ordering::SeqCst);
-        let told = learned(rt, reader, post);
-        let least = if told > last { told } else { last };
-        last = read_in_order(reader, digits, least)?;
+        let is_over = posts.over.load(Ordering::SeqCst);
+        if is_over == 1 || posts.version.load(Ordering::SeqCst) > u64::from(last) {
+            let told = learned(rt, reader, post);
+            let least = if told > last { told } else { last };
+            last = read_in_order(reader, digits, least)?;
+        }
         if is_over == 1 {
             break;
         }

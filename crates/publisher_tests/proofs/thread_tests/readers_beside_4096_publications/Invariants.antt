@@ -1,4 +1,4 @@
-use Rattle.publisher_tests.proofs.thread_tests.readers_beside_a_thousand_publications.Given as goal
+use Rattle.publisher_tests.proofs.thread_tests.readers_beside_4096_publications.Given as goal
 
 -- the history that was just opened
 abbrev pub ghosts-read_beside : goal.ghosts-read_beside

@@ -1,0 +1,172 @@
+-- Steps of a core whose reservation is not shown, and the generations before and after them.
+use Rattle.std.proofs.Common.{◌≡◌, ◌+◌, ◌-◌, arith, slice_get, length-append, true, List, [], ◌∷◌, ◌++◌, length, Option, Some, None, Result, Ok, Err, refl, sym, ap, subst, ◌∙◌}
+use Rattle.std.proofs.lemmas.List.{append-nil}
+use Rattle.std.specs.List.{cons_option}
+use Rattle.std.specs.Prelude.{IfOk, IfErr, OnErr, MatchResult, if◌then◌else◌}
+use Rattle.std.proofs.Common.{false, true≢false}
+use Rattle.rulings.specs.Step.{step, no_memory_reply_of}
+use Rattle.rulings.specs.declared.replies.ReloadRefusal.TheVariants.{NoMemory}
+use Rattle.publisher.proofs.Prefixes.{get_last}
+use Rattle.rulings.specs.declared.replies.Reply.TheVariants.{Reloaded, ReloadRefused}
+use Rattle.rulings.specs.declared.replies.ReloadRefusal.{ReloadRefusal}
+use Rattle.command_reader.specs.declared.commands.Command.{Command}
+use Rattle.rulings.specs.Events.{PlainEvent, Reloading, put_in_force}
+use Rattle.rulings.specs.declared.replies.Reply.{Reply}
+use Rattle.decision_record.specs.declared.entries.Receipt.{Receipt}
+use Rattle.decision_record.specs.History.{PlainEntry, CoreParts, generations, IsLegal, state_of, Steps, IsUnrecorded}
+use Rattle.admission.proofs.VersionLemmas.{generations_more}
+use Rattle.call_rows.specs.Rows.{SnapshotParts}
+use Rattle.decision_record.specs.Rows.{rows_of}
+use Rattle.rulings.specs.State.{State}
+use Rattle.live_desk.specs.Seats.{unreserved, IsPut, IsReceiptOf, IsSnapshotOfSome, LastStands}
+use Rattle.live_desk.specs.Seats as seats
+use Rattle.live_desk.proofs.Counts.{number_within}
+use Rattle.admission.proofs.StepLemmas.{step_reply}
+use Rattle.std.proofs.Common.{ℕ, ◌<◌}
+use Rattle.std.specs.Prelude.{IfSome}
+
+pub same_state : (core : CoreParts) → state_of (unreserved core) ≡ state_of core
+unfolding state_of
+same_state core = refl
+
+-- a step of a core is one of what is shown of it
+pub steps_shown : (old new : CoreParts) (event : PlainEvent)
+    (result : Result (Reply × Receipt) Reply) → Steps old event result new
+    → Steps (unreserved old) event result (unreserved new)
+unfolding state_of
+steps_shown old new event (Ok answer) h = record {
+  recorded = h.recorded;
+  reply_is = h.reply_is;
+  receipt_is = h.receipt_is;
+  new_is = ap unreserved h.new_is;
+}
+steps_shown old new event (Err reply) h = record {
+  reply_is = h.reply_is;
+  unchanged = ap unreserved h.unchanged;
+}
+
+-- an event that puts nothing in force leaves the generations
+pub stays : (old new : CoreParts) (event : PlainEvent) (result : Result (Reply × Receipt) Reply)
+    → put_in_force event ≡ None → Steps old event result new
+    → generations new ≡ generations old
+stays old new event (Ok answer) none h =
+    ap generations h.new_is ∙ generations_more old event
+    ∙ ap (λ put. generations old ++ cons_option put []) none ∙ append-nil (generations old)
+stays old new event (Err reply) none h = ap generations h.unchanged
+
+-- a reload that was recorded has put its commands in force
+pub put_as : (old new : List (List Command)) (commands : List Command)
+    (result : Result (Reply × Receipt) Reply)
+    → MatchResult result (λ _. new ≡ old ++ commands ∷ []) (λ _. new ≡ old)
+    → IfOk result (λ answer. answer.0 ≡ Reloaded (length new))
+    → IfErr result (λ reply. (reason : ReloadRefusal) × (reply ≡ ReloadRefused reason))
+    → IsPut (Reloading commands) result new
+put_as old new commands (Ok answer) grown version refused =
+    let long : length new ≡ length old + 1 =
+    ap length grown ∙ length-append old (commands ∷ []) in
+    let place : length new - 1 ≡ length old = omega (arith, long) in (
+      length new,
+      version,
+      ap (λ xs. slice_get xs (length new - 1)) grown
+          ∙ get_last old commands (length new - 1) place,
+    )
+put_as old new commands (Err reply) same version refused = refused
+
+-- the receipt names what was asked, and the reply
+pub named : (old new : CoreParts) (event : PlainEvent) (result : Result (Reply × Receipt) Reply)
+    → Steps old event result new → IfOk result (λ a. IsReceiptOf event a.0 a.1)
+named old new event (Ok answer) h = (
+  ap (λ (r : Receipt). r.kind) h.receipt_is,
+  ap (λ (r : Receipt). r.id) h.receipt_is,
+  ap (λ (r : Receipt). r.call) h.receipt_is,
+  ap (λ (r : Receipt). r.reply) h.receipt_is
+      ∙ sym (h.reply_is ∙ step_reply (state_of old) event h.recorded),
+)
+named old new event (Err reply) h = tt
+
+-- its number is that of the new entry
+pub numbered : (old new : CoreParts) (event : PlainEvent) (result : Result (Reply × Receipt) Reply)
+    → Steps old event result new → IfOk result (λ a. a.1.number ≡ length old.entries + 1)
+numbered old new event (Ok answer) h = ap (λ (r : Receipt). r.number) h.receipt_is
+numbered old new event (Err reply) h = tt
+
+-- what stands in a record has a lower number than the next entry
+pub below : (entries : List PlainEntry) (last : Option Receipt) (number : ℕ)
+    → LastStands entries last → number ≡ length entries + 1
+    → IfSome last (λ l. l.number < number)
+below entries None number stands is = tt
+below entries (Some receipt) number stands is =
+    let within = number_within entries receipt.number stands.0 stands.1 in
+    omega (arith, within.1, is)
+
+pub rising : (entries : List PlainEntry) (last : Option Receipt) (result : Result (Reply × Receipt) Reply)
+    → LastStands entries last → IfOk result (λ a. a.1.number ≡ length entries + 1)
+    → IfOk result (λ a. IfSome last (λ l. l.number < a.1.number))
+rising entries last (Ok answer) stands is = below entries last answer.1.number stands is
+rising entries last (Err reply) stands is = tt
+
+-- ---- a reload, whose place is reserved before it is published
+pub unrecorded_shown : (old new : CoreParts) (event : PlainEvent) (reply : Reply)
+    → IsUnrecorded old event reply new
+    → IsUnrecorded (unreserved old) event reply (unreserved new)
+unfolding state_of
+unrecorded_shown old new event reply h = record {
+  reply_is = h.reply_is;
+  unchanged = ap unreserved h.unchanged;
+}
+
+-- memory ran out after the place was reserved
+pub lacks_memory : (old new : CoreParts) (commands : List Command)
+    → new ≡ record old { reserved = true }
+    → (step (state_of old) (Reloading commands)).recorded ≡ true
+    → IsUnrecorded (unreserved old) (Reloading commands) (ReloadRefused NoMemory)
+    (unreserved new)
+unfolding state_of
+lacks_memory old new commands same recorded = record {
+  reply_is = ap (λ b. if b then no_memory_reply_of (Reloading commands)
+      else Some (step (state_of old) (Reloading commands)).reply) recorded;
+  unchanged = ap unreserved same;
+}
+
+-- the publisher and the core have grown by the same commands
+pub grown_alike : (before kept after : CoreParts) (commands : List Command)
+    (result : Result (Reply × Receipt) Reply) (old new : List (List Command))
+    → old ≡ generations before → kept ≡ record before { reserved = true }
+    → (step (state_of before) (Reloading commands)).recorded ≡ true
+    → (kept.reserved ≡ true
+    → OnErr result ((step (state_of kept) (Reloading commands)).recorded ≡ false))
+    → MatchResult result (λ _. generations after ≡ generations kept ++ commands ∷ [])
+    (λ _. generations after ≡ generations kept)
+    → new ≡ old ++ commands ∷ [] → new ≡ generations after
+unfolding state_of
+grown_alike before kept after commands (Ok answer) old new is same recorded taken grown put =
+    put ∙ ap (λ gs. gs ++ commands ∷ []) (is ∙ sym (ap generations same)) ∙ sym grown
+grown_alike before kept after commands (Err reply) old new is same recorded taken grown put =
+    absurd (true≢false (sym recorded
+    ∙ sym (ap (λ (c : CoreParts). (step (state_of c) (Reloading commands)).recorded) same)
+    ∙ taken (ap (λ (c : CoreParts). c.reserved) same)))
+
+-- ---- snapshots
+-- a snapshot of what lies under the lock is that of its entries
+pub snapshot_of : {E : Type 0} (opening : State) (live : CoreParts)
+    (result : Result SnapshotParts E) → live.opening ≡ opening
+    → IfOk result (λ snapshot. snapshot ≡ record {
+      rows = rows_of live.opening live.entries;
+      endpoints = (state_of live).endpoints;
+    }) → IfOk result (λ snapshot. snapshot ≡ seats.snapshot_of opening live.entries)
+unfolding state_of
+snapshot_of opening live (Ok snapshot) same is =
+    is ∙ ap (λ o. seats.snapshot_of o live.entries) same
+snapshot_of opening live (Err error) same is = tt
+
+-- and if they are legal, it is one of a legal history
+pub snapshot_of_some : {E : Type 0} (opening : State) (entries : List PlainEntry)
+    (result : Result SnapshotParts E) → IsLegal opening entries
+    → IfOk result (λ snapshot. snapshot ≡ seats.snapshot_of opening entries)
+    → IfOk result (IsSnapshotOfSome opening)
+snapshot_of_some opening entries (Ok snapshot) legal is = record {
+  history = entries;
+  legal = legal;
+  shown = is;
+}
+snapshot_of_some opening entries (Err error) legal is = tt

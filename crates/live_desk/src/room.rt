@@ -1,0 +1,241 @@
+//! What lies under a desk's lock.
+
+ghost use Rattle.std.specs.Prelude.{◌≡◌, ◌<◌, ◌≤◌, ◌+◌, ◌↔◌, [], true, false, length, vec_len, Some, None, IfSome, IfNone, IfOk, IfErr, OnErr, MatchResult, All};
+ghost use mathlib.Core.List.{IsPrefix};
+ghost use Rattle.rulings.specs.Events.{plain};
+ghost use Rattle.rulings.specs.State.{opening_of};
+ghost use Rattle.decision_record.specs.History.{generations, IsLegal, Steps};
+ghost use Rattle.live_desk.specs.Seats.{Asked, held, IsAstrayIn, IsFound, IsPlanFor, IsPut, IsReceiptOf, IsTheirs, snapshot_of};
+
+use crate::house::House;
+use crate::live::Live;
+use crate::seats::{Seat, all_found, merge_all};
+use crate::turns::turn;
+use admission::{Event, Receipt, Record, Reply, Snapshot};
+use compiler::Routed;
+use gk_terms::Version;
+use publisher::Told;
+use std::alloc::{AllocError, Global};
+use std::marker::Model;
+use std::sync::Wait;
+use std::sync::ledger::{Blank, Book, Share};
+use thiserror::Error;
+
+/// Why a desk gives no record. They are tried in this order.
+#[derive(Clone, Copy, Debug, PartialEq, Eq, Error)]
+pub enum FinishKind {
+    /// The seats handed in are not as many as were given out.
+    #[error("seats missing")]
+    SeatsMissing,
+    /// A seat is astray, or its last receipt does not stand in the record.
+    #[error("a seat is astray")]
+    Astray,
+}
+
+/// A core that publishes, the book of its recorded calls, and how many seats were given out of how
+/// many. `rest` is the ledger's share of the seats that were not given out yet.
+pub struct Room<J: House> {
+    live: Live<J>,
+    book: Book<J>,
+    rest: Share<J>,
+    given: u32,
+    most: u32,
+}
+
+impl<J: House> Model for Room<J> {
+    ghost use Rattle.std.specs.Prelude.{◌≡◌, ◌+◌, false, length};
+    ghost use Rattle.rulings.specs.State.{opening_of};
+    ghost use Rattle.live_desk.specs.Seats.{Inner};
+
+    ghost Value = { Inner };
+
+    ghost view = { λ r. record {
+      entries = r.live.entries;
+      booked = r.book.total;
+      given = r.given;
+      most = r.most;
+    } };
+
+    ghost invariant = { λ r. (r.live.opening ≡ opening_of J.begun J.limits)
+        × (r.live.reserved ≡ false)
+        × (r.book.total ≡ length r.live.entries) × (r.rest.amount ≡ 0)
+        × (r.rest.parts + r.given ≡ J.all) × (r.most ≡ J.all) };
+}
+
+impl<J: House> Room<J> {
+    /// A core that nothing was asked of yet, with so many seats to give out.
+    pub fn new(live: Live<J>, blank: Blank, seats: u32) -> Room<J>
+        requires name { blank.name ≡ J.name }
+        requires parts { (blank.parts ≡ J.parts) × (J.all ≡ J.parts) }
+        requires seats { seats ≡ J.all }
+        requires live { live ≡ held (opening_of J.begun J.limits) [] }
+        ensures { result ≡ record { entries = []; booked = 0; given = 0; most = seats } }
+    {
+        let (book, rest) = blank.open::<J>();
+        Room {
+            live,
+            book,
+            rest,
+            given: 0,
+            most: seats,
+        }
+    }
+
+    /// What holds whenever the lock is got.
+    pub fn look(&self) -> (&Record, Version)
+        ensures entries { result.0.now.entries ≡ self.now.entries }
+        ensures legal { IsLegal (opening_of J.begun J.limits) self.now.entries }
+        ensures booked { self.now.booked ≡ length self.now.entries }
+        ensures version { result.1
+            ≡ length (generations (held (opening_of J.begun J.limits) self.now.entries)) }
+        ensures given { self.now.given ≤ self.now.most }
+    {
+        let _rest = &self.rest;
+        (self.live.record(), self.live.version())
+    }
+
+    #[tactic(auto, using(crate::proofs::Grows::snapshot_of))]
+    /// The rows of the record and the registered endpoints.
+    pub fn snapshot(&self, alloc: Global) -> Result<Snapshot, AllocError>
+        ensures snapshot { IfOk result (λ snapshot. snapshot
+            ≡ snapshot_of (opening_of J.begun J.limits) self.now.entries) }
+        ensures legal { IsLegal (opening_of J.begun J.limits) self.now.entries }
+    {
+        let _record = self.live.record();
+        self.live.snapshot(alloc)
+    }
+
+    /// What a reader is told: the generations of the record.
+    pub fn tell(&mut self) -> Told<J>
+        ensures told { result
+            ≡ generations (held (opening_of J.begun J.limits) self.old.entries) }
+        ensures same { self.new ≡ self.old }
+    {
+        self.live.tell()
+    }
+
+    /// Gives out a seat, unless all were given out or the publisher finds no place.
+    pub fn seat(&mut self) -> Option<Seat<J>>
+        ensures some { IfSome result (λ seat. (seat.share ≡ 0) × (seat.last ≡ None)
+            × (seat.astray ≡ false) × (seat.lost ≡ false)
+            × (self.new ≡ record self.old { given = self.old.given + 1 })) }
+        ensures none { IfNone result (self.new ≡ self.old) }
+    {
+        if self.given == self.most {
+            return None;
+        }
+        let reader = self.live.reader()?;
+        let share = self.rest.split_off(1, 0);
+        self.given += 1;
+        Some(Seat {
+            share,
+            last: None,
+            astray: false,
+            reader,
+            lost: false,
+        })
+    }
+
+    #[tactic(auto, using(crate::proofs::Grows::rising))]
+    /// Answers one event of a seat, and enters it in the ledger if it was recorded. The history is
+    /// the one under the lock.
+    pub fn ask<R: Wait>(
+        &mut self,
+        rt: &R,
+        seat: &mut Seat<J>,
+        routed: Option<Routed>,
+        event: Event,
+    ) -> Result<(Reply, Receipt), Reply>
+        requires { IfSome routed (IsPlanFor (plain event) seat.old.seen) }
+        ensures step { Steps (held (opening_of J.begun J.limits) self.old.entries) (plain event)
+            result (held (opening_of J.begun J.limits) self.new.entries) }
+        ensures given { (self.new.given ≡ self.old.given) × (self.new.most ≡ self.old.most) }
+        ensures book { MatchResult result
+            (λ a. (seat.new.share ≡ seat.old.share + 1) × (seat.new.last ≡ Some a.1))
+            (λ _. (seat.new.share ≡ seat.old.share) × (seat.new.last ≡ seat.old.last)) }
+        ensures names { IfOk result (λ a. IsReceiptOf (plain event) a.0 a.1) }
+        ensures astray { seat.new.astray ≡ false ↔ IsFound self.old.entries seat.old }
+        ensures lost { seat.old.lost ≡ true → seat.new.lost ≡ true }
+        ensures seen { IsPrefix seat.old.seen seat.new.seen }
+        ensures rises { seat.new.astray ≡ false
+            → IfOk result (λ a. IfSome seat.old.last (λ last. last.number < a.1.number)) }
+        ensures asked { Asked (opening_of J.begun J.limits) seat.old (plain event) result
+            seat.new }
+        ensures put { IsPut (plain event) result
+            (generations (held (opening_of J.begun J.limits) self.new.entries)) }
+        ensures put_seen { seat.new.lost ≡ false → IsPut (plain event) result seat.new.seen }
+    {
+        seat.confirm_last(self.live.record());
+        self.book.audit(&mut seat.share);
+        let (answer, met) = turn(rt, &mut self.live, &mut seat.reader, routed, event);
+        seat.lost = seat.lost || !met;
+        if let Ok((_, receipt)) = &answer {
+            self.book.add(&mut seat.share, 1);
+            seat.last = Some(*receipt);
+        }
+        answer
+    }
+
+    /// What stands in the way of the record.
+    fn fault_in(&self, seats: &Vec<Seat<J>>) -> Option<FinishKind>
+        ensures none { IfNone result ((self.now.given ≤ vec_len seats.now)
+            × All (IsFound self.now.entries) seats.now.items) }
+        ensures missing { result ≡ Some FinishKind.SeatsMissing
+            ↔ vec_len seats.now < self.now.given }
+        ensures astray { result ≡ Some FinishKind.Astray
+            → IsAstrayIn self.now.entries seats.now.items }
+    {
+        if seats.len() < self.given as usize {
+            return Some(FinishKind::SeatsMissing);
+        }
+        if !all_found(self.live.record(), seats) {
+            return Some(FinishKind::Astray);
+        }
+        None
+    }
+
+    /// Takes all seats back, and gives the record.
+    pub fn finish<R: Wait>(
+        self,
+        rt: &R,
+        seats: Vec<Seat<J>>,
+    ) -> Result<Record, (FinishKind, Room<J>, Vec<Seat<J>>)>
+        requires { J.all ≡ J.parts }
+        ensures ok { IfOk result (λ ended. (ended.entries ≡ self.entries)
+            × (vec_len seats ≡ self.given)
+            × IsTheirs (opening_of J.begun J.limits) seats.items ended.entries) }
+        ensures missing { IfErr result (λ f.
+            f.0 ≡ FinishKind.SeatsMissing ↔ vec_len seats < self.given) }
+        ensures astray { IfErr result (λ f.
+            f.0 ≡ FinishKind.Astray → IsAstrayIn self.entries seats.items) }
+        ensures legal { IsLegal (opening_of J.begun J.limits) self.entries }
+        ensures back { IfErr result (λ f. (f.1 ≡ self) × (f.2.items ≡ seats.items)) }
+    {
+        let _log = self.live.record();
+        if let Some(kind) = self.fault_in(&seats) {
+            return Err((kind, self, seats));
+        }
+        let Room {
+            live,
+            mut book,
+            mut rest,
+            given: _,
+            most: _,
+        } = self;
+        merge_all(&mut rest, seats);
+        book.audit(&mut rest);
+        Ok(live.into_record(rt))
+    }
+
+    /// Ends it without its record.
+    pub fn close<R: Wait>(self, rt: &R) {
+        let Room {
+            live,
+            book: _,
+            rest: _,
+            given: _,
+            most: _,
+        } = self;
+        live.close(rt);
+    }
+}
