@@ -1,10 +1,16 @@
 //! Measures a program with one load. `bench/run` compiles it and `bench/report.py` calls it:
 //!
-//!     measure whole PROGRAM INPUT OUTPUT      one run over the whole input
-//!     measure check INPUT REPLIES             what the replies of such a run say
-//!     measure single PROGRAM INPUT PASSES     one request at a time, over pipes
+//!     measure whole PROGRAM INPUT OUTPUT WORD ..    one run over the whole input
+//!     measure fault PROGRAM INPUT OUTPUT WORD ..    the same, of a run that ends with a fault
+//!     measure check INPUT REPLIES                   what the replies of a run say
+//!     measure single PROGRAM INPUT PASSES           one request at a time, over pipes
+//!     measure serve PROGRAM CONFIGURATION WAY OPENING INPUT ..
+//!                                                   clients of a server, one for each input
 //!
-//! Each prints lines of a word and its value. It runs on 64-bit Linux.
+//! The words are those that the program is given. Each prints lines of a word and its value. It
+//! runs on 64-bit Linux.
+
+mod serving;
 
 use std::collections::BTreeMap;
 use std::fs::{self, File};
@@ -27,10 +33,14 @@ fn main() {
     let words: Vec<String> = std::env::args().skip(1).collect();
     let words: Vec<&str> = words.iter().map(String::as_str).collect();
     let done = match words[..] {
-        ["whole", program, input, output] => whole(program, input, output),
+        ["whole", program, input, output, ref words @ ..] => whole(program, words, input, output),
+        ["fault", program, input, output, ref words @ ..] => fault(program, words, input, output),
         ["check", input, replies] => check(input, replies),
         ["single", program, input, passes] => single(program, input, passes),
-        _ => Err("the words are whole, check or single, and what belongs to them".into()),
+        ["serve", program, configuration, way, opening, ref inputs @ ..] => {
+            serving::serve(program, configuration, way, opening, inputs)
+        }
+        _ => Err("the first word is whole, fault, check, single or serve".into()),
     };
     if let Err(fault) = done {
         eprintln!("measure: {fault}");
@@ -38,25 +48,52 @@ fn main() {
     }
 }
 
-/// Runs the program once, from a file to a file. This process stays small meanwhile: the kernel
+/// Runs the program once, from a file to a file.
+fn whole(program: &str, words: &[&str], input: &str, output: &str) -> Result<(), Fault> {
+    let mut command = Command::new(program);
+    command.args(words).stdin(File::open(input)?).stdout(File::create(output)?);
+    timed(&mut command, 0, output)
+}
+
+/// Runs the program once; what it says of its fault goes to a file.
+fn fault(program: &str, words: &[&str], input: &str, output: &str) -> Result<(), Fault> {
+    let mut command = Command::new(program);
+    command.args(words).stdin(File::open(input)?).stderr(File::create(output)?);
+    timed(&mut command.stdout(Stdio::null()), 1, output)
+}
+
+/// Runs a command that should end with this status. This process stays small meanwhile: the kernel
 /// counts the pages of whoever starts a program towards the program's own peak.
-fn whole(program: &str, input: &str, output: &str) -> Result<(), Fault> {
-    let (source, target) = (File::open(input)?, File::create(output)?);
+fn timed(command: &mut Command, due: i32, output: &str) -> Result<(), Fault> {
     let begun = Instant::now();
-    let child = Command::new(program).stdin(source).stdout(target).spawn()?;
-    let mut status = 0;
-    let mut usage = Usage::default();
-    let id = child.id() as i32;
-    // SAFETY: both pointers are to values of the layouts that wait4 fills in.
-    let waited = unsafe { wait4(id, &mut status, 0, &mut usage) };
+    let ended = ended(command.spawn()?.id())?;
     let seconds = begun.elapsed().as_secs_f64();
-    if waited != id || status != 0 {
+    if ended.status != due << 8 {
         let mut said = String::new();
         BufReader::new(File::open(output)?).read_line(&mut said)?;
+        let status = ended.status;
         return Err(format!("the program ended with wait status {status} and wrote {said}").into());
     }
-    println!("seconds {seconds}\npeak_kb {}", usage.peak_kb);
+    println!("seconds {seconds}\npeak_kb {}", ended.peak_kb);
     Ok(())
+}
+
+/// What is known of a program that has ended: its wait status, and the most memory that it had.
+struct Ended {
+    status: i32,
+    peak_kb: i64,
+}
+
+/// Waits for the end of a program that this process started.
+fn ended(id: u32) -> Result<Ended, Fault> {
+    let mut status = 0;
+    let mut usage = Usage::default();
+    // SAFETY: both pointers are to values of the layouts that wait4 fills in.
+    let waited = unsafe { wait4(id as i32, &mut status, 0, &mut usage) };
+    if waited != id as i32 {
+        return Err(std::io::Error::last_os_error().into());
+    }
+    Ok(Ended { status, peak_kb: usage.peak_kb })
 }
 
 /// `struct rusage` of 64-bit Linux; the largest resident set is in units of 1,024 bytes.
@@ -88,11 +125,9 @@ fn check(input: &str, replies: &str) -> Result<(), Fault> {
     for (request, reply) in requests.iter().zip(&replies) {
         let asked: Vec<&str> = first_line(request)?.split(' ').collect();
         let said: Vec<&str> = reply.split(' ').collect();
-        let is_to_it =
-            said.len() > 2 && said[0].get(..1) == asked[0].get(..1) && said[1] == asked[1];
         match said[0].get(1..) {
-            Some("CF") if is_to_it => granted += 1,
-            Some("RJ") if is_to_it && !said.iter().any(|word| SPENT.contains(word)) => {
+            Some("CF") if is_to(&asked, &said) => granted += 1,
+            Some("RJ") if is_to(&asked, &said) && !said.iter().any(|word| SPENT.contains(word)) => {
                 // the reason, without the number or name before it and that of a zone after it
                 let reason = said[3..said.len().min(5)].join(" ");
                 *refused.entry(format!("{} {reason}", said[0])).or_default() += 1;
@@ -108,6 +143,14 @@ fn check(input: &str, replies: &str) -> Result<(), Fault> {
         println!("refused {reason} {count}");
     }
     Ok(())
+}
+
+/// Whether a reply grants or refuses this request, by its letter and its number.
+fn is_to(asked: &[&str], said: &[&str]) -> bool {
+    said.len() > 2
+        && said[0].get(..1) == asked[0].get(..1)
+        && matches!(said[0].get(1..), Some("CF" | "RJ"))
+        && said[1] == asked[1]
 }
 
 /// Writes each request and reads its reply before the next one, in as many passes as are asked

@@ -1,6 +1,7 @@
 """Writes a load at its sizes and runs the measuring tool on each."""
 
 import os
+import shutil
 import subprocess
 
 # In a load that measures something, so many of a hundred requests are granted.
@@ -18,6 +19,15 @@ class Measure:
     def path(self, *words):
         return os.path.join(self.folder, "-".join(map(str, words)))
 
+    def make_folder(self, *words):
+        folder = self.path(*words)
+        os.mkdir(folder)
+        return folder
+
+    def remove(self, folder):
+        """Removes a folder of a load, with what is in it."""
+        shutil.rmtree(folder)
+
     def say(self, *words):
         """What the tool prints, as lists of words."""
         done = subprocess.run([self.tool, *map(str, words)], stdout=subprocess.PIPE, text=True)
@@ -26,9 +36,17 @@ class Measure:
             raise SystemExit(f"bench: {words[0]} failed")
         return [line.split() for line in done.stdout.splitlines()]
 
-    def whole(self, source, target="/dev/null"):
-        said = dict(self.say("whole", self.program, source, target))
+    def whole(self, source, target="/dev/null", words=(), kind="whole"):
+        """The seconds and the megabytes of a run with these words; it may be one of kind `fault`,
+        which goes to the target."""
+        said = dict(self.say(kind, self.program, source, target, *words))
         return float(said["seconds"]), int(said["peak_kb"]) / 1024
+
+    def serve(self, configuration, way, opening, inputs):
+        """What a server and its clients say at their end: words with their numbers."""
+        said = self.say("serve", self.program, configuration, way, opening, *inputs)
+        words = [word for line in said for word in line]
+        return {word: float(number) for word, number in zip(words[::2], words[1::2])}
 
     def check(self, source, granted):
         """Runs the program once to see that it answers as the load means it to: the counts of

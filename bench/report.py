@@ -1,4 +1,4 @@
-"""Measures a program with each load, and prints the table. `bench/run` calls it:
+"""Measures a program with each load, and prints the tables. `bench/run` calls it:
 
     python3 bench/report.py MEASURE PROGRAM FOLDER [--quick] [--load NAME]
 
@@ -8,9 +8,28 @@ import argparse
 import sys
 import time
 
+import recording
+import serving
 import table
+import trying
 from loads.catalogue import LOADS
 from measuring import Measure, measured
+
+# The loads that have a table of their own.
+OTHERS = (recording, trying, serving)
+
+
+def show_sessions(measure, loads, quick):
+    """The table of the loads that are one session each."""
+    rounds, passes = (4, 2) if quick else (7, 3)
+    refused = []
+    table.show_head(table.COLUMNS)
+    for load in loads:
+        rows = measured(measure, load, quick, rounds, passes)
+        table.show_load(load, rows)
+        refused.append(f"{load.name}: {rows[-1]['refused']}")
+    print("\nRefused, at the largest size of each load:")
+    print("\n".join(refused))
 
 
 def main():
@@ -23,21 +42,19 @@ def main():
     words.add_argument("--load")
     asked = words.parse_args()
     loads = [load for load in LOADS if asked.load in (None, load.name)]
-    if not loads:
-        names = ", ".join(load.name for load in LOADS)
+    others = [other for other in OTHERS if asked.load in (None, other.NAME)]
+    if not loads and not others:
+        names = ", ".join([load.name for load in LOADS] + [other.NAME for other in OTHERS])
         sys.exit(f"bench: no load is called {asked.load}; there are {names}")
 
     begun = time.monotonic()
     measure = Measure(asked.measure, asked.program, asked.folder)
-    rounds, passes = (4, 2) if asked.quick else (7, 3)
-    refused = []
-    table.show_head()
-    for load in loads:
-        rows = measured(measure, load, asked.quick, rounds, passes)
-        table.show_load(load, rows)
-        refused.append(f"{load.name}: {rows[-1]['refused']}")
-    print("\nRefused, at the largest size of each load:")
-    print("\n".join(refused))
+    if loads:
+        show_sessions(measure, loads, asked.quick)
+    for place, other in enumerate(others):
+        if loads or place > 0:
+            print()
+        other.show(measure, asked.quick, rounds=3 if asked.quick else 5)
     print(f"\nTook {time.monotonic() - begun:.0f} s.")
 
 

@@ -1,4 +1,5 @@
-"""The table: its columns, and a row for each size of a load."""
+"""A table: its columns, and a row for each size of a load. Those of the loads of one session stand
+here, and those of the others beside what measures them."""
 
 # A growth has to be a tenth faster than the input to be told from chance.
 FASTER = 1.1
@@ -46,18 +47,18 @@ def cells(load, row, before):
     ]
 
 
-def show(texts):
-    """Prints a line of the table: the first column from the left, the others from the right."""
-    widths = [width for _, width in COLUMNS]
+def show(columns, texts):
+    """Prints a line of a table: the first column from the left, the others from the right."""
+    widths = [width for _, width in columns]
     padded = [texts[0].ljust(widths[0])]
     padded += [text.rjust(width) for text, width in zip(texts[1:], widths[1:])]
     print("  ".join(padded).rstrip(), flush=True)
 
 
-def show_head():
-    show([head for head, _ in COLUMNS])
+def show_head(columns):
+    show(columns, [head for head, _ in columns])
 
 
 def show_load(load, rows):
     for row, before in zip(rows, [None, *rows]):
-        show(cells(load, row, before))
+        show(COLUMNS, cells(load, row, before))

@@ -7,9 +7,9 @@ SEED = 18
 
 
 class Writer:
-    def __init__(self, file):
+    def __init__(self, file, seed=SEED):
         self.file = file
-        self.random = random.Random(SEED)
+        self.random = random.Random(seed)
         self.bytes = 0
         self.count = 0
         self.granted = 0
@@ -55,17 +55,21 @@ class Writer:
         self.ask("RRQ", f"{kind} {name} {zone} {address} {options}", granted)
 
     def admit(self, owner, digits, units, granted=True, note=None):
-        """Asks for a call, which is open from then on if it should be granted."""
+        """Asks for a call, which is open from then on if it should be granted. Answers with its
+        number."""
         self.calls += 1
         # Each number comes once, and in no order, as endpoints choose them.
         call = self.calls * 2654435761 % 2**32
         self.ask("ARQ", f"{owner} {call} {digits} {units}", granted)
         if granted:
             self.open.append((owner, call, note))
+        return call
 
     def change(self, units):
+        """Changes the bandwidth of an open call, any of them, and gives its number."""
         owner, call, _ = self.pick(self.open)
         self.ask("BRQ", f"{owner} {call} {units}")
+        return call
 
     def release(self):
         """Releases one of the open calls, any of them, and gives the note on it."""

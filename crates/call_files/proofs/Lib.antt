@@ -1,5 +1,5 @@
-pub mod CallsLemmas
 pub mod FieldLemmas
+pub mod ListLemmas
 pub mod ReadLemmas
 pub mod RouteLemmas
 pub mod WriterLemmas

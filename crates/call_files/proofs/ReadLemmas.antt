@@ -1,5 +1,5 @@
 -- One record more of a text, and what it says.
-use Rattle.std.proofs.Common.{Bor, ◌≡◌, ◌++◌, ◌∷◌, [], ℕ, List, true, false, Some, None, Result, Ok, Err, refl, sym, ap}
+use Rattle.std.proofs.Common.{Bor, ◌≡◌, ◌+◌, ◌++◌, ◌∷◌, [], ℕ, List, length, true, false, Some, None, Result, Ok, Err, refl, sym, ap, inr}
 use Rattle.csv.specs.Machine.{next_record}
 use Rattle.csv.specs.Reading.{ReadRecord, Reached, default_config, strip_bom}
 use Rattle.csv.specs.declared.reader.Reader.{Reader}
@@ -7,7 +7,8 @@ use Rattle.csv.specs.declared.parser.State.TheVariants as st
 use Rattle.csv.proofs.ReadFacts.{rows-end, rows-more}
 use Rattle.call_rows.specs.Rows.{RowParts}
 use Rattle.call_files.specs.declared.faults.CallsFault.{CallsFault}
-use Rattle.call_files.specs.Calls.{Begins, said, with_record}
+use Rattle.call_files.specs.Calls.{Begins, LacksMemory, said, with_record}
+use Rattle.call_files.specs.Rows.{is_header}
 use Rattle.call_files.specs.RecordReader.{HasRead, IsReading, left_of}
 
 -- one record more was read
@@ -42,6 +43,13 @@ read_end a b fields rest plain left read =
 pub none_at_all : (text : List ℕ) → Begins text [] st.StartRecord (strip_bom text)
 unfolding Reached
 none_at_all text = (refl, refl)
+
+-- memory may run out after records that say rows, at the next one
+pub lacks_next : (text : List ℕ) (names : List (List ℕ)) (records : List (List (List ℕ)))
+    (rows : List RowParts) (r : Reader (Bor (List ℕ))) → HasRead text (names ∷ records) r
+    → is_header names ≡ true → said (Ok []) records ≡ Ok rows → LacksMemory text (length rows + 1)
+lacks_next text names records rows r (rest, left, begins) head says =
+    inr (rows, (names, records, (r.state, rest, begins), head, says), refl)
 
 -- what one record more says
 pub said_more : (start : Result (List RowParts) CallsFault) (records : List (List (List ℕ)))

@@ -64,6 +64,13 @@ said rows [] = rows
 said (Err fault) (r ∷ rs) = Err fault
 said (Ok rows) (r ∷ rs) = said (with_record rows r) rs
 
+-- why a row is not added: its first fault; or out of memory, if it has none
+abbrev pub MayRefuseRow : List RowParts → Result (List RowParts) CallsFault → CallsFault → Type 0
+MayRefuseRow rows right fault =
+    (right ≡ Err fault)
+    ⊎ ((fault ≡ record { row = length rows + 1; kind = kinds.NoMemory })
+    × ((more : List RowParts) × (right ≡ Ok more)))
+
 -- the text begins with these records, without a byte order mark; then this is left
 abbrev pub Begins : List ℕ → List (List (List ℕ)) → State → List ℕ → Type 0
 Begins text records s rest = Reached default_config st.StartRecord (strip_bom text) records s rest
@@ -96,11 +103,24 @@ HasFault text fault =
     × HasFirstRecords text (names ∷ records)
     × (is_header names ≡ true) × (said (Ok []) records ≡ Err fault)
 
--- what reading a text may answer: its rows, and no endpoint; or its first fault, or that memory
--- ran out
+-- the first record is the header, and those after it, up to some place, say these rows
+abbrev pub SaysFirstRows : List ℕ → List RowParts → Type 0
+SaysFirstRows text rows =
+    (names : List (List ℕ)) × (records : List (List (List ℕ)))
+    × HasFirstRecords text (names ∷ records)
+    × (is_header names ≡ true) × (said (Ok []) records ≡ Ok rows)
+
+-- where memory may run out: at the header, or after the header and these rows, which have no fault:
+-- at the next record, whatever it says, or where there is no other
+abbrev pub LacksMemory : List ℕ → ℕ → Type 0
+LacksMemory text row =
+    (row ≡ 0) ⊎ ((rows : List RowParts) × SaysFirstRows text rows × (row ≡ length rows + 1))
+
+-- what reading a text may answer: its rows, and no endpoint; or its first fault; or that memory
+-- ran out, with no fault before that row
 abbrev pub ReadsCalls : List ℕ → Result SnapshotParts CallsFault → Type 0
 ReadsCalls text (Ok snapshot) = SaysRows text snapshot.rows × (snapshot.endpoints ≡ [])
 ReadsCalls text (Err fault) =
-    (fault.kind ≡ kinds.NoMemory)
+    ((fault.kind ≡ kinds.NoMemory) × LacksMemory text fault.row)
     ⊎ ((fault ≡ record { row = 0; kind = kinds.BadHeader }) × LacksHeader text)
     ⊎ HasFault text fault

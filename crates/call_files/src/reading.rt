@@ -1,12 +1,11 @@
 //! Reading a call file.
 
-ghost use Rattle.std.specs.Prelude.{◌≡◌, ◌⊎◌, ◌+◌, ◌<◌, ◌≤◌, ℕ, List, true, length, OnOk, MatchResult, Ok, Err};
+ghost use Rattle.std.specs.Prelude.{◌≡◌, ◌+◌, ◌<◌, ◌≤◌, ℕ, List, true, length, OnOk, MatchResult, Ok, Err};
 ghost use Rattle.std.specs.Result.{result_map_both};
 ghost use Rattle.csv.specs.Records.{fields_of};
 ghost use Rattle.call_files.specs.Rows.{is_header};
-ghost use Rattle.call_files.specs.Calls.{ReadsCalls, with_record, with_row};
+ghost use Rattle.call_files.specs.Calls.{MayRefuseRow, ReadsCalls, with_record, with_row};
 ghost use Rattle.call_files.specs.RecordReader.{IsPast, IsReading};
-ghost use Rattle.call_files.specs.declared.faults.CallsFaultKind.TheVariants.{NoMemory};
 
 use crate::faults::{CallsFault, CallsFaultKind};
 use crate::fields::{is_header, row_in};
@@ -23,7 +22,9 @@ use std::alloc::Global;
 ///
 /// The first fault is answered. In each row they are tried in this order: `TooMany` for the count
 /// of rows, `BadRow`, `BadField`, `OutOfOrder`, `CallOpen` or `NoCall`, and `TooMany` for the count
-/// of open calls. `NoMemory` may come in place of any answer.
+/// of open calls. `NoMemory` comes at row 0, or at a row before which the header and all rows were
+/// read without a fault. It then stands in place of whatever would be answered of that row, of
+/// those after it, or of the end of the text.
 pub fn read_calls(alloc: Global, text: &[u8]) -> Result<Snapshot, CallsFault>
     ensures { ReadsCalls text.now
         (result_map_both (λ snapshot. snapshot) (λ fault. fault) result) }
@@ -67,7 +68,7 @@ fn rows_under(
     unreachable!()
 }
 
-/// Adds the row of a record to so many rows.
+/// Adds the row of a record to so many rows. `NoMemory` comes only if it has no fault.
 fn add_record(snapshot: &mut Snapshot, rows: u32, fields: &ByteRecord) -> Result<(), CallsFault>
     requires rows { rows ≡ length snapshot.old.rows }
     requires few { rows ≤ 1000000 }
@@ -76,8 +77,8 @@ fn add_record(snapshot: &mut Snapshot, rows: u32, fields: &ByteRecord) -> Result
     ensures endpoints { snapshot.new.endpoints ≡ snapshot.old.endpoints }
     ensures says { MatchResult result
         (λ _. with_record snapshot.old.rows (fields_of fields.now) ≡ Ok snapshot.new.rows)
-        (λ fault. (fault.kind ≡ NoMemory)
-        ⊎ (with_record snapshot.old.rows (fields_of fields.now) ≡ Err fault)) }
+        (MayRefuseRow snapshot.old.rows
+        (with_record snapshot.old.rows (fields_of fields.now))) }
 {
     if rows >= MOST_RECORDS {
         return Err(fault_at(rows + 1, CallsFaultKind::TooMany));
@@ -88,7 +89,7 @@ fn add_record(snapshot: &mut Snapshot, rows: u32, fields: &ByteRecord) -> Result
     }
 }
 
-/// Adds a row to so many rows.
+/// Adds a row to so many rows. `NoMemory` comes only if it has no fault.
 fn add_row(snapshot: &mut Snapshot, rows: u32, row: &CallRow) -> Result<(), CallsFault>
     requires rows { rows ≡ length snapshot.old.rows }
     requires few { rows < 1000000 }
@@ -96,8 +97,7 @@ fn add_row(snapshot: &mut Snapshot, rows: u32, row: &CallRow) -> Result<(), Call
     ensures endpoints { snapshot.new.endpoints ≡ snapshot.old.endpoints }
     ensures says { MatchResult result
         (λ _. with_row snapshot.old.rows row.now ≡ Ok snapshot.new.rows)
-        (λ fault. (fault.kind ≡ NoMemory)
-        ⊎ (with_row snapshot.old.rows row.now ≡ Err fault)) }
+        (MayRefuseRow snapshot.old.rows (with_row snapshot.old.rows row.now)) }
 {
     match snapshot.push(row) {
         Ok(()) => Ok(()),

@@ -9,4 +9,3 @@ mod ZoneLemmas
 mod ReportLemmas
 mod JoinLemmas
 mod TrialLemmas
-mod WritingLemmas

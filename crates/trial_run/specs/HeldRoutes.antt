@@ -6,5 +6,5 @@ use Rattle.trial_run.specs.declared.held_routes.Held.{Held}
 use Rattle.trial_run.specs.declared.held_routes.Held.TheVariants as held
 
 abbrev pub route_held : Held → Route
-route_held (held.To kind name address) = routes.To (destination_meant kind name address)
+route_held (held.To kind address name) = routes.To (destination_meant kind name address)
 route_held (held.Refused refusal) = routes.Refused refusal

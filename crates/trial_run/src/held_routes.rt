@@ -16,13 +16,13 @@ pub(crate) struct HeldRoute {
     held: Held,
 }
 
-/// Where it leads.
+/// Where it leads. The small fields come first, beside the tag.
 #[derive(Drop)]
 pub(crate) enum Held {
     To {
         kind: DestinationKind,
-        name: KeptName,
         address: Address,
+        name: KeptName,
     },
     Refused(RouteRefusal),
 }
@@ -66,8 +66,8 @@ impl HeldRoute {
         Ok(HeldRoute {
             held: Held::To {
                 kind,
-                name,
                 address,
+                name,
             },
         })
     }
@@ -79,8 +79,8 @@ impl HeldRoute {
         match &self.held {
             Held::To {
                 kind,
-                name,
                 address,
+                name,
             } => Route::To(kind.destination(&name.name(), *address)),
             Held::Refused(refusal) => Route::Refused(*refusal),
         }

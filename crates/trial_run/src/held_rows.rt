@@ -15,6 +15,10 @@ use rulings::{LentRoute, Route};
 use short_texts::PackedDigits;
 use std::alloc::{AllocError, Global};
 use std::marker::Model;
+use std::mem::size_of;
+
+// Each admission takes so many bytes in a report, and a block for each long name.
+const _: () = prove!(size_of::<HeldRow>() == 96);
 
 /// A row in few bytes: names of at most 19 characters in place, and the candidate's answer only if
 /// it differs from the recorded one. A contract sees the row.

@@ -4,9 +4,9 @@ use Rattle.std.specs.List.{All}
 use Rattle.std.proofs.lemmas.List.{take_all}
 use Rattle.gk_lines.specs.Streams.{AppendsFront, AppendsUpTo}
 use Rattle.call_files.specs.Calls.{row_said, rows_said}
-use Rattle.call_files.proofs.CallsLemmas.{row_in_all, row_more, sound_more}
 use Rattle.call_files.specs.ReadBack.{IsRow}
 use Rattle.call_files.proofs.read_back.Rows.{calls_back}
+use Rattle.call_files.proofs.ListLemmas.{all_more, said_in_all, said_more}
 use Rattle.call_files.proofs.WriterLemmas.{at_fault, front_and_more, front_of_more, up_to_more}
 use Rattle.call_files.proofs.writing.write_rows.Goals as goal
 
@@ -25,8 +25,9 @@ loop-place-preserved g c =
     record {
       written = subst
           (λ text. AppendsUpTo (contents c.args.writer.now) (contents c.write_row.new.writer) text
-          c.write_row.new.rows) (row_more before rows place row found) added;
-      sound = sound_more rows place row found c.loop-place.invariant.sound c.row_is_sound.ensures;
+          c.write_row.new.rows) (said_more row_said before rows place row found) added;
+      sound = all_more rows place row found IsRow c.loop-place.invariant.sound
+          c.row_is_sound.ensures;
       noted = c.in_ok-write_row.ensures.noted ∙ c.loop-place.invariant.noted;
     }
 
@@ -44,7 +45,7 @@ returns-in_err-write_row-clause-front g c =
     c.loop-place.invariant.written c.in_err-write_row.ensures.front in
     at_fault c.from_residual.result _
     (subst (AppendsFront (contents c.args.writer.now) (contents c.write_row.new.writer))
-    (row_in_all before rows place row found)
+    (said_in_all row_said before rows place row found)
     (front_and_more (contents c.args.writer.now) (contents c.write_row.new.writer)
     (so_far ++ row_said row) (rows_said (drop (suc place) rows)) front))
 

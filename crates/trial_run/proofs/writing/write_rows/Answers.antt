@@ -1,9 +1,9 @@
 use Rattle.std.proofs.Common.{◌≡◌, ◌++◌, ◌∙◌, suc, Some, drop, take, sym, subst}
 use Rattle.std.specs.Prelude.{slice_get}
 use Rattle.gk_lines.specs.Streams.{AppendsFront, AppendsUpTo}
+use Rattle.call_files.proofs.ListLemmas.{said_in_all, said_more}
 use Rattle.call_files.proofs.WriterLemmas.{at_fault, front_and_more, front_of_more, up_to_more}
 use Rattle.trial_run.specs.ReportText.{row_said, rows_said}
-use Rattle.trial_run.proofs.WritingLemmas.{said_in_all, said_more}
 use Rattle.trial_run.proofs.writing.write_rows.Goals as goal
 
 pub loop-place-preserved : goal.loop-place-preserved
