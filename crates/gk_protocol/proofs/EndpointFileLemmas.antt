@@ -1,10 +1,11 @@
 -- A file of endpoints, line by line.
-use Rattle.std.proofs.Common.{◌≡◌, ◌⊎◌, ℕ, ◌+◌, ◌<◌, ◌≤◌, List, [], ◌∷◌, ◌++◌, length, refl, sym, ap, ◌∙◌, append_assoc, append-nil, length-append, inl, inr, ⊎_elim, arith}
+use Rattle.std.proofs.Common.{◌≡◌, ◌⊎◌, ℕ, ◌+◌, ◌<◌, ◌≤◌, List, [], ◌∷◌, ◌++◌, length, refl, sym, ap, subst, ◌∙◌, append_assoc, append-nil, length-append, inl, inr, ⊎_elim, arith}
 use Rattle.std.specs.Prelude.{min, Ok, Err}
 use Rattle.std.proofs.lemmas.Bool.{cases_lt}
 use Rattle.std.proofs.Math.Nat.{min-eq_left, min-eq_right}
 use Rattle.command_reader.specs.declared.commands.Command.{Command}
 use Rattle.registry.specs.Registration.{RegistryParts}
+use Rattle.gk_protocol.specs.declared.endpoint_files.EndpointsFault.{EndpointsFault}
 use Rattle.gk_protocol.specs.declared.endpoint_files.EndpointsFaultKind.{EndpointsFaultKind}
 use Rattle.gk_protocol.specs.declared.endpoint_files.EndpointsFaultKind.TheVariants.{NoMemory}
 use Rattle.gk_protocol.specs.EndpointFiles.{line_added, lines_added, added_then, number_after, fault_after, no_endpoints, endpoints_in, MayLackMemory, ReadsEndpoints}
@@ -67,28 +68,38 @@ module _ (commands : List Command) (whole rest : List (List ℕ)) (line : ℕ) (
     }
 
     -- a fault
-    pub one_refused : (kind : EndpointsFaultKind)
-        → (line_added commands r text ≡ Err kind)
-        ⊎ ((kind ≡ NoMemory) × MayLackMemory text)
-        → ReadsEndpoints commands whole
-        (Err (record { line = min (line + 1) 4294967295; kind = kind }))
-    one_refused kind (inl is) =
-        inl
-        (ap (endpoints_in commands) next_split ∙ u.goes_on (text ∷ others)
-        ∙ ap (added_then (length u.front)
-        (λ now. lines_added commands (length u.front + 1) now others)) is
-        ∙ ap (λ n. Err (record { line = n; kind = kind }))
-        (sym (counted_on (length u.front) line u.counted)))
-    one_refused kind (inr lacking) =
-        inr (record {
-          front = u.front;
-          line = text;
-          rest = others;
-          split = next_split;
-          before = r;
-          read = ap (endpoints_in commands) (sym (append-nil u.front)) ∙ u.goes_on [];
-          lacks = lacking.1;
-          is = ap (λ n. record { line = n; kind = kind })
-              (counted_on (length u.front) line u.counted)
-              ∙ ap (fault_after (length u.front)) lacking.0;
-        })
+    pub one_refused : (fault : EndpointsFault) → fault.line ≡ min (line + 1) 4294967295
+        → (line_added commands r text ≡ Err fault.kind)
+        ⊎ ((fault.kind ≡ NoMemory) × MayLackMemory commands r text)
+        → ReadsEndpoints commands whole (Err fault)
+    one_refused fault at_line why =
+        subst
+        (λ (n : ℕ). ReadsEndpoints commands whole
+        (Err (record { line = n; kind = fault.kind })))
+        (sym at_line) (refused_here fault.kind why)
+      where
+        refused_here : (kind : EndpointsFaultKind)
+            → (line_added commands r text ≡ Err kind)
+            ⊎ ((kind ≡ NoMemory) × MayLackMemory commands r text)
+            → ReadsEndpoints commands whole
+            (Err (record { line = min (line + 1) 4294967295; kind = kind }))
+        refused_here kind (inl is) =
+            inl
+            (ap (endpoints_in commands) next_split ∙ u.goes_on (text ∷ others)
+            ∙ ap (added_then (length u.front)
+            (λ now. lines_added commands (length u.front + 1) now others)) is
+            ∙ ap (λ n. Err (record { line = n; kind = kind }))
+            (sym (counted_on (length u.front) line u.counted)))
+        refused_here kind (inr lacking) =
+            inr (record {
+              front = u.front;
+              line = text;
+              rest = others;
+              split = next_split;
+              before = r;
+              read = ap (endpoints_in commands) (sym (append-nil u.front)) ∙ u.goes_on [];
+              lacks = lacking.1;
+              is = ap (λ n. record { line = n; kind = kind })
+                  (counted_on (length u.front) line u.counted)
+                  ∙ ap (fault_after (length u.front)) lacking.0;
+            })

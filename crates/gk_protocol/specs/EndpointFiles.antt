@@ -1,5 +1,5 @@
 -- A file of endpoints: lines RRQ, which register one after another under some commands.
-use Rattle.std.specs.Prelude.{◌≡◌, ◌⊎◌, ℕ, ◌+◌, min, List, [], ◌∷◌, ◌++◌, length, Option, Some, None, Result, Ok, Err, IsSome, codes, bytes_eq, if◌then◌else◌}
+use Rattle.std.specs.Prelude.{◌≡◌, ◌⊎◌, ℕ, ◌+◌, min, true, List, [], ◌∷◌, ◌++◌, length, Option, Some, None, Result, Ok, Err, IsSome, is_ok, codes, bytes_eq, if◌then◌else◌}
 use Rattle.gk_terms.specs.Text.{words_of, is_too_long}
 use Rattle.gk_terms.specs.declared.limits.TheConstants.{MOST_ENDPOINTS}
 use Rattle.command_reader.specs.declared.commands.Command.{Command}
@@ -104,10 +104,16 @@ abbrev pub endpoints_in : List Command → List (List ℕ) → Result RegistryPa
 endpoints_in commands lines = lines_added commands 0 no_endpoints lines
 
 -- ---- out of memory
--- memory may run out at a line that registers an endpoint, or whose first option could be read
-abbrev pub MayLackMemory : List ℕ → Type 0
-MayLackMemory line =
-    IsSome (registering_of line) ⊎ ((e : EndpointParts) × (endpoint_in line ≡ Ok (Some e)))
+-- the endpoint may register, if memory lasts
+abbrev pub MayRegister : List Command → RegistryParts → EndpointParts → Type 0
+MayRegister commands r e = is_ok (registered_in commands r e) ≡ true
+
+-- memory may run out at a line whose first option could be read; or at one without a fault, which
+-- registers an endpoint
+abbrev pub MayLackMemory : List Command → RegistryParts → List ℕ → Type 0
+MayLackMemory commands r line =
+    IsSome (registering_of line)
+    ⊎ ((e : EndpointParts) × (endpoint_in line ≡ Ok (Some e)) × MayRegister commands r e)
 
 -- memory ran out at one of these lines, as the fault says; those before it have no fault
 pub record LacksMemory (commands : List Command) (lines : List (List ℕ)) (fault : EndpointsFault)
@@ -118,7 +124,7 @@ pub record LacksMemory (commands : List Command) (lines : List (List ℕ)) (faul
   pub split : lines ≡ front ++ line ∷ rest
   pub before : RegistryParts
   pub read : endpoints_in commands front ≡ Ok before
-  pub lacks : MayLackMemory line
+  pub lacks : MayLackMemory commands before line
   pub is : fault ≡ fault_after (length front) NoMemory
 
 -- what may be answered of a file: its endpoints; its first fault; or that memory ran out at a line
@@ -147,6 +153,14 @@ abbrev pub AddsUnlessMemory : {A : Type 0} → Type 0 → Result RegistryParts E
 AddsUnlessMemory may_lack right new (Ok done) = right ≡ Ok new
 AddsUnlessMemory may_lack right new (Err kind) =
     (right ≡ Err kind) ⊎ ((kind ≡ NoMemory) × may_lack)
+
+-- the same, and the fault is that of this line
+abbrev pub AddsAtLine : {A : Type 0} → ℕ → Type 0 → Result RegistryParts EndpointsFaultKind
+    → RegistryParts → Result A EndpointsFault → Type 0
+AddsAtLine line may_lack right new (Ok done) = right ≡ Ok new
+AddsAtLine line may_lack right new (Err fault) =
+    (fault.line ≡ line)
+    × ((right ≡ Err fault.kind) ⊎ ((fault.kind ≡ NoMemory) × may_lack))
 
 -- a registration that is refused is passed over, or its fault is given
 abbrev pub PassesUnless : {A : Type 0} → Option EndpointsFaultKind → Result A EndpointsFaultKind

@@ -47,8 +47,9 @@ pub struct EndpointsFault {
 /// whose first word begins with `!` and an endpoint whose zone is not local there.
 ///
 /// A line of more than 512 bytes is `BadLine`, whatever it says, and so is one that is not a
-/// well-formed `RRQ`. `DuplicateAlias` comes before `TooMany`. `NoMemory` is answered only at a
-/// line that registers an endpoint or begins to, after lines without a fault.
+/// well-formed `RRQ`. `DuplicateAlias` comes before `TooMany`. `NoMemory` is answered only after
+/// lines without a fault, at a line that registers an endpoint and has no fault, or at one whose
+/// first option could be read.
 pub fn read_endpoints(
     alloc: Global,
     text: &[u8],
@@ -60,11 +61,27 @@ pub fn read_endpoints(
     let mut line = 0u32;
     for raw in RawLines::of(text) {
         line = line.saturating_add(1);
-        if let Err(kind) = add_line(alloc, content(raw), tables, &mut registry) {
-            return Err(EndpointsFault { line, kind });
-        }
+        add_at_line(alloc, line, content(raw), tables, &mut registry)?;
     }
     Ok(registry)
+}
+
+/// Does what `add_line` does, and gives its fault with the number of the line.
+fn add_at_line(
+    alloc: Global,
+    number: u32,
+    line: &[u8],
+    tables: &Tables,
+    registry: &mut Registry,
+) -> Result<(), EndpointsFault>
+    ensures { Spec.AddsAtLine number
+        (Spec.MayLackMemory tables.now.commands registry.old line.now)
+        (Spec.line_added tables.now.commands registry.old line.now) registry.new result }
+{
+    match add_line(alloc, line, tables, registry) {
+        Ok(()) => Ok(()),
+        Err(kind) => Err(EndpointsFault { line: number, kind }),
+    }
 }
 
 /// Registers the endpoint of a line, unless the line or the endpoint is passed over. After an `Err`
@@ -75,7 +92,7 @@ fn add_line(
     tables: &Tables,
     registry: &mut Registry,
 ) -> Result<(), EndpointsFaultKind>
-    ensures { Spec.AddsUnlessMemory (Spec.MayLackMemory line.now)
+    ensures { Spec.AddsUnlessMemory (Spec.MayLackMemory tables.now.commands registry.old line.now)
         (Spec.line_added tables.now.commands registry.old line.now) registry.new result }
 {
     match endpoint_in(alloc, line)? {
@@ -139,7 +156,8 @@ fn add_endpoint(
     endpoint: Endpoint,
     tables: &Tables,
 ) -> Result<(), EndpointsFaultKind>
-    ensures { Spec.AddsUnlessMemory (Unit {0})
+    ensures { Spec.AddsUnlessMemory
+        (Spec.MayRegister tables.now.commands registry.old endpoint)
         (Spec.endpoint_added tables.now.commands registry.old endpoint) registry.new result }
 {
     match registry.register(endpoint, tables) {

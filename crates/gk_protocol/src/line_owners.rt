@@ -3,10 +3,11 @@
 ghost use Rattle.std.specs.Prelude.{◌≡◌};
 ghost use Rattle.gk_protocol.specs.LineOwners.{request_with, lines_without_memory};
 
-use crate::answers::{Answer, TrialRefusal};
+use crate::answers::Answer;
 use crate::owned_lines::OwnedLines;
-use crate::reloads;
+use crate::reloads::reload_without_memory;
 use crate::requests::Request;
+use crate::trials::trial_without_memory;
 
 /// What a line asks with the lines after it, until they are there.
 #[derive(Clone, Copy, Debug, PartialEq, Eq)]
@@ -45,11 +46,8 @@ impl LineOwner {
         ensures { result ≡ lines_without_memory self }
     {
         match self {
-            LineOwner::Reload { sequence } => reloads::no_memory(sequence),
-            LineOwner::Try { sequence, .. } => Answer::TryRefused {
-                sequence,
-                reason: TrialRefusal::NoMemory,
-            },
+            LineOwner::Reload { sequence } => reload_without_memory(sequence),
+            LineOwner::Try { sequence, .. } => trial_without_memory(sequence),
         }
     }
 }

@@ -16,11 +16,12 @@ use Rattle.gk_protocol.specs.declared.request_faults.RequestFault.{RequestFault}
 use Rattle.gk_protocol.specs.declared.requests.Request.{Request}
 use Rattle.gk_protocol.specs.declared.requests.Request.TheVariants.{Register, Unregister, Admit, Change, Release, Reload, Try}
 use Rattle.gk_protocol.specs.declared.answers.Answer.{Answer}
-use Rattle.gk_protocol.specs.declared.answers.Answer.TheVariants.{Reply, TryRefused}
+use Rattle.gk_protocol.specs.declared.answers.Answer.TheVariants.{Reply, Tried, TryRefused}
 use Rattle.gk_protocol.specs.declared.answers.TrialRefusal.TheVariants as trial
 use Rattle.gk_protocol.specs.Answers.{answer_text_of}
 use Rattle.gk_protocol.specs.Requests.{reload_without_memory, trial_without_memory}
-use Rattle.gk_protocol.specs.CoreAnswers.{are_workers, Replies, ReloadsBy, MayLackMemory, TriesBy, MayTry, MayAnswer}
+use Rattle.gk_protocol.specs.Answering.{are_workers, MayLackMemory, report_under}
+use Rattle.gk_protocol.specs.CoreAnswers.{Replies, ReloadsBy, shown_by, TriesBy, MayTry, MayAnswer}
 use Rattle.gk_protocol.specs.Session.{Asked, requests_of, Answered, MayGet, Runs}
 use Rattle.configuration_reader.specs.declared.configuration.Until.TheVariants.{EndLine}
 use Rattle.configuration_reader.specs.Configuration.{configuration_of, rest_of}
@@ -58,7 +59,7 @@ tried_if core sequence lines may =
 
 tries_by : (core : CoreParts) (sequence : ℕ) (read : Result Configuration LineFault) → TriesBy core
     sequence read (tried_by core sequence read)
-tries_by core sequence (Ok configuration) = inl refl
+tries_by core sequence (Ok configuration) = inl (shown_by core, refl, refl)
 tries_by core sequence (Err fault) = refl
 
 tries_if : (core : CoreParts) (sequence : ℕ) (lines : List (List ℕ)) (may : Bool) → TriesIf core
@@ -175,7 +176,8 @@ reload_in_memory old new sequence (Err fault) answer replies lasts = replies
 tried_in_memory_by : (core : CoreParts) (sequence : ℕ) (read : Result Configuration LineFault)
     (answer : Answer) → TriesBy core sequence read answer
     → TryRefused sequence trial.NoThread ≢ answer → answer ≡ tried_by core sequence read
-tried_in_memory_by core sequence (Ok configuration) answer (inl reported) threads = reported
+tried_in_memory_by core sequence (Ok configuration) answer (inl reported) threads =
+    reported.2 ∙ ap (λ shown. Tried sequence (report_under shown configuration)) reported.1
 tried_in_memory_by core sequence (Ok configuration) answer (inr lacking) threads =
     absurd (threads (sym lacking))
 tried_in_memory_by core sequence (Err fault) answer refused threads = refused

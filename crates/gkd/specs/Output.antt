@@ -16,7 +16,8 @@ use Rattle.gk_protocol.specs.declared.answers.Answer.TheVariants.{Reply, Misconf
 use Rattle.gk_protocol.specs.declared.answers.TrialRefusal.TheVariants as trial
 use Rattle.gk_protocol.specs.Answers.{answer_text_of}
 use Rattle.gk_protocol.specs.Requests.{reload_without_memory, trial_without_memory}
-use Rattle.gk_protocol.specs.CoreAnswers.{are_workers, report_under, MayAnswer}
+use Rattle.gk_protocol.specs.Answering.{are_workers}
+use Rattle.gk_protocol.specs.CoreAnswers.{report_under, MayAnswer}
 use Rattle.gk_protocol.specs.Session.{Asked, requests_of, Runs}
 use Rattle.configuration_reader.specs.declared.configuration.Until.TheVariants.{EndLine}
 use Rattle.configuration_reader.specs.Configuration.{configuration_of, rest_of}

@@ -1,7 +1,7 @@
 //! The words of the command line.
 
 use clap::{Arg, ArgAction, ArgMatches, Command, Error};
-use gk_terms::limits::MOST_WORKERS;
+use gk_terms::limits::{MOST_SEATS, MOST_WORKERS};
 use gk_terms::read_number;
 use std::alloc::{AllocError, Global};
 
@@ -35,9 +35,31 @@ pub enum Task<'a> {
         /// 1 to 64.
         workers: u32,
     },
-    /// This number of workers is not one from 1 to 64.
-    BadWorkers(&'a str),
+    /// `serve FILE --port N --seats N`: to serve so many sessions over TCP under the configuration
+    /// in a file.
+    Serve {
+        file: &'a str,
+        /// 1 to 65535.
+        port: u16,
+        /// 1 to 32.
+        seats: u32,
+    },
+    /// The word after this option is not a number in its range.
+    BadNumber(BadNumber<'a>),
 }
+
+/// A word that is not a number in the range of its option.
+#[derive(Clone, Copy, Debug, PartialEq, Eq)]
+pub struct BadNumber<'a> {
+    pub word: &'a str,
+    /// The option, as help shows it.
+    pub option: &'a str,
+    /// The greatest number; the least is 1.
+    pub most: u32,
+}
+
+/// The greatest port.
+const MOST_PORT: u32 = 65_535;
 
 /// What the words ask for. An error is a bad command line, or a call for help: its text and its
 /// status are `clap`'s.
@@ -51,6 +73,7 @@ fn task_in<'a>(matches: &ArgMatches<'a>) -> Task<'a> {
     match matches.subcommand() {
         Some(("check", check)) => check_in(check),
         Some(("run", run)) => run_in(run),
+        Some(("serve", serve)) => serve_in(serve),
         Some(("trial", trial)) => trial_in(trial),
         _ => Task::RunInput,
     }
@@ -79,15 +102,44 @@ fn check_in<'a>(matches: &ArgMatches<'a>) -> Task<'a> {
 
 /// `trial` with its files and its workers.
 fn trial_in<'a>(matches: &ArgMatches<'a>) -> Task<'a> {
-    let workers = word_in(matches, "workers");
-    match read_number(workers.as_bytes(), 1, MOST_WORKERS) {
+    match number_in(matches, "workers", "--workers <N>", MOST_WORKERS) {
         Ok(workers) => Task::Trial {
             file: word_in(matches, "FILE"),
             calls: word_in(matches, "calls"),
             endpoints: word_in(matches, "endpoints"),
             workers,
         },
-        Err(_) => Task::BadWorkers(workers),
+        Err(bad) => Task::BadNumber(bad),
+    }
+}
+
+/// `serve` with its file, its port and its seats.
+fn serve_in<'a>(matches: &ArgMatches<'a>) -> Task<'a> {
+    let port = match number_in(matches, "port", "--port <N>", MOST_PORT) {
+        Ok(port) => port as u16,
+        Err(bad) => return Task::BadNumber(bad),
+    };
+    match number_in(matches, "seats", "--seats <N>", MOST_SEATS) {
+        Ok(seats) => Task::Serve {
+            file: word_in(matches, "FILE"),
+            port,
+            seats,
+        },
+        Err(bad) => Task::BadNumber(bad),
+    }
+}
+
+/// The number after an option, from 1 to the greatest one.
+fn number_in<'a>(
+    matches: &ArgMatches<'a>,
+    id: &str,
+    option: &'a str,
+    most: u32,
+) -> Result<u32, BadNumber<'a>> {
+    let word = word_in(matches, id);
+    match read_number(word.as_bytes(), 1, most) {
+        Ok(number) => Ok(number),
+        Err(_) => Err(BadNumber { word, option, most }),
     }
 }
 
@@ -103,6 +155,7 @@ fn commands<'a>(alloc: Global) -> Result<Command<'a>, AllocError> {
         .disable_help_subcommand(true)
         .subcommand(check_command(alloc)?)?
         .subcommand(run_command(alloc)?)?
+        .subcommand(serve_command(alloc)?)?
         .subcommand(trial_command(alloc)?)
 }
 
@@ -126,6 +179,24 @@ fn named<'a>(alloc: Global, name: &'a str, value: &'a str) -> Arg<'a> {
         .long(name)
         .value_name(value)
         .action(ArgAction::Set)
+}
+
+/// `serve FILE --port N --seats N`.
+fn serve_command<'a>(alloc: Global) -> Result<Command<'a>, AllocError> {
+    let port = named(alloc, "port", "N")
+        .help("The TCP port on 127.0.0.1 that sessions come to, 1 to 65535")
+        .required(true);
+    let seats = named(alloc, "seats", "N")
+        .help("How many sessions are served, each in a thread of its own, 1 to 32")
+        .required(true);
+    Command::new(alloc, "serve")
+        .about(
+            "Serves sessions over TCP under the configuration in a file, many at a time, and ends \
+            when all have ended",
+        )
+        .arg(file(alloc))?
+        .arg(port)?
+        .arg(seats)
 }
 
 /// `trial FILE --calls CSV --endpoints FILE --workers N`.

@@ -1,7 +1,8 @@
 //! `gkd`: the gatekeeper. Without words it reads a configuration and then requests from standard
 //! input, and writes a reply to each request on standard output. `gkd run FILE` reads the
-//! configuration from a file, `gkd check FILE` says whether one is accepted, and `gkd trial FILE`
-//! reports what one would have answered to recorded calls.
+//! configuration from a file, `gkd check FILE` says whether one is accepted, `gkd trial FILE`
+//! reports what one would have answered to recorded calls, and `gkd serve FILE` serves many
+//! sessions over TCP.
 #![tactic(auto)]
 
 mod command_line;
@@ -10,17 +11,20 @@ pub mod laws;
 pub mod run;
 mod run_files;
 mod saying;
+mod serving;
 mod trial_files;
 
 use clap::error::ErrorKind;
-use command_line::{Task, task_of};
+use command_line::{BadNumber, Task, task_of};
 use configuration_reader::check;
 use configuration_reader::check::CheckFault;
 use gk_lines::Noted;
 use run_files::{run_file, run_input};
 use saying::{UNWRITTEN, cannot_read, fail, refuse_configuration};
+use serving::serve_file;
 use std::alloc::AllocGlobal;
 use std::io::{BufWriter, Write};
+use std::net::{Net, TcpListener, TcpStream};
 use std::process::ExitCode;
 use std::rt::Runtime;
 use std::sync::Wait;
@@ -40,10 +44,14 @@ fn main(rt: HostRuntime) -> io::Result<ExitCode> {
 }
 
 /// Does what the command line asks for.
-fn carry_out<R: Runtime + AllocGlobal + Threads + Wait>(
-    rt: &R,
-    task: Task<'_>,
-) -> io::Result<ExitCode> {
+fn carry_out<
+    R: Runtime
+        + AllocGlobal
+        + Net<Listener = TcpListener, Stream = TcpStream>
+        + Sync
+        + Threads
+        + Wait,
+>(rt: &R, task: Task<'_>) -> io::Result<ExitCode> {
     match task {
         Task::RunInput => run_input(rt),
         Task::RunFile { file, record } => run_file(rt, file, record),
@@ -61,7 +69,8 @@ fn carry_out<R: Runtime + AllocGlobal + Threads + Wait>(
             };
             try_files(rt, &files, workers)
         }
-        Task::BadWorkers(word) => refuse_workers(rt, word),
+        Task::Serve { file, port, seats } => serve_file(rt, file, port, seats),
+        Task::BadNumber(bad) => refuse_number(rt, &bad),
     }
 }
 
@@ -91,9 +100,10 @@ fn refuse(rt: &HostRuntime, error: &clap::Error) -> io::Result<ExitCode> {
     Ok(ExitCode::from(error.exit_code() as u8))
 }
 
-/// Says that a number of workers is not one.
-fn refuse_workers<R: Eprint>(rt: &R, word: &str) -> io::Result<ExitCode> {
-    eprintln!(rt; "error: invalid value '{word}' for '--workers <N>': not a number from 1 to 64")?;
+/// Says that a word is not a number in the range of its option.
+fn refuse_number<R: Eprint>(rt: &R, bad: &BadNumber<'_>) -> io::Result<ExitCode> {
+    let BadNumber { word, option, most } = *bad;
+    eprintln!(rt; "error: invalid value '{word}' for '{option}': not a number from 1 to {most}")?;
     Ok(ExitCode::from(2))
 }
 

@@ -67,6 +67,7 @@ put_as old new commands (Ok answer) grown version refused =
     let place : length new - 1 ≡ length old = omega (arith, long) in (
       length new,
       version,
+      omega (arith, long),
       ap (λ xs. slice_get xs (length new - 1)) grown
           ∙ get_last old commands (length new - 1) place,
     )
@@ -99,7 +100,8 @@ below entries (Some receipt) number stands is =
     let within = number_within entries receipt.number stands.0 stands.1 in
     omega (arith, within.1, is)
 
-pub rising : (entries : List PlainEntry) (last : Option Receipt) (result : Result (Reply × Receipt) Reply)
+pub rising : (entries : List PlainEntry) (last : Option Receipt) (result : Result (Reply ×
+    Receipt) Reply)
     → LastStands entries last → IfOk result (λ a. a.1.number ≡ length entries + 1)
     → IfOk result (λ a. IfSome last (λ l. l.number < a.1.number))
 rising entries last (Ok answer) stands is = below entries last answer.1.number stands is

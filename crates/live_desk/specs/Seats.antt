@@ -27,9 +27,9 @@ abbrev pub unreserved : CoreParts → CoreParts
 unreserved core = held core.opening core.entries
 
 -- ---- seats
--- a seat: how many of its calls were recorded, the receipt of the last, whether that was once not
+-- a seat: how many of its events were recorded, the receipt of the last, whether that was once not
 -- found, the generations that it has seen, and whether it once did not see those in force
-pub record Sitter : Type 0 where
+pub record SeatParts : Type 0 where
   pub share : ℕ
   pub last : Option Receipt
   pub astray : Bool
@@ -38,7 +38,7 @@ pub record Sitter : Type 0 where
 
 -- what lies under the lock: what was recorded, the book's total, how many seats were given out, and
 -- how many there are
-pub record Inner : Type 0 where
+pub record RoomParts : Type 0 where
   pub entries : List PlainEntry
   pub booked : ℕ
   pub given : ℕ
@@ -76,7 +76,7 @@ abbrev pub LastStands : List PlainEntry → Option Receipt → Type 0
 LastStands entries last = IfSome last (Stands entries)
 
 -- the seat is not astray, and its last receipt stands
-abbrev pub IsFound : List PlainEntry → Sitter → Type 0
+abbrev pub IsFound : List PlainEntry → SeatParts → Type 0
 IsFound entries s = (s.astray ≡ false) × LastStands entries s.last
 
 -- the receipt names what was asked, and the reply
@@ -89,8 +89,8 @@ IsReceiptOf event reply r =
 -- is astray, is led on by the event with this answer; unless the seat is lost, it has seen just the
 -- generations that are in force then
 pub record Asked
-    (opening : State) (before : Sitter) (event : PlainEvent)
-    (answer : Result (Reply × Receipt) Reply) (after : Sitter)
+    (opening : State) (before : SeatParts) (event : PlainEvent)
+    (answer : Result (Reply × Receipt) Reply) (after : SeatParts)
     : Type 0 where
   pub history : List PlainEntry
   pub next : List PlainEntry
@@ -118,7 +118,8 @@ pub record IsSnapshotOfSome (opening : State) (snapshot : SnapshotParts) : Type 
 -- these commands are the generation of the version that is replied
 abbrev pub IsPutAs : List Command → Reply → List (List Command) → Type 0
 IsPutAs commands reply list =
-    (version : ℕ) × (reply ≡ Reloaded version) × (slice_get list (version - 1) ≡ Some commands)
+    (version : ℕ) × (reply ≡ Reloaded version) × (0 < version)
+    × (slice_get list (version - 1) ≡ Some commands)
 
 -- a reload that was recorded has put its commands in force; one that was not is refused as a reload
 abbrev pub IsPut
@@ -133,23 +134,23 @@ IsPut (Reloading commands) (Err reply) list =
     (reason : ReloadRefusal) × (reply ≡ ReloadRefused reason)
 
 -- ---- all seats
-abbrev pub all_shares : List Sitter → ℕ
+abbrev pub all_shares : List SeatParts → ℕ
 all_shares seats = sum_by (λ s. s.share) seats
 
 -- the record is legal, as long as all shares together, and each seat's last receipt stands in it
-pub record IsTheirs (opening : State) (seats : List Sitter) (entries : List PlainEntry)
+pub record IsTheirs (opening : State) (seats : List SeatParts) (entries : List PlainEntry)
     : Type 0 where
   pub legal : IsLegal opening entries
   pub long : length entries ≡ all_shares seats
   pub found : All (IsFound entries) seats
 
 -- some seat is not found in the record
-abbrev pub IsAstrayIn : List PlainEntry → List Sitter → Type 0
+abbrev pub IsAstrayIn : List PlainEntry → List SeatParts → Type 0
 IsAstrayIn entries seats =
     (place : ℕ) × IsSomeAnd (slice_get seats place) (λ s. IsFound entries s → ⊥)
 
 -- in some legal history some seat is not found
-pub record SomeAstray (opening : State) (seats : List Sitter) : Type 0 where
+pub record SomeAstray (opening : State) (seats : List SeatParts) : Type 0 where
   pub history : List PlainEntry
   pub legal : IsLegal opening history
   pub astray : IsAstrayIn history seats

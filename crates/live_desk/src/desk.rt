@@ -25,9 +25,10 @@ pub struct Blank {
     pub publisher: publisher::Blank,
 }
 
-/// A core under a lock. Whenever the lock is got, the record replays to the core's state, publisher
-/// and core name the same generations, and the book of the ledger is the length of the record: the
-/// type of what is locked keeps it (`Room`). It can't be let go: it ends by `finish` or `close`.
+/// A core under a lock. Whenever the lock is taken, the record replays to the core's state,
+/// publisher and core name the same generations, and the book of the ledger is the length of the
+/// record: the type of what is locked keeps it (`Room`). It can't be let go: it ends by `finish` or
+/// `close`.
 pub struct Desk<J: House> {
     pub(crate) room: Mutex<Room<J>>,
 }
@@ -79,7 +80,8 @@ impl<J: House> Desk<J> {
         })
     }
 
-    /// A new seat, which has asked and seen nothing. `NoSeat` if each was given out.
+    /// A new seat, which has asked nothing. `NoSeat` if each was given out, or for the second cause
+    /// of that fault.
     pub fn seat<R: Wait>(&self, rt: &R) -> Result<Seat<J>, SeatFault>
         ensures seat { IfOk result (λ seat. (seat.share ≡ 0) × (seat.last ≡ None)
             × (seat.astray ≡ false) × (seat.lost ≡ false)) }
@@ -113,10 +115,9 @@ impl<J: House> Desk<J> {
         let _room = MutexGuard::unlock(held);
     }
 
-    /// Takes all seats back, and gives the record. `SeatsMissing` comes exactly if the seats handed
-    /// in are not as many as were given out (the count of those is under the lock: `Room::finish`
-    /// says it of that count), else `Astray` exactly if a seat is astray or its last receipt does
-    /// not stand in the record.
+    /// Takes all seats back, and gives the record; or hands all back. What the record is, and how
+    /// many seats were given out, has no name while it is under the lock. So `Room::finish` says
+    /// exactly when each fault comes, and this call what can be said without those names.
     pub fn finish<R: Wait>(self, rt: &R, seats: Vec<Seat<J>>) -> Result<Record, FinishFault<J>>
         requires { J.all ≡ J.parts }
         ensures ok { IfOk result (λ ended.

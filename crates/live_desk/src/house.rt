@@ -4,9 +4,9 @@ use publisher::Imprint;
 use std::marker::Brand;
 use std::sync::ledger::Ledger;
 
-/// What a desk and its seats agree on: the ledger of recorded calls with all its parts, the
+/// What a desk and its seats agree on: the ledger of recorded events with all its parts, the
 /// publisher's history, and what the core was opened with. A seat of one desk can't be used with
-/// another one, since the two have different types.
+/// another one, since what the parameters of the two stand for differs.
 pub trait House: Ledger + Imprint {
     ghost use Rattle.std.specs.Prelude.{ℕ, List};
     ghost use Rattle.command_reader.specs.declared.commands.Command.{Command};

@@ -32,7 +32,7 @@ pub enum FinishKind {
     Astray,
 }
 
-/// A core that publishes, the book of its recorded calls, and how many seats were given out of how
+/// A core that publishes, the book of its recorded events, and how many seats were given out of how
 /// many. `rest` is the ledger's share of the seats that were not given out yet.
 pub struct Room<J: House> {
     live: Live<J>,
@@ -45,9 +45,9 @@ pub struct Room<J: House> {
 impl<J: House> Model for Room<J> {
     ghost use Rattle.std.specs.Prelude.{◌≡◌, ◌+◌, false, length};
     ghost use Rattle.rulings.specs.State.{opening_of};
-    ghost use Rattle.live_desk.specs.Seats.{Inner};
+    ghost use Rattle.live_desk.specs.Seats.{RoomParts};
 
-    ghost Value = { Inner };
+    ghost Value = { RoomParts };
 
     ghost view = { λ r. record {
       entries = r.live.entries;
@@ -81,7 +81,7 @@ impl<J: House> Room<J> {
         }
     }
 
-    /// What holds whenever the lock is got.
+    /// What holds whenever the lock is taken.
     pub fn look(&self) -> (&Record, Version)
         ensures entries { result.0.now.entries ≡ self.now.entries }
         ensures legal { IsLegal (opening_of J.begun J.limits) self.now.entries }
@@ -95,7 +95,7 @@ impl<J: House> Room<J> {
     }
 
     #[tactic(auto, using(crate::proofs::Grows::snapshot_of))]
-    /// The rows of the record and the registered endpoints.
+    /// The rows of the record and the registered endpoints. `AllocError` if memory runs out.
     pub fn snapshot(&self, alloc: Global) -> Result<Snapshot, AllocError>
         ensures snapshot { IfOk result (λ snapshot. snapshot
             ≡ snapshot_of (opening_of J.begun J.limits) self.now.entries) }
@@ -194,7 +194,9 @@ impl<J: House> Room<J> {
         None
     }
 
-    /// Takes all seats back, and gives the record.
+    /// Takes all seats back, and gives the record. `SeatsMissing` exactly if they are fewer than
+    /// were given out (more there can't be); else `Astray` exactly if one of them is astray, or its
+    /// last receipt does not stand in the record. Then all is handed back.
     pub fn finish<R: Wait>(
         self,
         rt: &R,

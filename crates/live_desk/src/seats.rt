@@ -19,9 +19,9 @@ use std::marker::Model;
 use std::sync::ledger::Share;
 use std::sync::{Arc, MutexGuard, Wait};
 
-/// One of a desk's seats, which asks events from whichever thread it is in. It keeps its share of the
-/// count of recorded events, its last receipt, and its reader of what is published. A contract sees
-/// the generations that the reader has seen.
+/// One of a desk's seats, which asks events from whichever thread it is in. It keeps its share of
+/// the count of recorded events, its last receipt, and its reader of what is published. A contract
+/// sees the generations that the reader has seen.
 #[derive(Drop)]
 pub struct Seat<J: House> {
     pub(crate) share: Share<J>,
@@ -33,9 +33,9 @@ pub struct Seat<J: House> {
 
 impl<J: House> Model for Seat<J> {
     ghost use Rattle.std.specs.Prelude.{◌≡◌};
-    ghost use Rattle.live_desk.specs.Seats.{Sitter};
+    ghost use Rattle.live_desk.specs.Seats.{SeatParts};
 
-    ghost Value = { Sitter };
+    ghost Value = { SeatParts };
 
     ghost view = { λ s. record {
       share = s.share.amount;
@@ -50,8 +50,8 @@ impl<J: House> Model for Seat<J> {
 
 impl<J: House> Seat<J> {
     /// What the tables that its reader sees say of the digits, with their version. It waits for
-    /// nobody and takes no memory. `Lost` exactly if the seat is lost, or if its reader isn't let
-    /// in, which makes it lost.
+    /// nobody and takes no memory. `Lost` exactly if the seat is lost then: it was before, or its
+    /// reader is now.
     pub fn route(&mut self, digits: &Dialled) -> Result<Routed, Lost>
         ensures same { (self.new.share ≡ self.old.share) × (self.new.last ≡ self.old.last)
             × (self.new.astray ≡ self.old.astray) }
@@ -116,8 +116,8 @@ impl<J: House> Seat<J> {
         }
     }
 
-    /// Answers one event under the desk's lock. Ok and Err are as of `Core::answer`: an event that was
-    /// recorded has a receipt, whose number is its place in the record of all seats; any other
+    /// Answers one event under the desk's lock. Ok and Err are as of `Core::answer`: an event that
+    /// was recorded has a receipt, whose number is its place in the record of all seats; any other
     /// leaves the seat's share and last receipt.
     ///
     /// An admission is planned before the lock is taken. Under the lock the last receipt is looked
@@ -149,9 +149,9 @@ impl<J: House> Seat<J> {
         answer
     }
 
-    /// Puts these commands in force, whole, as the next version. They are compiled before the lock is
-    /// taken. The refusals are those of `Core::reload`; `NoMemory` also if memory runs out for the
-    /// tables or for their publication.
+    /// Puts these commands in force, whole, as the next version. They are compiled before the lock
+    /// is taken. The refusals are those of `Core::reload`; `NoMemory` also if memory runs out for
+    /// the tables or for their publication.
     pub fn reload<R: Wait>(
         &mut self,
         rt: &R,
@@ -170,8 +170,8 @@ impl<J: House> Seat<J> {
         ensures rises { self.new.astray ≡ false
             → IfOk result (λ a. IfSome self.old.last (λ last. last.number < a.1.number)) }
         ensures above { IfOk result (λ a. self.old.share < a.1.number) }
-        ensures put { self.new.lost ≡ false → IfOk result (λ a.
-            slice_get self.new.seen (a.0 - 1) ≡ Some commands.commands) }
+        ensures put { self.new.lost ≡ false → IfOk result (λ a. (0 < a.0)
+            × (slice_get self.new.seen (a.0 - 1) ≡ Some commands.commands)) }
     {
         let Ok(tables) = Tables::compile(alloc, commands) else {
             return Err(ReloadRefusal::NoMemory);

@@ -1,4 +1,5 @@
-//! One turn under the lock: what a reader learns, which plan is used, and the answer.
+//! What is done under the lock for one event: what a reader learns, which plan is used, and the
+//! answer.
 
 ghost use Rattle.std.specs.Prelude.{◌≡◌, ◌+◌, ◌↔◌, true, false, length, Some, None, IfSome, IfOk};
 ghost use Rattle.std.specs.Option.{option_copied};
@@ -64,8 +65,8 @@ pub(crate) fn planned<J: Imprint>(
 }
 
 #[tactic(auto, using(crate::proofs::Grows::named, crate::proofs::Grows::numbered))]
-/// Answers an event, and says whether the reader sees just the generations in force. A plan that was
-/// made outside is used only if it does, before the event.
+/// Answers an event, and says whether the reader sees just the generations in force. A plan that
+/// was made outside is used only if it does, before the event.
 pub(crate) fn turn<J: Imprint, R: Wait>(
     rt: &R,
     live: &mut Live<J>,

@@ -131,6 +131,45 @@ fn ends_of<J: House, R: Wait>(
     }
 }
 
+/// Of a desk of two seats, of which one was given out and comes back, how long the record is.
+#[test]
+fn a_seat_that_was_not_given_out_is_not_missing(rt: HostRuntime) -> Result<(), Fail> {
+    let tables = tables_of(rt.alloc(), TEXT).ok_or("no tables")?;
+    let records = records_of_one::<Brand, _>(
+        &rt,
+        rt.alloc(),
+        blank_of(2),
+        tables,
+        STATED_LIMITS,
+        2,
+    );
+    assert!(&rt; records == Some(0));
+    Ok(())
+}
+
+fn records_of_one<J: House, R: Wait>(
+    rt: &R,
+    alloc: Global,
+    blank: Blank,
+    tables: Arc<Tables>,
+    limits: Limits,
+    seats: u32,
+) -> Option<usize>
+    requires ledger { (blank.ledger.name ≡ J.name) × (blank.ledger.parts ≡ J.parts) }
+    requires parts { (J.all ≡ J.parts) × (seats ≡ J.all) }
+    requires publisher { blank.publisher ≡ J.book }
+    requires opening { (J.begun ≡ (arc_value tables).commands) × (J.limits ≡ limits) }
+{
+    let Ok(desk) = Desk::<J>::open(alloc, blank, tables, limits, seats) else {
+        return None;
+    };
+    let Ok(seat) = desk.seat(rt) else {
+        desk.close(rt);
+        return None;
+    };
+    records_with(rt, desk, Vec::new(alloc), seat)
+}
+
 /// Why there is no third seat, if there is none.
 fn third_fault<J: House, R: Wait>(rt: &R, desk: &Desk<J>) -> Option<SeatFault> {
     match desk.seat(rt) {

@@ -1,21 +1,31 @@
 //! What the tests are given: a configuration, what a desk is made of, and the names in it.
 
+ghost use Rattle.std.specs.Prelude.{◌≡◌};
+
+use admission::Event;
 use command_reader::{Commands, read};
 use compiler::Tables;
-use gk_terms::{Address, Dialled, Name, Units};
+use gk_terms::{Address, Dialled, Name, TechPrefix, Units};
 use live_desk::{Blank, Desk, House, Seat};
-use admission::Event;
 use registry::{Endpoint, EndpointKind};
 use std::alloc::Global;
 use std::sync::{Arc, Wait};
 
-/// Two local zones, one of which takes numbers that begin with 408, and a remote one.
-pub(crate) const TEXT: &[u8] = b"zone local gk-a d\nzone local gk-b d\n\
-zone remote gk-x d 10.9.0.1\nzone prefix gk-b 408*\nzone prefix gk-x 9*\n";
+/// Two local zones and two remote ones, a hop-off, and limits.
+pub(crate) const TEXT: &[u8] = b"gatekeeper\n zone local gk-a example.com 10.0.0.1\n \
+zone local gk-b example.com\n zone remote gk-x example.com 10.9.0.1 1719 cost 50\n \
+zone remote gk-y example.com 10.9.0.2 1719 cost 20\n zone prefix gk-a 408*\n \
+zone prefix gk-b 4085......\n zone prefix gk-x 9*\n zone prefix gk-y 9*\n \
+gw-type-prefix 1#* default-technology\n gw-type-prefix 2# hopoff gk-x\n \
+bandwidth total zone gk-a 256\n bandwidth session default 128\n no shutdown\nend\n";
 
-/// The same, but that numbers which begin with 408 go to the remote zone.
-pub(crate) const OTHER: &[u8] = b"zone local gk-a d\nzone local gk-b d\n\
-zone remote gk-x d 10.9.0.1\nzone prefix gk-x 408*\nzone prefix gk-x 9*\n";
+/// The same, but that numbers which begin with 408 go to the remote zone `gk-x`.
+pub(crate) const OTHER: &[u8] = b"gatekeeper\n zone local gk-a example.com 10.0.0.1\n \
+zone local gk-b example.com\n zone remote gk-x example.com 10.9.0.1 1719 cost 50\n \
+zone remote gk-y example.com 10.9.0.2 1719 cost 20\n zone prefix gk-x 408*\n \
+zone prefix gk-b 4085......\n zone prefix gk-x 9*\n zone prefix gk-y 9*\n \
+gw-type-prefix 1#* default-technology\n gw-type-prefix 2# hopoff gk-x\n \
+bandwidth total zone gk-a 256\n bandwidth session default 128\n no shutdown\nend\n";
 
 /// What a desk of so many seats is made of.
 pub(crate) fn blank_of(seats: u32) -> Blank
@@ -44,12 +54,24 @@ pub(crate) fn tables_of(alloc: Global, text: &[u8]) -> Option<Arc<Tables>> {
     Arc::new(alloc, tables).ok()
 }
 
-/// The terminal of this ID in the zone `gk-a`.
-pub(crate) fn terminal(alloc: Global, id: &[u8]) -> Option<Endpoint> {
-    let id = Name::read(id).ok()?;
+/// The registration of the terminal `ta` in the zone `gk-a`.
+pub(crate) fn terminal(alloc: Global) -> Option<Event> {
+    let id = Name::read(b"ta").ok()?;
     let zone = Name::read(b"gk-a").ok()?;
-    let address = Address::read(b"10.0.0.1", 1720).ok()?;
-    Some(Endpoint::new(alloc, EndpointKind::Terminal, id, zone, address))
+    let address = Address::read(b"10.0.1.1", 1720).ok()?;
+    let terminal = Endpoint::new(alloc, EndpointKind::Terminal, id, zone, address);
+    Some(Event::Register(terminal))
+}
+
+/// The registration of the gateway `ga` in the zone `gk-a`, which serves the technology prefix 1#.
+pub(crate) fn gateway(alloc: Global) -> Option<Event> {
+    let id = Name::read(b"ga").ok()?;
+    let zone = Name::read(b"gk-a").ok()?;
+    let address = Address::read(b"10.0.1.2", 1720).ok()?;
+    let served = TechPrefix::read(b"1#").ok()?;
+    let mut gateway = Endpoint::new(alloc, EndpointKind::Gateway, id, zone, address);
+    gateway.add_technology(served).ok()?;
+    Some(Event::Register(gateway))
 }
 
 /// An admission of this call by the endpoint of this ID.

@@ -94,8 +94,8 @@ fn seen_on<J: House + Send + Sync, R: Threads + Wait + Sync>(
     Some((signals.seen.load(Ordering::SeqCst) == 1, planned))
 }
 
-/// Once the lock is held, makes a plan and says so. Whether it saw that the lock was held, and has a
-/// plan.
+/// Once the lock is held, makes a plan and says so. Whether it saw that the lock was held, and has
+/// a plan.
 fn is_planned<J: House>(seat: &mut Seat<J>, digits: &Dialled, signals: &Signals) -> bool {
     if !is_set(&signals.held) {
         return false;

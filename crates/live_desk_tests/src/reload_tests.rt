@@ -3,8 +3,10 @@
 ghost use Rattle.std.specs.Prelude.{◌≡◌};
 ghost use Rattle.std.specs.Arc.{arc_value};
 
-use crate::given::{OTHER, TEXT, admission, blank_of, commands_of, tables_of, terminal, two_seats};
-use admission::{Destination, Event, Limits, ReloadRefusal, Reply, STATED_LIMITS};
+use crate::given::{
+    OTHER, TEXT, admission, blank_of, commands_of, gateway, tables_of, terminal, two_seats,
+};
+use admission::{Destination, Limits, ReloadRefusal, Reply, STATED_LIMITS};
 use compiler::Tables;
 use gk_terms::Name;
 use live_desk::{Blank, Desk, House, Seat};
@@ -114,12 +116,12 @@ fn refusal_of_reload<J: House, R: Wait>(
     }
 }
 
-/// Where a call went before another seat's reload and after it: whether to the terminal, and
-/// whether to the remote zone; and whether a seat was lost or astray.
+/// Whether a call went to the gateway before another seat's reload, and to the remote zone after
+/// it; and whether a seat was lost or astray.
 #[derive(Clone, Copy, Debug, PartialEq, Eq)]
 struct Seen {
-    before: bool,
-    after: bool,
+    to_gateway: bool,
+    to_zone: bool,
     lost: bool,
     astray: bool,
 }
@@ -127,17 +129,10 @@ struct Seen {
 #[test]
 fn a_reload_on_one_seat_routes_the_calls_of_another(rt: HostRuntime) -> Result<(), Fail> {
     let tables = tables_of(rt.alloc(), TEXT).ok_or("no tables")?;
-    let seen = seen_by_another::<Brand, _>(
-        &rt,
-        rt.alloc(),
-        blank_of(2),
-        tables,
-        STATED_LIMITS,
-        2,
-    );
+    let seen = seen_by_another::<Brand, _>(&rt, rt.alloc(), blank_of(2), tables, STATED_LIMITS, 2);
     let wanted = Seen {
-        before: false,
-        after: true,
+        to_gateway: true,
+        to_zone: true,
         lost: false,
         astray: false,
     };
@@ -169,48 +164,49 @@ fn seen_by_another<J: House, R: Wait>(
 /// The second seat asks before and after the first one's reload.
 fn seen_on<J: House, R: Wait>(rt: &R, alloc: Global, desk: &Desk<J>) -> Option<Seen> {
     let (mut first, mut second) = two_seats(rt, desk)?;
-    let ta = terminal(alloc, b"ta")?;
-    let _registered = first.ask(rt, desk, Event::Register(ta));
-    let before = is_sent_out(rt, desk, &mut second, 1001)?;
+    let _terminal = first.ask(rt, desk, terminal(alloc)?);
+    let _gateway = first.ask(rt, desk, gateway(alloc)?);
+    let before = name_led_to(rt, desk, &mut second, 1001)?;
     if version_of_reload(rt, alloc, desk, &mut first, OTHER) != Some(2) {
         return None;
     }
-    let after = is_sent_out(rt, desk, &mut second, 1002)?;
+    let after = name_led_to(rt, desk, &mut second, 1002)?;
     Some(Seen {
-        before,
-        after,
+        to_gateway: before == Name::read(b"ga").ok()?,
+        to_zone: after == Name::read(b"gk-x").ok()?,
         lost: first.lost() || second.lost(),
         astray: first.astray() || second.astray(),
     })
 }
 
-/// Whether a call to 40855512345 is admitted to the remote zone `gk-x`.
-fn is_sent_out<J: House, R: Wait>(
+/// The name of the gateway or zone to which a call to 40855512345 is admitted.
+fn name_led_to<J: House, R: Wait>(
     rt: &R,
     desk: &Desk<J>,
     seat: &mut Seat<J>,
     call: u32,
-) -> Option<bool> {
+) -> Option<Name> {
     let event = admission(b"ta", call, b"40855512345")?;
-    let remote = Name::read(b"gk-x").ok()?;
     let answer = seat.ask(rt, desk, event);
     match &answer {
-        Ok((reply, _)) => Some(leads_to(reply, &remote)),
+        Ok((reply, _)) => name_in(reply),
         Err(_) => None,
     }
 }
 
-/// Whether the reply admits a call to this zone.
-fn leads_to(reply: &Reply, zone: &Name) -> bool {
+/// The name of the destination in a reply that admits a call.
+fn name_in(reply: &Reply) -> Option<Name> {
     match reply {
-        Reply::Admitted { destination, .. } => is_zone(destination, zone),
-        _ => false,
+        Reply::Admitted { destination, .. } => name_of(destination),
+        _ => None,
     }
 }
 
-fn is_zone(destination: &Destination, zone: &Name) -> bool {
+/// The name of a gateway or of a zone.
+fn name_of(destination: &Destination) -> Option<Name> {
     match destination {
-        Destination::Zone { name, .. } => *name == *zone,
-        _ => false,
+        Destination::Gateway { id, .. } => Some(*id),
+        Destination::Terminal { .. } => None,
+        Destination::Zone { name, .. } => Some(*name),
     }
 }

@@ -21,7 +21,8 @@ use std::thread::Threads;
 const CALLS: u32 = 166;
 
 /// What came of a run: the entries of the record, the receipts of all seats, whether each of them
-/// stands, whether the numbers of each seat's receipts rise, and how many seats were lost or astray.
+/// stands, whether the numbers of each seat's receipts rise, and how many seats were lost or
+/// astray.
 #[derive(Clone, Copy, Debug, PartialEq, Eq)]
 struct Outcome {
     records: usize,

@@ -95,9 +95,9 @@ impl<J: Imprint> Reader<J> {
         replace_with(&mut self.place, (&self.told, digits), route_of)
     }
 
-    /// Takes in what its publisher told: the longer of this and what it was told before is kept, and
-    /// the other is a beginning of it. From then on it reads the last of those publications or a
-    /// later one. It takes no memory.
+    /// Takes in what its publisher told: the longer of this and what it was told before is kept,
+    /// and the other is a beginning of it. From then on it reads the last of those publications or
+    /// a later one. It takes no memory.
     #[tactic(auto, using(crate::proofs::Prefixes::prefix_self))]
     pub fn learn(&mut self, told: Told<J>)
         ensures same { self.new.list ≡ self.old.list }

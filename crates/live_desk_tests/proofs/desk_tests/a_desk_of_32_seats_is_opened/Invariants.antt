@@ -10,7 +10,11 @@ ghosts-opening_fault-J-House g a = record {
 }
 
 abbrev pub ghosts-opening_fault-J-Ledger : goal.ghosts-opening_fault-J-Ledger
-ghosts-opening_fault-J-Ledger g a = record { name = a.blank.ledger.name; parts = a.blank.ledger.parts }
+ghosts-opening_fault-J-Ledger g a = record {
+  name = a.blank.ledger.name;
+  parts =
+      a.blank.ledger.parts;
+}
 
 abbrev pub ghosts-opening_fault-J-Imprint : goal.ghosts-opening_fault-J-Imprint
 ghosts-opening_fault-J-Imprint g a = record { book = a.blank.publisher }

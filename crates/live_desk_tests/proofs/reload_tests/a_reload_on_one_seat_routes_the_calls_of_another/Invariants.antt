@@ -10,7 +10,11 @@ ghosts-seen_by_another-J-House g a = record {
 }
 
 abbrev pub ghosts-seen_by_another-J-Ledger : goal.ghosts-seen_by_another-J-Ledger
-ghosts-seen_by_another-J-Ledger g a = record { name = a.blank.ledger.name; parts = a.blank.ledger.parts }
+ghosts-seen_by_another-J-Ledger g a = record {
+  name = a.blank.ledger.name;
+  parts =
+      a.blank.ledger.parts;
+}
 
 abbrev pub ghosts-seen_by_another-J-Imprint : goal.ghosts-seen_by_another-J-Imprint
 ghosts-seen_by_another-J-Imprint g a = record { book = a.blank.publisher }

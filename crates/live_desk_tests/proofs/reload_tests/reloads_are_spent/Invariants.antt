@@ -10,7 +10,11 @@ ghosts-reloaded_twice-J-House g a = record {
 }
 
 abbrev pub ghosts-reloaded_twice-J-Ledger : goal.ghosts-reloaded_twice-J-Ledger
-ghosts-reloaded_twice-J-Ledger g a = record { name = a.blank.ledger.name; parts = a.blank.ledger.parts }
+ghosts-reloaded_twice-J-Ledger g a = record {
+  name = a.blank.ledger.name;
+  parts =
+      a.blank.ledger.parts;
+}
 
 abbrev pub ghosts-reloaded_twice-J-Imprint : goal.ghosts-reloaded_twice-J-Imprint
 ghosts-reloaded_twice-J-Imprint g a = record { book = a.blank.publisher }

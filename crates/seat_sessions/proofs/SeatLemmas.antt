@@ -1,0 +1,42 @@
+-- What a seat is answered, as an answer to a request.
+use Rattle.std.proofs.Common.{◌≡◌, ℕ, List, true, Result, Ok, Err, sym, subst, inl, inr}
+use Rattle.command_reader.specs.Configuration.{Configuration}
+use Rattle.command_reader.specs.Reading.{reading_in}
+use Rattle.rulings.specs.State.{State}
+use Rattle.rulings.specs.Events.{PlainEvent}
+use Rattle.rulings.specs.declared.replies.Reply.{Reply}
+use Rattle.decision_record.specs.declared.entries.Receipt.{Receipt}
+use Rattle.live_desk.specs.Seats.{Asked, SeatParts}
+use Rattle.gk_protocol.specs.declared.answers.Answer.{Answer}
+use Rattle.gk_protocol.specs.Answering.{are_workers}
+use Rattle.gk_protocol.proofs.TrialLemmas.{tried_on, lacking_trial}
+use Rattle.seat_sessions.specs.SeatAnswers.{MaySay, MayShow, MayTry, reply_in, TriesOnSome}
+
+-- the reply in what was answered is one that the desk may give
+pub said : (opening : State) (old : SeatParts) (event : PlainEvent)
+    (asked : Result (Reply × Receipt) Reply) (new : SeatParts) → Asked opening old event asked new
+    → MaySay opening old event (reply_in asked) new
+said opening old event (Ok answer) new h = inl (answer.1, h)
+said opening old event (Err reply) new h = inr h
+
+pub said_as : (opening : State) (old : SeatParts) (event : PlainEvent)
+    (asked : Result (Reply × Receipt) Reply) (reply : Reply) (new : SeatParts)
+    → reply ≡ reply_in asked → Asked opening old event asked new
+    → MaySay opening old event reply new
+said_as opening old event asked reply new is h =
+    subst (λ r. MaySay opening old event r new) (sym is) (said opening old event asked new h)
+
+-- what is answered to a trial of some legal history is an answer to the trial
+pub tried_on_some : (opening : State) (seat : SeatParts) (sequence workers : ℕ)
+    (lines : List (List ℕ)) (configuration : Configuration) → are_workers workers ≡ true
+    → reading_in lines ≡ Ok configuration → (answer : Answer)
+    → TriesOnSome opening sequence configuration answer
+    → MayTry opening seat sequence workers lines answer
+tried_on_some opening seat sequence workers lines configuration enough read answer
+    (inl (shown, taken, tried)) =
+    tried_on (MayShow opening) seat sequence workers lines configuration enough read shown answer
+    taken tried
+tried_on_some opening seat sequence workers lines configuration enough read answer
+    (inr lacking) =
+    subst (λ a. MayTry opening seat sequence workers lines a) (sym lacking)
+    (lacking_trial (MayShow opening) seat sequence workers lines configuration enough read)

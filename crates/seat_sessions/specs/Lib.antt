@@ -1,0 +1,2 @@
+pub mod SeatAnswers
+pub mod Served

@@ -1,0 +1,56 @@
+-- What a session over a seat may be answered: the generic answers, by the replies of a desk to a
+-- seat, and by the snapshots of a desk.
+use Rattle.std.specs.Prelude.{◌≡◌, ◌⊎◌, ℕ, List, Result, Ok, Err}
+use Rattle.command_reader.specs.Configuration.{Configuration}
+use Rattle.call_rows.specs.Rows.{SnapshotParts}
+use Rattle.rulings.specs.State.{State}
+use Rattle.rulings.specs.Events.{PlainEvent}
+use Rattle.rulings.specs.declared.replies.Reply.{Reply}
+use Rattle.decision_record.specs.declared.entries.Receipt.{Receipt}
+use Rattle.live_desk.specs.Seats.{Asked, IsSnapshotOfSome, SeatParts}
+use Rattle.gk_protocol.specs.declared.requests.Request.{Request}
+use Rattle.gk_protocol.specs.declared.answers.Answer.{Answer}
+use Rattle.gk_protocol.specs.Requests.{trial_without_memory}
+use Rattle.gk_protocol.specs.Answering as answering
+
+-- the reply in what a seat is answered
+abbrev pub reply_in : Result (Reply × Receipt) Reply → Reply
+reply_in (Ok answer) = answer.0
+reply_in (Err reply) = reply
+
+-- the desk replies so to an event of a seat, whether or not it was recorded
+abbrev pub MaySay : State → SeatParts → PlainEvent → Reply → SeatParts → Type 0
+MaySay opening old event reply new =
+    ((receipt : Receipt) × Asked opening old event (Ok (reply, receipt)) new)
+    ⊎ Asked opening old event (Err reply) new
+
+-- a trial is of the rows and endpoints of some legal history
+abbrev pub MayShow : State → SeatParts → SnapshotParts → Type 0
+MayShow opening seat shown = IsSnapshotOfSome opening shown
+
+-- the answer is the desk's reply to an event, and repeats the request's sequence number
+abbrev pub Replies : State → SeatParts → ℕ → PlainEvent → Answer → SeatParts → Type 0
+Replies opening old sequence event answer new =
+    answering.Replies (MaySay opening) old sequence event answer new
+
+-- what may be answered to a reload
+abbrev pub MayReload : State → SeatParts → ℕ → List (List ℕ) → Answer → SeatParts → Type 0
+MayReload opening old sequence lines answer new =
+    answering.MayReload (MaySay opening) old sequence lines answer new
+
+-- what may be answered to a trial under a configuration
+abbrev pub TriesOnSome : State → ℕ → Configuration → Answer → Type 0
+TriesOnSome opening sequence configuration answer =
+    ((shown : SnapshotParts) × IsSnapshotOfSome opening shown
+    × answering.TriesOn sequence shown configuration answer)
+    ⊎ (answer ≡ trial_without_memory sequence)
+
+-- what may be answered to a trial
+abbrev pub MayTry : State → SeatParts → ℕ → ℕ → List (List ℕ) → Answer → Type 0
+MayTry opening seat sequence workers lines answer =
+    answering.MayTry (MayShow opening) seat sequence workers lines answer
+
+-- a seat may answer a request so and be the new one after it; a trial leaves it as it was
+abbrev pub MayAnswer : State → SeatParts → Request → Answer → SeatParts → Type 0
+MayAnswer opening old request answer new =
+    answering.MayAnswer (MaySay opening) (MayShow opening) old request answer new
