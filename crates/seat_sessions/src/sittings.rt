@@ -53,7 +53,6 @@ impl<'d, J: House, R> Sitting<'d, J, R> {
 }
 
 impl<J: House, R: Threads + Wait> Sitting<'_, J, R> {
-    #[tactic(auto, using(crate::proofs::SeatLemmas::said_as))]
     /// The desk's reply to an event, as the answer to the request of this number.
     fn replied(&mut self, sequence: u32, event: Event) -> Answer
         ensures { Spec.Replies (opening_of J.begun J.limits) self.old sequence (plain event) result

@@ -4,5 +4,5 @@ use Rattle.seat_sessions.proofs.sittings.Sitting.tried.Goals as goal
 
 pub returns-in-Ok : goal.returns-in-Ok
 returns-in-Ok g c =
-    tried_on_some _ _ c.args.sequence c.args.workers (lines_of c.args.lines.now) _
+    tried_on_some _ c.args.self.now c.args.sequence c.args.workers (lines_of c.args.lines.now) _
     c.in-Ok.ensures.0 c.in-Ok.ensures.1 _ c.tried_under.ensures
