@@ -126,7 +126,9 @@ fn serve_seats<
     };
     serve_sessions(rt, alloc, &listener, sittings.as_mut_slice());
     for sitting in sittings {
-        seats.push_reserved(sitting.into_seat());
+        if seats.push(sitting.into_seat()).is_err() {
+            return Err(ServeFault::NoMemory);
+        }
     }
     Ok(seats)
 }
