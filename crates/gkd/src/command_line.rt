@@ -1,5 +1,7 @@
 //! The words of the command line.
 
+ghost use Rattle.std.specs.Prelude.{◌≤◌, IfOk};
+
 use clap::{Arg, ArgAction, ArgMatches, Command, Error};
 use gk_terms::limits::{MOST_SEATS, MOST_WORKERS};
 use gk_terms::read_number;
@@ -135,11 +137,13 @@ fn number_in<'a>(
     id: &str,
     option: &'a str,
     most: u32,
-) -> Result<u32, BadNumber<'a>> {
+) -> Result<u32, BadNumber<'a>>
+    ensures { IfOk result (λ number. number ≤ most) }
+{
     let word = word_in(matches, id);
     match read_number(word.as_bytes(), 1, most) {
-        Ok(number) => Ok(number),
-        Err(_) => Err(BadNumber { word, option, most }),
+        Ok(number) if number <= most => Ok(number),
+        _ => Err(BadNumber { word, option, most }),
     }
 }
 
