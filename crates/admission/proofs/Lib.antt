@@ -1,3 +1,4 @@
+pub mod AnsweringLemmas
 pub mod CallsLemmas
 pub mod CoreLemmas
 pub mod EnteringLemmas

@@ -1,3 +1,4 @@
+pub mod Answering
 pub mod CoreInvariant
 pub mod HistoryLaws
 pub mod Replying

@@ -244,7 +244,7 @@ impl Core {
 
     /// The plan of the tables in force for the digits: the one given if it is of the version in
     /// force, else made anew.
-    fn plan_for(&self, routed: &Routed) -> Plan
+    pub(crate) fn plan_for(&self, routed: &Routed) -> Plan
         requires { routed.now.version ≡ (state_of self.now).version
             → target_of (state_of self.now).commands routed.now.plan
             ≡ Some (plan_of (state_of self.now).commands routed.now.dialled) }

@@ -9,11 +9,12 @@ mod replying;
 mod settling;
 mod snapshots;
 
+pub use answering::receipt_for;
 pub use call_rows::{AdmittedCall, CallEvent, CallRow, NumberedAdmission, PushFault, Snapshot};
 pub use cores::{Core, OpeningFault};
 pub use decision_record::{Entry, EntryEvent, Receipt, Record, ReloadedCommands};
 pub use rulings::{
     AdmitRefusal, ChangeRefusal, Destination, DestinationKind, Duplicate, Event, EventKind,
-    LentRuling, Limits, RegisterRefusal, ReleaseRefusal, ReloadRefusal, Reply, ReplyTaker, Route,
-    RouteRefusal, STATED_LIMITS, UnregisterRefusal, route,
+    KeptReply, LentEvent, LentRuling, Limits, RegisterRefusal, ReleaseRefusal, ReloadRefusal,
+    Reply, ReplyTaker, Route, RouteRefusal, STATED_LIMITS, UnregisterRefusal, route,
 };

@@ -1,6 +1,6 @@
 //! How a core replies to an event: the ruling on it, and then its entry and its effect.
 
-ghost use Rattle.std.specs.Prelude.{◌≡◌, true, IfSome, IsSome};
+ghost use Rattle.std.specs.Prelude.{◌≡◌, true, None, IfSome, IsSome};
 ghost use Rattle.std.specs.Arc.{arc_value};
 ghost use Rattle.std.specs.Option.{option_copied};
 ghost use Rattle.rulings.specs.Events as Events;
@@ -9,12 +9,13 @@ ghost use Rattle.rulings.specs.Lent.{IsPlanOf};
 ghost use Rattle.rulings.specs.Ruling.{ruling_of};
 ghost use Rattle.rulings.specs.Step.{step};
 ghost use Rattle.decision_record.specs.History.{MayReply, state_of, with_entry};
+ghost use Rattle.admission.specs.Answering.{IsRoutedFor};
 ghost use Rattle.admission.specs.Replying.{RepliesInto};
 
 use crate::cores::Core;
 use crate::entering::places_reserved;
 use crate::settling::prepare;
-use compiler::{Plan, Tables};
+use compiler::{Plan, Routed, Tables};
 use decision_record::{ShortReply, Slot, Told};
 use gk_terms::{Dialled, Name, Units};
 use registry::Endpoint;
@@ -151,6 +152,36 @@ impl Core {
                 self.reload_into(tables, &mut kept);
                 kept.reply()
             }
+        }
+    }
+
+    /// The same of an event that is lent, and is not a reload, into a taker. An admission is
+    /// planned by the tables in force, unless its digits were routed under their version.
+    pub(crate) fn reply_lent<S: ReplyTaker>(
+        &mut self,
+        routed: Option<&Routed>,
+        asked: &LentEvent<'_>,
+        taker: &mut S,
+    )
+        requires planned { IfSome (option_copied routed)
+            (IsRoutedFor (state_of self.old) (Events.event_meant asked.now)) }
+        requires other { put_in_force (Events.event_meant asked.now) ≡ None }
+        ensures reply { RepliesInto S.has self.old (Events.event_meant asked.now) taker.new
+            self.new }
+    {
+        match asked {
+            LentEvent::Register(endpoint) => self.reply_registration(asked, endpoint, taker),
+            LentEvent::Admit { .. } => match routed {
+                Some(routed) => {
+                    let plan = &self.plan_for(routed);
+                    self.reply_planned(Some(plan), asked, taker);
+                }
+                None => self.reply_planned(None, asked, taker),
+            },
+            LentEvent::Unregister { .. } | LentEvent::Change { .. } | LentEvent::Release { .. } => {
+                self.reply_planned(None, asked, taker);
+            }
+            LentEvent::Reload(_) => unreachable!(),
         }
     }
 

@@ -8,11 +8,13 @@ pub mod laws;
 mod reading;
 mod record_reader;
 pub mod route_texts;
+pub mod row_source;
 pub mod row_writer;
 mod sound_rows;
 mod writing;
 
 pub use faults::{CallsFault, CallsFaultKind};
 pub use reading::read_calls;
+pub use row_source::RowSource;
 pub use row_writer::{RowWriter, WriteRowsFault};
-pub use writing::write_calls;
+pub use writing::{write_calls, write_rows_of};

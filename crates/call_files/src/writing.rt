@@ -1,15 +1,19 @@
 //! Writing a call file.
 
-ghost use Rattle.std.specs.Prelude.{◌≡◌, ◌++◌, OnOk, OnErr};
+ghost use Rattle.std.specs.Prelude.{◌≡◌, ◌++◌, [], OnOk, OnErr};
+ghost use Rattle.std.specs.List.{All};
 ghost use Rattle.std.specs.Io.KnownBytes.{Appends};
 ghost use Rattle.gk_lines.specs.Streams.{NotesIf, AppendsFront, AppendsUpTo};
 ghost use Rattle.csv.specs.Writing.{default_writer, row_text};
+ghost use Rattle.call_rows.specs.Pushing.{MayFollow};
 ghost use Rattle.call_rows.specs.declared.rows.CallEvent.TheVariants as events;
 ghost use Rattle.call_files.specs.Rows.{fields_from, granted_word, header};
 ghost use Rattle.call_files.specs.Calls.{SaysRows, calls_text, row_said, rows_said};
+ghost use Rattle.call_files.specs.ReadBack.{IsRow};
 ghost use Rattle.call_files.specs.RowWriter.{is_write_fault};
 
 use crate::route_texts::show_route;
+use crate::row_source::RowSource;
 use crate::row_writer::{RowWriter, WriteRowsFault};
 use crate::sound_rows::row_is_sound;
 use call_rows::{AdmittedCall, CallEvent, CallRow, Snapshot};
@@ -37,9 +41,31 @@ pub fn write_calls<W: Sink>(
         result }
     ensures reads_back { OnOk result (SaysRows (calls_text snapshot.now.rows) snapshot.now.rows) }
 {
+    // So it is known that each row could be added after those before it.
+    let _rows = snapshot.len();
+    write_rows_of(alloc, snapshot, writer)
+}
+
+/// Writes the call file of these rows, as `write_calls` does. It takes one row after another, and
+/// holds some hundreds of them at a time. `read_calls` reads it as the same rows if each may
+/// be put into a snapshot after those before it.
+pub fn write_rows_of<S: RowSource, W: Sink>(
+    alloc: Global,
+    source: &S,
+    writer: &mut W,
+) -> Result<(), WriteRowsFault>
+    ensures whole { OnOk result (Appends (W.contents writer.old) (W.contents writer.new)
+        (calls_text (S.rows source.now))) }
+    ensures front { OnErr result (AppendsFront (W.contents writer.old) (W.contents writer.new)
+        (calls_text (S.rows source.now))) }
+    ensures noted { NotesIf is_write_fault (W.has_failed writer.old) (W.has_failed writer.new)
+        result }
+    ensures reads_back { OnOk result (MayFollow [] (S.rows source.now)
+        → SaysRows (calls_text (S.rows source.now)) (S.rows source.now)) }
+{
     let mut rows = RowWriter::new(alloc);
     write_header(&mut rows, writer)?;
-    write_rows(&mut rows, snapshot, writer)?;
+    write_rows(&mut rows, source, writer)?;
     rows.send(writer)
 }
 
@@ -58,26 +84,25 @@ fn write_header<W: Sink>(rows: &mut RowWriter, writer: &mut W) -> Result<(), Wri
     rows.row(&fields, writer)
 }
 
-/// Writes the rows.
-fn write_rows<W: Sink>(
+/// Writes the rows, each of which is one of the type.
+fn write_rows<S: RowSource, W: Sink>(
     rows: &mut RowWriter,
-    snapshot: &Snapshot,
+    source: &S,
     writer: &mut W,
 ) -> Result<(), WriteRowsFault>
     ensures added { OnOk result (AppendsUpTo (W.contents writer.old) (W.contents writer.new)
-        (rows.old ++ rows_said snapshot.now.rows) rows.new) }
+        (rows.old ++ rows_said (S.rows source.now)) rows.new) }
     ensures front { OnErr result (AppendsFront (W.contents writer.old) (W.contents writer.new)
-        (rows.old ++ rows_said snapshot.now.rows)) }
+        (rows.old ++ rows_said (S.rows source.now))) }
     ensures noted { NotesIf is_write_fault (W.has_failed writer.old) (W.has_failed writer.new)
         result }
-    ensures reads_back { OnOk result (SaysRows (calls_text snapshot.now.rows) snapshot.now.rows) }
+    ensures sound { OnOk result (All IsRow (S.rows source.now)) }
 {
-    for place in 0..snapshot.len() {
-        let Some(row) = snapshot.row(place) else {
-            unreachable!()
-        };
-        row_is_sound(&row);
-        write_row(rows, &row, writer)?;
+    for place in 0..source.places() {
+        if let Some(row) = source.row_at(place) {
+            row_is_sound(&row);
+            write_row(rows, &row, writer)?;
+        }
     }
     Ok(())
 }

@@ -38,6 +38,8 @@ use Rattle.decision_record.specs.declared.slots.WideSlot.{WideSlot}
 use Rattle.decision_record.specs.declared.slots.WideSlot.TheVariants as wide
 use Rattle.decision_record.specs.declared.slots.Slot.{Slot}
 use Rattle.decision_record.specs.declared.slots.Slot.TheVariants as slot
+use Rattle.decision_record.specs.declared.lent_slots.LentSlot.{LentSlot}
+use Rattle.decision_record.specs.declared.lent_slots.LentSlot.TheVariants as lent
 
 -- ---- parts
 -- where a call leads
@@ -93,6 +95,17 @@ abbrev pub registered_slot : ShortReply → (place : ℕ) → Slot
 registered_slot short_reply.Granted place = slot.Registered place
 registered_slot (short_reply.Refused reason) place =
     slot.Brief (brief.RefusedRegistration place reason)
+
+-- the slot that is lent
+abbrev pub slot_lent : LentSlot → Slot
+slot_lent (lent.Admitted a) = slot.Admitted a.now
+slot_lent (lent.OverLimit a over) = slot.OverLimit a.now over
+slot_lent (lent.Refused a) = slot.Refused a.now
+slot_lent (lent.Brief b) = slot.Brief b.now
+slot_lent (lent.Wide w) = slot.Wide w.now
+slot_lent (lent.Registered place) = slot.Registered place
+slot_lent (lent.Aside place) = slot.Aside place
+slot_lent (lent.Reload place) = slot.Reload place
 
 -- ---- entries
 -- of an admission

@@ -4,6 +4,7 @@
 mod entries;
 mod held;
 mod known_lines;
+mod lent_slots;
 mod number_bytes;
 mod packing;
 mod record;
@@ -15,6 +16,8 @@ mod slot_entries;
 mod slot_list;
 mod slot_parts;
 mod slot_places;
+mod slot_receipts;
+mod slot_replies;
 mod slot_rows;
 mod slots;
 mod told;

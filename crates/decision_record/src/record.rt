@@ -5,10 +5,10 @@ ghost use Rattle.std.specs.List.{All};
 ghost use Rattle.std.specs.Option.{option_and_then};
 ghost use Rattle.std.specs.Arc.{arc_value};
 ghost use Rattle.decision_record.specs.RecordIndex.{slot_meant};
-ghost use Rattle.decision_record.specs.History.{plain_entry, entry_of_number, Stands, in_force};
+ghost use Rattle.decision_record.specs.History.{plain_entry, entry_of_number, receipt_of, Stands, in_force};
 ghost use Rattle.decision_record.specs.Rows.{call_event, entry_row};
 
-use crate::entries::{Entry, Receipt, WholeEntry, same_receipt};
+use crate::entries::{Entry, Receipt, WholeEntry};
 use crate::reloads::Reloads;
 use crate::rows::row_of;
 use crate::slot_list::SlotList;
@@ -182,14 +182,49 @@ impl Record {
         None
     }
 
+    /// Whether the receipt is that of the entry at this place, from 0.
+    fn has_receipt(&self, place: usize, receipt: &Receipt) -> bool
+        ensures { (result ≡ true) ↔ (Some receipt.now ≡ option_map (receipt_of receipt.now.number)
+            (slice_get self.now.entries place)) }
+    {
+        has_receipt(
+            &self.slots,
+            &self.aside,
+            &self.registrations,
+            &self.reloads,
+            place,
+            receipt,
+        )
+    }
+
     /// Whether the receipt is that of the entry at its number.
     pub fn stands(&self, receipt: &Receipt) -> bool
         ensures { (result ≡ true) ↔ Stands self.now.entries receipt.now }
     {
-        match self.get(receipt.number) {
+        match receipt.number.checked_sub(1) {
             None => false,
-            Some(entry) => same_receipt(&entry.receipt(receipt.number), receipt),
+            Some(place) => self.has_receipt(place as usize, receipt),
         }
+    }
+}
+
+/// Whether the receipt is that of the entry of the slot at this place.
+fn has_receipt(
+    slots: &SlotList,
+    aside: &Pieces<WholeEntry>,
+    registrations: &Pieces<BriefEndpoint>,
+    reloads: &Reloads,
+    place: usize,
+    receipt: &Receipt,
+) -> bool
+    ensures { (result ≡ true) ↔ (Some receipt.now ≡ option_map (receipt_of receipt.now.number)
+        (option_and_then
+        (slot_meant aside.now.items registrations.now.items reloads.now.entries)
+        (slice_get slots.now.items place))) }
+{
+    match slots.get(place) {
+        None => false,
+        Some(slot) => slot.has_receipt(aside, registrations, reloads, receipt),
     }
 }
 

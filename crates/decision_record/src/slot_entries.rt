@@ -7,12 +7,13 @@ ghost use Rattle.decision_record.specs.RecordIndex.{slot_meant, plain_whole};
 ghost use Rattle.decision_record.specs.Slots as Spec;
 
 use crate::entries::{Entry, EntryEvent, WholeEntry};
+use crate::lent_slots::LentSlot;
 use crate::registration_entries::registration_at;
 use crate::reloads::Reloads;
 use crate::slot_parts::{
     Asked, NamedOver, ShortDestination, ShortOver, ShortReply, Unchanged, Unrouted,
 };
-use crate::slots::{BriefSlot, RefusedAdmission, RoutedAdmission, Slot, WideSlot};
+use crate::slots::{BriefSlot, RefusedAdmission, RoutedAdmission, WideSlot};
 use bandwidth::Over;
 use gk_terms::{Address, Name, Units};
 use pieces::Pieces;
@@ -118,7 +119,7 @@ impl Unchanged {
     }
 }
 
-impl Slot {
+impl LentSlot<'_> {
     /// The entry that the slot means, by the entries that stand whole, the registrations and the
     /// reloads.
     pub fn entry<'a>(
@@ -128,21 +129,22 @@ impl Slot {
         reloads: &'a Reloads,
     ) -> Option<Entry<'a>>
         ensures { option_map plain_entry result
-            ≡ slot_meant aside.now.items registrations.now.items reloads.now.entries self.now }
+            ≡ slot_meant aside.now.items registrations.now.items reloads.now.entries
+            (Spec.slot_lent self.now) }
     {
         match self {
-            Slot::Admitted(admission) => Some(admission.granted()),
-            Slot::OverLimit { admission, over } => {
+            LentSlot::Admitted(admission) => Some(admission.granted()),
+            LentSlot::OverLimit { admission, over } => {
                 Some(admission.over(&over.of_zone(&admission.zone)))
             }
-            Slot::Refused(admission) => Some(admission.entry()),
-            Slot::Brief(brief) => brief.entry(registrations),
-            Slot::Wide(wide) => Some(wide.entry()),
-            Slot::Registered { place } => {
+            LentSlot::Refused(admission) => Some(admission.entry()),
+            LentSlot::Brief(brief) => brief.entry(registrations),
+            LentSlot::Wide(wide) => Some(wide.entry()),
+            LentSlot::Registered { place } => {
                 registration_at(registrations, *place as usize, &ShortReply::Granted)
             }
-            Slot::Aside { place } => whole_at(aside, *place as usize),
-            Slot::Reload { place } => reloads.get(*place as usize),
+            LentSlot::Aside { place } => whole_at(aside, *place as usize),
+            LentSlot::Reload { place } => reloads.get(*place as usize),
         }
     }
 }

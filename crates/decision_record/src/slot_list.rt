@@ -1,13 +1,15 @@
 //! The slots of a record, each in the bytes that its kind needs.
 
-ghost use Rattle.std.specs.Prelude.{◌≡◌, ◌<◌, ◌≤◌, ◌+◌, ◌-◌, ◌^◌, ◌++◌, ◌∷◌, [], length, slice_get, IsSome, OnOk};
+ghost use Rattle.std.specs.Prelude.{◌≡◌, ◌<◌, ◌≤◌, ◌+◌, ◌-◌, ◌^◌, ◌++◌, ◌∷◌, [], length, slice_get, option_map, IsSome, OnOk};
 ghost use Rattle.std.specs.List.{cons_option};
 ghost use Rattle.pieces.specs.declared.list.TheConstants.{PIECE_ITEMS};
 ghost use Rattle.decision_record.specs.RecordIndex.{IsRoomier};
 ghost use Rattle.decision_record.specs.SlotList.{over_slot, place_meant};
+ghost use Rattle.decision_record.specs.Slots.{slot_lent};
 ghost use Rattle.decision_record.specs.declared.slots.Slot.TheVariants as slots;
 
 use crate::held::{HeldBrief, HeldRefused, HeldRouted, HeldWide};
+use crate::lent_slots::LentSlot;
 use crate::number_bytes::NumberBytes;
 use crate::slot_parts::ShortOver;
 use crate::slot_places::{SlotPlace, slot_at};
@@ -26,8 +28,8 @@ use std::mem::size_of;
 /// `refused` if the admission leads to none; in `brief` if it is that of a granted change or
 /// release, of an unregistration, of a change that is refused for its call, or of a refused
 /// registration; and in `wide` if it is that of a change over a limit, or of an admission over the
-/// limit of a zone that is not the caller's. Each of the five lists has room for `room` further items, since it is
-/// not known of which kind the next slots are.
+/// limit of a zone that is not the caller's. Each of the five lists has room for `room` further
+/// items, since it is not known of which kind the next slots are.
 #[derive(Drop)]
 pub struct SlotList {
     places: Pieces<SlotPlace>,
@@ -86,8 +88,8 @@ impl SlotList {
     }
 
     /// The slot at this place, from 0, if there is one.
-    pub fn get(&self, place: usize) -> Option<Slot>
-        ensures { result ≡ slice_get self.now.items place }
+    pub fn get(&self, place: usize) -> Option<LentSlot<'_>>
+        ensures { option_map slot_lent result ≡ slice_get self.now.items place }
     {
         slot_at(
             &self.places,

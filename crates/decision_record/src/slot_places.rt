@@ -3,12 +3,13 @@
 ghost use Rattle.std.specs.Prelude.{◌≡◌, slice_get, option_map};
 ghost use Rattle.std.specs.Option.{option_and_then};
 ghost use Rattle.decision_record.specs.SlotList.{over_slot, over_place, place_meant};
+ghost use Rattle.decision_record.specs.Slots.{slot_lent};
 ghost use Rattle.decision_record.specs.declared.slots.Slot.TheVariants as slots;
 
 use crate::held::{HeldBrief, HeldRefused, HeldRouted, HeldWide};
+use crate::lent_slots::LentSlot;
 use crate::number_bytes::NumberBytes;
 use crate::slot_parts::ShortOver;
-use crate::slots::Slot;
 use command_reader::LimitKind;
 use pieces::Pieces;
 use std::mem::size_of;
@@ -58,15 +59,15 @@ impl SlotPlace {
     }
 
     /// The slot that stands there.
-    fn slot(
+    fn slot<'a>(
         &self,
-        routed: &Pieces<HeldRouted>,
-        refused: &Pieces<HeldRefused>,
-        brief: &Pieces<HeldBrief>,
-        wide: &Pieces<HeldWide>,
-    ) -> Option<Slot>
-        ensures { result ≡ place_meant routed.now.items refused.now.items brief.now.items
-            wide.now.items self.now }
+        routed: &'a Pieces<HeldRouted>,
+        refused: &'a Pieces<HeldRefused>,
+        brief: &'a Pieces<HeldBrief>,
+        wide: &'a Pieces<HeldWide>,
+    ) -> Option<LentSlot<'a>>
+        ensures { option_map slot_lent result ≡ place_meant routed.now.items refused.now.items
+            brief.now.items wide.now.items self.now }
     {
         match self {
             SlotPlace::Admitted { place } => admitted_at(routed, place.index()),
@@ -88,13 +89,13 @@ impl SlotPlace {
             SlotPlace::Refused { place } => refused_at(refused, place.index()),
             SlotPlace::Brief { place } => brief_at(brief, place.index()),
             SlotPlace::Wide { place } => wide_at(wide, place.index()),
-            SlotPlace::Registered { place } => Some(Slot::Registered {
+            SlotPlace::Registered { place } => Some(LentSlot::Registered {
                 place: place.number(),
             }),
-            SlotPlace::Aside { place } => Some(Slot::Aside {
+            SlotPlace::Aside { place } => Some(LentSlot::Aside {
                 place: place.number(),
             }),
-            SlotPlace::Reload { place } => Some(Slot::Reload {
+            SlotPlace::Reload { place } => Some(LentSlot::Reload {
                 place: place.number(),
             }),
         }
@@ -102,15 +103,15 @@ impl SlotPlace {
 }
 
 /// The slot at this place.
-pub fn slot_at(
+pub fn slot_at<'a>(
     slot_places: &Pieces<SlotPlace>,
-    routed: &Pieces<HeldRouted>,
-    refused: &Pieces<HeldRefused>,
-    brief: &Pieces<HeldBrief>,
-    wide: &Pieces<HeldWide>,
+    routed: &'a Pieces<HeldRouted>,
+    refused: &'a Pieces<HeldRefused>,
+    brief: &'a Pieces<HeldBrief>,
+    wide: &'a Pieces<HeldWide>,
     place: usize,
-) -> Option<Slot>
-    ensures { result ≡ option_and_then
+) -> Option<LentSlot<'a>>
+    ensures { option_map slot_lent result ≡ option_and_then
         (place_meant routed.now.items refused.now.items brief.now.items wide.now.items)
         (slice_get slot_places.now.items place) }
 {
@@ -121,54 +122,63 @@ pub fn slot_at(
 }
 
 /// The slot of the granted admission at this place.
-fn admitted_at(routed: &Pieces<HeldRouted>, place: usize) -> Option<Slot>
-    ensures { result ≡ option_map slots.Admitted (slice_get routed.now.items place) }
+fn admitted_at(routed: &Pieces<HeldRouted>, place: usize) -> Option<LentSlot<'_>>
+    ensures { option_map slot_lent result
+        ≡ option_map slots.Admitted (slice_get routed.now.items place) }
 {
     match routed.get(place) {
         None => None,
-        Some(held) => Some(Slot::Admitted(*held.admission())),
+        Some(held) => Some(LentSlot::Admitted(held.admission())),
     }
 }
 
 /// The slot of the admission at this place, that was refused for this limit.
-fn over_at(routed: &Pieces<HeldRouted>, place: usize, over: &ShortOver) -> Option<Slot>
-    ensures { result ≡ option_map (over_slot over.now) (slice_get routed.now.items place) }
+fn over_at<'a>(
+    routed: &'a Pieces<HeldRouted>,
+    place: usize,
+    over: &ShortOver,
+) -> Option<LentSlot<'a>>
+    ensures { option_map slot_lent result
+        ≡ option_map (over_slot over.now) (slice_get routed.now.items place) }
 {
     match routed.get(place) {
         None => None,
-        Some(held) => Some(Slot::OverLimit {
-            admission: *held.admission(),
+        Some(held) => Some(LentSlot::OverLimit {
+            admission: held.admission(),
             over: *over,
         }),
     }
 }
 
 /// The slot of the admission without a destination at this place.
-fn refused_at(refused: &Pieces<HeldRefused>, place: usize) -> Option<Slot>
-    ensures { result ≡ option_map slots.Refused (slice_get refused.now.items place) }
+fn refused_at(refused: &Pieces<HeldRefused>, place: usize) -> Option<LentSlot<'_>>
+    ensures { option_map slot_lent result
+        ≡ option_map slots.Refused (slice_get refused.now.items place) }
 {
     match refused.get(place) {
         None => None,
-        Some(held) => Some(Slot::Refused(*held.admission())),
+        Some(held) => Some(LentSlot::Refused(held.admission())),
     }
 }
 
 /// The brief slot at this place.
-fn brief_at(brief: &Pieces<HeldBrief>, place: usize) -> Option<Slot>
-    ensures { result ≡ option_map slots.Brief (slice_get brief.now.items place) }
+fn brief_at(brief: &Pieces<HeldBrief>, place: usize) -> Option<LentSlot<'_>>
+    ensures { option_map slot_lent result
+        ≡ option_map slots.Brief (slice_get brief.now.items place) }
 {
     match brief.get(place) {
         None => None,
-        Some(held) => Some(Slot::Brief(*held.brief())),
+        Some(held) => Some(LentSlot::Brief(held.brief())),
     }
 }
 
 /// The slot at this place that has the name of the zone of a limit.
-fn wide_at(wide: &Pieces<HeldWide>, place: usize) -> Option<Slot>
-    ensures { result ≡ option_map slots.Wide (slice_get wide.now.items place) }
+fn wide_at(wide: &Pieces<HeldWide>, place: usize) -> Option<LentSlot<'_>>
+    ensures { option_map slot_lent result
+        ≡ option_map slots.Wide (slice_get wide.now.items place) }
 {
     match wide.get(place) {
         None => None,
-        Some(held) => Some(Slot::Wide(*held.wide())),
+        Some(held) => Some(LentSlot::Wide(held.wide())),
     }
 }

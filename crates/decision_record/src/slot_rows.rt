@@ -7,16 +7,17 @@ ghost use Rattle.decision_record.specs.Rows.{call_event, routed_event};
 ghost use Rattle.decision_record.specs.Slots as Spec;
 
 use crate::entries::WholeEntry;
+use crate::lent_slots::LentSlot;
 use crate::reloads::Reloads;
 use crate::slot_parts::Unrouted;
-use crate::slots::{BriefSlot, RefusedAdmission, RoutedAdmission, Slot, WideSlot};
+use crate::slots::{BriefSlot, RefusedAdmission, RoutedAdmission, WideSlot};
 use call_rows::{AdmittedCall, CallEvent};
 use gk_terms::Units;
 use pieces::Pieces;
 use registry::BriefEndpoint;
 use rulings::Route;
 
-impl Slot {
+impl LentSlot<'_> {
     #[tactic(auto, using(crate::proofs::RowLemmas::says_nothing))]
     /// What the entry that the slot means says of a call, by the entries that stand whole, the
     /// registrations and the reloads. The entry is made only if it stands whole, or is a reload's.
@@ -27,16 +28,17 @@ impl Slot {
         reloads: &Reloads,
     ) -> Option<CallEvent>
         ensures { result ≡ option_and_then call_event
-            (slot_meant aside.now.items registrations.now.items reloads.now.entries self.now) }
+            (slot_meant aside.now.items registrations.now.items reloads.now.entries
+            (Spec.slot_lent self.now)) }
     {
         match self {
-            Slot::Admitted(admission) => Some(admission.call_event(true)),
-            Slot::OverLimit { admission, .. } => Some(admission.call_event(false)),
-            Slot::Refused(admission) => admission.call_event(),
-            Slot::Brief(brief) => brief.call_event(),
-            Slot::Wide(wide) => wide.call_event(),
-            Slot::Registered { .. } => None,
-            Slot::Aside { .. } | Slot::Reload { .. } => {
+            LentSlot::Admitted(admission) => Some(admission.call_event(true)),
+            LentSlot::OverLimit { admission, .. } => Some(admission.call_event(false)),
+            LentSlot::Refused(admission) => admission.call_event(),
+            LentSlot::Brief(brief) => brief.call_event(),
+            LentSlot::Wide(wide) => wide.call_event(),
+            LentSlot::Registered { .. } => None,
+            LentSlot::Aside { .. } | LentSlot::Reload { .. } => {
                 match self.entry(aside, registrations, reloads) {
                     None => None,
                     Some(entry) => entry.call_event(),

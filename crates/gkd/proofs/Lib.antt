@@ -1,4 +1,5 @@
 pub mod MemoryLemmas
 pub mod OutputLemmas
+pub mod RecordedLemmas
 pub mod Rows
 pub mod RunLemmas

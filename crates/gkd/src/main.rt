@@ -8,6 +8,7 @@
 mod command_line;
 mod files;
 pub mod laws;
+mod recorded_rows;
 pub mod run;
 mod run_files;
 mod saying;

@@ -1,10 +1,11 @@
 //! `gkd` and `gkd run`: a run over standard input and output, and its calls in a file.
 
 use crate::files::configuration_in;
+use crate::recorded_rows::write_record;
 use crate::run::{Ended, RunFault, run_over, run_under};
 use crate::saying::{cannot_read, cannot_write, fail, refuse_configuration};
 use admission::{Core, STATED_LIMITS};
-use call_files::{WriteRowsFault, write_calls};
+use call_files::WriteRowsFault;
 use configuration_reader::configuration::ConfigurationFault;
 use gk_lines::Noted;
 use gk_protocol::SessionFault;
@@ -81,13 +82,10 @@ fn record_calls<R: Runtime + AllocGlobal>(
     core: &Core,
     file: &str,
 ) -> Result<(), WriteRowsFault> {
-    let Ok(calls) = core.snapshot(rt.alloc()) else {
-        return Err(WriteRowsFault::NoMemory);
-    };
     let Ok(created) = fs::create(rt, file) else {
         return Err(WriteRowsFault::WriteFault);
     };
-    write_calls(rt.alloc(), &calls, &mut Noted::new(created))
+    write_record(rt.alloc(), core, &mut Noted::new(created))
 }
 
 /// Says why a run ended, if it did not come to the end of its input.

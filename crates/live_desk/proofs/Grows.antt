@@ -15,14 +15,15 @@ use Rattle.rulings.specs.declared.replies.Reply.{Reply}
 use Rattle.decision_record.specs.declared.entries.Receipt.{Receipt}
 use Rattle.decision_record.specs.History.{PlainEntry, CoreParts, generations, IsLegal, state_of, Steps, IsUnrecorded}
 use Rattle.admission.proofs.VersionLemmas.{generations_more}
+use Rattle.admission.specs.Answering.{answered, reply_kept}
 use Rattle.call_rows.specs.Rows.{SnapshotParts}
 use Rattle.decision_record.specs.Rows.{rows_of}
 use Rattle.rulings.specs.State.{State}
-use Rattle.live_desk.specs.Seats.{unreserved, IsPut, IsReceiptOf, IsSnapshotOfSome, LastStands}
+use Rattle.live_desk.specs.Seats.{Asked, IsFound, IsReloadAnswer, SeatParts, unreserved, IsPut, IsReceiptOf, IsSnapshotOfSome, LastStands}
 use Rattle.live_desk.specs.Seats as seats
 use Rattle.live_desk.proofs.Counts.{number_within}
 use Rattle.admission.proofs.StepLemmas.{step_reply}
-use Rattle.std.proofs.Common.{ℕ, ◌<◌}
+use Rattle.std.proofs.Common.{ℕ, ◌<◌, ◌≤◌, ◌↔◌, Bool}
 use Rattle.std.specs.Prelude.{IfSome}
 
 pub same_state : (core : CoreParts) → state_of (unreserved core) ≡ state_of core
@@ -73,6 +74,11 @@ put_as old new commands (Ok answer) grown version refused =
     )
 put_as old new commands (Err reply) same version refused = refused
 
+pub as_reload : (commands : List Command) (result : Result (Reply × Receipt) Reply)
+    (list : List (List Command)) → IsPut (Reloading commands) result list → IsReloadAnswer result
+as_reload commands (Ok answer) list put = (put.0, put.1)
+as_reload commands (Err reply) list put = put
+
 -- the receipt names what was asked, and the reply
 pub named : (old new : CoreParts) (event : PlainEvent) (result : Result (Reply × Receipt) Reply)
     → Steps old event result new → IfOk result (λ a. IsReceiptOf event a.0 a.1)
@@ -91,6 +97,21 @@ pub numbered : (old new : CoreParts) (event : PlainEvent) (result : Result (Repl
 numbered old new event (Ok answer) h = ap (λ (r : Receipt). r.number) h.receipt_is
 numbered old new event (Err reply) h = tt
 
+-- the same of an answer by the number of its entry
+pub numbered_by : (old new : CoreParts) (event : PlainEvent) (reply : Reply) (number : Option ℕ)
+    → Steps old event (answered event reply number) new
+    → IfSome number (λ n. n ≡ length old.entries + 1)
+numbered_by old new event reply (Some number) h = ap (λ (r : Receipt). r.number) h.receipt_is
+numbered_by old new event reply None h = tt
+
+-- the reply is the one that was kept
+pub answered_as : (opening : State) (old : SeatParts) (event : PlainEvent) (kept : Option Reply)
+    (reply : Reply) (number : Option ℕ) (new : SeatParts) → kept ≡ Some reply
+    → Asked opening old event (answered event (reply_kept kept) number) new
+    → Asked opening old event (answered event reply number) new
+answered_as opening old event kept reply number new is h =
+    subst (λ r. Asked opening old event (answered event r number) new) (ap reply_kept is) h
+
 -- what stands in a record has a lower number than the next entry
 pub below : (entries : List PlainEntry) (last : Option Receipt) (number : ℕ)
     → LastStands entries last → number ≡ length entries + 1
@@ -106,6 +127,12 @@ pub rising : (entries : List PlainEntry) (last : Option Receipt) (result : Resul
     → IfOk result (λ a. IfSome last (λ l. l.number < a.1.number))
 rising entries last (Ok answer) stands is = below entries last answer.1.number stands is
 rising entries last (Err reply) stands is = tt
+
+pub rising_by : (entries : List PlainEntry) (last : Option Receipt) (number : Option ℕ)
+    → LastStands entries last → IfSome number (λ n. n ≡ length entries + 1)
+    → IfSome number (λ n. IfSome last (λ l. l.number < n))
+rising_by entries last (Some number) stands is = below entries last number stands is
+rising_by entries last None stands is = tt
 
 -- ---- a reload, whose place is reserved before it is published
 pub unrecorded_shown : (old new : CoreParts) (event : PlainEvent) (reply : Reply)
@@ -172,3 +199,44 @@ snapshot_of_some opening entries (Ok snapshot) legal is = record {
   shown = is;
 }
 snapshot_of_some opening entries (Err error) legal is = tt
+
+-- ---- under the lock
+is_held : (core : CoreParts) (opening : State) → core.opening ≡ opening → core.reserved ≡ false
+    → core ≡ seats.held opening core.entries
+is_held core opening same free =
+    ap (λ (s : State). record { opening = s; entries = core.entries; reserved = core.reserved })
+    same
+    ∙ ap (λ b. record { opening = opening; entries = core.entries; reserved = b }) free
+
+stays_held : (old new : CoreParts) (opening : State) (event : PlainEvent)
+    (answer : Result (Reply × Receipt) Reply) → old.opening ≡ opening → old.reserved ≡ false
+    → Steps old event answer new → new ≡ seats.held opening new.entries
+stays_held old new opening event (Ok both) same free h =
+    is_held new opening (ap (λ (c : CoreParts). c.opening) h.new_is ∙ same)
+    (ap (λ (c : CoreParts). c.reserved) h.new_is)
+stays_held old new opening event (Err reply) same free h =
+    is_held new opening (ap (λ (c : CoreParts). c.opening) h.unchanged ∙ same)
+    (ap (λ (c : CoreParts). c.reserved) h.unchanged ∙ free)
+
+-- what is answered under the lock is an answer of some legal history
+pub asked_by : (opening : State) (live new : CoreParts) (entries : List PlainEntry)
+    (before after : SeatParts) (astray : Bool) (event : PlainEvent)
+    (answer : Result (Reply × Receipt) Reply) → live.opening ≡ opening → live.reserved ≡ false
+    → live.entries ≡ entries → IsLegal opening entries → before.share ≤ length entries
+    → (astray ≡ false ↔ IsFound entries before) → astray ≡ after.astray
+    → Steps live event answer new → (after.lost ≡ false → after.seen ≡ generations new)
+    → Asked opening before event answer after
+asked_by opening live new entries before after astray event answer same free is legal long found
+    stays steps seen =
+    let old_held : live ≡ seats.held opening entries =
+    is_held live opening same free ∙ ap (λ es. seats.held opening es) is in
+    let new_held = stays_held live new opening event answer same free steps in record {
+      history = entries;
+      next = new.entries;
+      legal = legal;
+      long = long;
+      found = subst (λ (b : Bool). b ≡ false ↔ IsFound entries before) stays found;
+      answers = subst (λ (c : CoreParts). Steps c event answer (seats.held opening new.entries))
+          old_held (subst (λ (c : CoreParts). Steps live event answer c) new_held steps);
+      seen = λ kept. seen kept ∙ ap generations new_held;
+    }

@@ -16,6 +16,7 @@ use Rattle.call_rows.specs.Rows.{SnapshotParts}
 use Rattle.decision_record.specs.History.{CoreParts, PlainEntry, IsLegal, Stands, state_of, Steps, generations}
 use Rattle.decision_record.specs.Rows.{rows_of}
 use Rattle.publisher.specs.Generations.{commands_of}
+use Rattle.admission.specs.Answering.{digits_asked}
 
 -- ---- a core
 -- a core with this history, and no place reserved for a reload
@@ -57,18 +58,13 @@ pub record IsBehind (all : List (List Command)) (r : Routed) : Type 0 where
   pub front : IsPrefix before all
   pub routed : IsRouted before r
 
--- the digits that an admission asks for
-abbrev pub digits_asked : PlainEvent → Option (List ℕ)
-digits_asked (Registering endpoint) = None
-digits_asked (Unregistering id) = None
-digits_asked (Admitting id call digits units) = Some digits
-digits_asked (Changing id call units) = None
-digits_asked (Releasing id call) = None
-digits_asked (Reloading commands) = None
-
 -- a plan for the digits of an event, by some of what a seat has seen
 abbrev pub IsPlanFor : PlainEvent → List (List Command) → Routed → Type 0
 IsPlanFor event list r = IsRouted list r × (digits_asked event ≡ Some r.dialled)
+
+-- the same by a beginning of these generations
+abbrev pub IsPlanBehind : PlainEvent → List (List Command) → Routed → Type 0
+IsPlanBehind event all r = IsBehind all r × (digits_asked event ≡ Some r.dialled)
 
 -- ---- receipts
 -- the receipt, if there is one, stands at its number
@@ -132,6 +128,11 @@ IsPut (Releasing id call) answer list = ⊤
 IsPut (Reloading commands) (Ok answer) list = IsPutAs commands answer.0 list
 IsPut (Reloading commands) (Err reply) list =
     (reason : ReloadRefusal) × (reply ≡ ReloadRefused reason)
+
+-- it is answered as a reload: with a version, or with the reason of its refusal
+abbrev pub IsReloadAnswer : Result (Reply × Receipt) Reply → Type 0
+IsReloadAnswer (Ok answer) = (version : ℕ) × (answer.0 ≡ Reloaded version)
+IsReloadAnswer (Err reply) = (reason : ReloadRefusal) × (reply ≡ ReloadRefused reason)
 
 -- ---- all seats
 abbrev pub all_shares : List SeatParts → ℕ

@@ -1,18 +1,23 @@
 //! A core that publishes each configuration which it puts in force.
 
-ghost use Rattle.std.specs.Prelude.{◌≡◌, ◌≤◌, ◌↔◌, ◌++◌, ◌∷◌, [], true, false, length, Some, None, IfSome, IfOk, IfErr, IsErrOf, OnOk, OnErr, MatchResult};
+ghost use Rattle.std.specs.Prelude.{◌≡◌, ◌≤◌, ◌↔◌, ◌++◌, ◌∷◌, [], true, false, length, Some, None, IfSome, IfOk, IfErr, IsErrOf, IsSome, OnOk, OnErr, MatchResult};
 ghost use Rattle.std.specs.Arc.{arc_value};
+ghost use Rattle.std.specs.Option.{option_copied};
 ghost use mathlib.Core.List.{IsPrefix};
 ghost use Rattle.compiler.specs.Last.{last_in};
 ghost use Rattle.compiler.specs.Plan.{plan_of, target_of};
 ghost use Rattle.rulings.specs.Events as Events;
+ghost use Rattle.rulings.specs.Events.{event_meant, put_in_force};
 ghost use Rattle.rulings.specs.State.{opening_of};
 ghost use Rattle.rulings.specs.Limits.{are_limits};
 ghost use Rattle.decision_record.specs.History.{generations, IsLegal, state_of, Steps};
 ghost use Rattle.decision_record.specs.Rows.{rows_of};
-ghost use Rattle.live_desk.specs.Seats.{held, IsBadCount, IsPut};
+ghost use Rattle.admission.specs.Answering.{answered, reply_kept};
+ghost use Rattle.live_desk.specs.Seats.{held, IsBadCount, IsPlanBehind, IsPut};
 
-use admission::{Core, Event, Limits, Receipt, Record, ReloadRefusal, Reply, Snapshot};
+use admission::{
+    Core, Event, KeptReply, LentEvent, Limits, Receipt, Record, ReloadRefusal, Reply, Snapshot,
+};
 use bandwidth::OpenCalls;
 use compiler::{Routed, Tables};
 use gk_terms::{Dialled, Name, Units, Version};
@@ -250,6 +255,29 @@ impl<J: Imprint> Live<J> {
         ensures published { generations self.new ≡ generations self.old }
     {
         self.core.release(id, call)
+    }
+
+    #[tactic(auto, using(crate::proofs::Grows::steps_shown, crate::proofs::Grows::stays))]
+    /// Answers an event that is lent, and is not a reload, as `Core::answer_lent`. An admission
+    /// goes by a plan that was made outside if that was done under the version in force.
+    pub(crate) fn answer_lent(
+        &mut self,
+        routed: Option<&Routed>,
+        event: &LentEvent<'_>,
+        kept: &mut KeptReply,
+    ) -> Option<u32>
+        requires planned { IfSome (option_copied routed)
+            (IsPlanBehind (event_meant event.now) (generations self.old)) }
+        requires other { put_in_force (event_meant event.now) ≡ None }
+        ensures kept { IsSome kept.new.kept }
+        ensures step { Steps self.old (event_meant event.now)
+            (answered (event_meant event.now) (reply_kept kept.new.kept) result) self.new }
+        ensures published { generations self.new ≡ generations self.old }
+    {
+        // So it is known which commands are in force, and how many were.
+        let _tables = self.core.tables();
+        let _version = self.core.version();
+        self.core.answer_lent(routed, event, kept)
     }
 
     #[tactic(auto, using(crate::proofs::Grows::steps_shown))]

@@ -1,24 +1,27 @@
 //! What lies under a desk's lock.
 
-ghost use Rattle.std.specs.Prelude.{◌≡◌, ◌<◌, ◌≤◌, ◌+◌, ◌↔◌, [], true, false, length, vec_len, Some, None, IfSome, IfNone, IfOk, IfErr, OnErr, MatchResult, All};
+ghost use Rattle.std.specs.Prelude.{◌≡◌, ◌<◌, ◌≤◌, ◌+◌, ◌↔◌, [], true, false, length, vec_len, Some, None, IfSome, IfNone, IfOk, IfErr, IsSome, OnErr, MatchResult, All};
+ghost use Rattle.std.specs.Arc.{arc_value};
+ghost use Rattle.std.specs.Option.{option_copied};
 ghost use mathlib.Core.List.{IsPrefix};
-ghost use Rattle.rulings.specs.Events.{plain};
+ghost use Rattle.rulings.specs.Events.{event_meant, put_in_force, Reloading};
 ghost use Rattle.rulings.specs.State.{opening_of};
 ghost use Rattle.decision_record.specs.History.{generations, IsLegal, Steps};
+ghost use Rattle.admission.specs.Answering.{answered, receipt_for, reply_kept};
 ghost use Rattle.live_desk.specs.Seats.{Asked, held, IsAstrayIn, IsFound, IsPlanFor, IsPut, IsReceiptOf, IsTheirs, snapshot_of};
 
 use crate::house::House;
 use crate::live::Live;
 use crate::seats::{Seat, all_found, merge_all};
-use crate::turns::turn;
-use admission::{Event, Receipt, Record, Reply, Snapshot};
-use compiler::Routed;
+use crate::turns::{reload_turn, turn};
+use admission::{KeptReply, LentEvent, Receipt, Record, Reply, Snapshot, receipt_for};
+use compiler::{Routed, Tables};
 use gk_terms::Version;
 use publisher::Told;
 use std::alloc::{AllocError, Global};
 use std::marker::Model;
-use std::sync::Wait;
 use std::sync::ledger::{Blank, Book, Share};
+use std::sync::{Arc, Wait};
 use thiserror::Error;
 
 /// Why a desk gives no record. They are tried in this order.
@@ -136,42 +139,95 @@ impl<J: House> Room<J> {
         })
     }
 
+    /// Looks for the last receipt of a seat in the record, before one of its events.
+    fn begin(&mut self, seat: &mut Seat<J>)
+        ensures same { self.new ≡ self.old }
+        ensures astray { seat.new.astray ≡ false ↔ IsFound self.old.entries seat.old }
+        ensures seat { seat.new ≡ record seat.old { astray = seat.new.astray } }
+        ensures long { seat.old.share ≤ length self.old.entries }
+        ensures legal { IsLegal (opening_of J.begun J.limits) self.old.entries }
+    {
+        seat.confirm_last(self.live.record());
+        self.book.audit(&mut seat.share);
+    }
+
+    #[tactic(auto, using(crate::proofs::Grows::rising_by))]
+    /// Answers one event of a seat that is lent, and is not a reload, and enters it in the ledger
+    /// if it was recorded: then the number of its entry is given back. The history is the one under
+    /// the lock.
+    pub fn ask(
+        &mut self,
+        seat: &mut Seat<J>,
+        routed: Option<&Routed>,
+        event: &LentEvent<'_>,
+        kept: &mut KeptReply,
+    ) -> Option<u32>
+        requires planned { IfSome (option_copied routed)
+            (IsPlanFor (event_meant event.now) seat.old.seen) }
+        requires other { put_in_force (event_meant event.now) ≡ None }
+        ensures kept { IsSome kept.new.kept }
+        ensures step { Steps (held (opening_of J.begun J.limits) self.old.entries)
+            (event_meant event.now)
+            (answered (event_meant event.now) (reply_kept kept.new.kept) result)
+            (held (opening_of J.begun J.limits) self.new.entries) }
+        ensures given { (self.new.given ≡ self.old.given) × (self.new.most ≡ self.old.most) }
+        ensures some { IfSome result (λ number. (seat.new.share ≡ seat.old.share + 1)
+            × (seat.new.last ≡ Some (receipt_for (event_meant event.now)
+            (reply_kept kept.new.kept) number))) }
+        ensures none { IfNone result
+            ((seat.new.share ≡ seat.old.share) × (seat.new.last ≡ seat.old.last)) }
+        ensures astray { seat.new.astray ≡ false ↔ IsFound self.old.entries seat.old }
+        ensures lost { seat.old.lost ≡ true → seat.new.lost ≡ true }
+        ensures seen { IsPrefix seat.old.seen seat.new.seen }
+        ensures rises { seat.new.astray ≡ false
+            → IfSome result (λ number. IfSome seat.old.last (λ last. last.number < number)) }
+        ensures asked { Asked (opening_of J.begun J.limits) seat.old (event_meant event.now)
+            (answered (event_meant event.now) (reply_kept kept.new.kept) result) seat.new }
+    {
+        self.begin(seat);
+        let (number, met) = turn(&mut self.live, &mut seat.reader, routed, event, kept);
+        seat.see(met);
+        if let Some(number) = number {
+            seat.enter(&mut self.book, receipt_for(event, &kept.reply(), number));
+        }
+        number
+    }
+
     #[tactic(auto, using(crate::proofs::Grows::rising))]
-    /// Answers one event of a seat, and enters it in the ledger if it was recorded. The history is
-    /// the one under the lock.
-    pub fn ask<R: Wait>(
+    /// Puts these tables in force for a seat, and enters it in the ledger if it was recorded. The
+    /// history is the one under the lock.
+    pub fn reload<R: Wait>(
         &mut self,
         rt: &R,
         seat: &mut Seat<J>,
-        routed: Option<Routed>,
-        event: Event,
+        tables: Arc<Tables>,
     ) -> Result<(Reply, Receipt), Reply>
-        requires { IfSome routed (IsPlanFor (plain event) seat.old.seen) }
-        ensures step { Steps (held (opening_of J.begun J.limits) self.old.entries) (plain event)
-            result (held (opening_of J.begun J.limits) self.new.entries) }
+        ensures step { Steps (held (opening_of J.begun J.limits) self.old.entries)
+            (Reloading (arc_value tables).commands) result
+            (held (opening_of J.begun J.limits) self.new.entries) }
         ensures given { (self.new.given ≡ self.old.given) × (self.new.most ≡ self.old.most) }
         ensures book { MatchResult result
             (λ a. (seat.new.share ≡ seat.old.share + 1) × (seat.new.last ≡ Some a.1))
             (λ _. (seat.new.share ≡ seat.old.share) × (seat.new.last ≡ seat.old.last)) }
-        ensures names { IfOk result (λ a. IsReceiptOf (plain event) a.0 a.1) }
+        ensures names { IfOk result
+            (λ a. IsReceiptOf (Reloading (arc_value tables).commands) a.0 a.1) }
         ensures astray { seat.new.astray ≡ false ↔ IsFound self.old.entries seat.old }
         ensures lost { seat.old.lost ≡ true → seat.new.lost ≡ true }
         ensures seen { IsPrefix seat.old.seen seat.new.seen }
         ensures rises { seat.new.astray ≡ false
             → IfOk result (λ a. IfSome seat.old.last (λ last. last.number < a.1.number)) }
-        ensures asked { Asked (opening_of J.begun J.limits) seat.old (plain event) result
-            seat.new }
-        ensures put { IsPut (plain event) result
+        ensures asked { Asked (opening_of J.begun J.limits) seat.old
+            (Reloading (arc_value tables).commands) result seat.new }
+        ensures put { IsPut (Reloading (arc_value tables).commands) result
             (generations (held (opening_of J.begun J.limits) self.new.entries)) }
-        ensures put_seen { seat.new.lost ≡ false → IsPut (plain event) result seat.new.seen }
+        ensures put_seen { seat.new.lost ≡ false
+            → IsPut (Reloading (arc_value tables).commands) result seat.new.seen }
     {
-        seat.confirm_last(self.live.record());
-        self.book.audit(&mut seat.share);
-        let (answer, met) = turn(rt, &mut self.live, &mut seat.reader, routed, event);
-        seat.lost = seat.lost || !met;
+        self.begin(seat);
+        let (answer, met) = reload_turn(rt, &mut self.live, &mut seat.reader, tables);
+        seat.see(met);
         if let Ok((_, receipt)) = &answer {
-            self.book.add(&mut seat.share, 1);
-            seat.last = Some(*receipt);
+            seat.enter(&mut self.book, *receipt);
         }
         answer
     }

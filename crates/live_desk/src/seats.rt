@@ -1,22 +1,26 @@
 //! Seats: who asks the events of a desk, one after another.
 
-ghost use Rattle.std.specs.Prelude.{◌≡◌, ◌<◌, ◌≤◌, ◌+◌, ◌-◌, ◌↔◌, ℕ, slice_get, true, false, length, vec_len, Some, None, IfSome, IfOk, MatchResult, All};
+ghost use Rattle.std.specs.Prelude.{◌≡◌, ◌<◌, ◌≤◌, ◌+◌, ◌-◌, ◌↔◌, ℕ, slice_get, true, false, length, vec_len, Some, None, IfSome, IfNone, IfOk, IsSome, MatchResult, All};
+ghost use Rattle.std.specs.Arc.{arc_value};
 ghost use mathlib.Core.List.{IsPrefix};
-ghost use Rattle.rulings.specs.Events.{plain};
+ghost use Rattle.rulings.specs.Events.{event_meant, plain, put_in_force, Reloading};
 ghost use Rattle.rulings.specs.State.{opening_of};
-ghost use Rattle.live_desk.specs.Seats.{all_shares, Asked, IsAstrayIn, IsFound, IsPlanFor, IsPut, IsReceiptOf, IsRouted};
+ghost use Rattle.admission.specs.Answering.{answered, receipt_for, reply_kept};
+ghost use Rattle.live_desk.specs.Seats.{all_shares, Asked, IsAstrayIn, IsFound, IsPlanFor, IsPut, IsReceiptOf, IsReloadAnswer, IsRouted};
 
 use crate::desk::Desk;
 use crate::house::House;
 use crate::turns::last_stands;
-use admission::{Event, EventKind, Receipt, Record, ReloadRefusal, Reply};
+use admission::{
+    Event, EventKind, KeptReply, LentEvent, Receipt, Record, ReloadRefusal, Reply, receipt_for,
+};
 use command_reader::Commands;
 use compiler::{Routed, Tables};
 use gk_terms::{Dialled, Version};
 use publisher::{Lost, Reader};
 use std::alloc::Global;
 use std::marker::Model;
-use std::sync::ledger::Share;
+use std::sync::ledger::{Book, Share};
 use std::sync::{Arc, MutexGuard, Wait};
 
 /// One of a desk's seats, which asks events from whichever thread it is in. It keeps its share of
@@ -99,16 +103,35 @@ impl<J: House> Seat<J> {
         }
     }
 
+    /// After an event: it is lost if it does not see just what is in force.
+    pub(crate) fn see(&mut self, met: bool)
+        ensures same { self.new ≡ record self.old { lost = self.new.lost } }
+        ensures stays { self.old.lost ≡ true → self.new.lost ≡ true }
+        ensures met { self.new.lost ≡ false → met ≡ true }
+    {
+        self.lost = self.lost || !met;
+    }
+
+    /// Enters its recorded event in the ledger, and keeps the receipt.
+    pub(crate) fn enter(&mut self, book: &mut Book<J>, receipt: Receipt)
+        ensures book { book.new.total ≡ book.old.total + 1 }
+        ensures entered { self.new
+            ≡ record self.old { share = self.old.share + 1; last = Some receipt } }
+    {
+        book.add(&mut self.share, 1);
+        self.last = Some(receipt);
+    }
+
     /// The plan of an admission, made before the lock is taken.
-    fn plan(&mut self, event: &Event) -> Option<Routed>
+    fn plan(&mut self, event: &LentEvent<'_>) -> Option<Routed>
         ensures same { (self.new.share ≡ self.old.share) × (self.new.last ≡ self.old.last)
             × (self.new.astray ≡ self.old.astray) }
         ensures seen { IsPrefix self.old.seen self.new.seen }
-        ensures routed { IfSome result (IsPlanFor (plain event.now) self.new.seen) }
+        ensures routed { IfSome result (IsPlanFor (event_meant event.now) self.new.seen) }
         ensures lost { self.old.lost ≡ true → self.new.lost ≡ true }
     {
         match event {
-            Event::Admit { digits, .. } => match self.route(digits) {
+            LentEvent::Admit { digits, .. } => match self.route(digits) {
                 Ok(routed) => Some(routed),
                 Err(_) => None,
             },
@@ -142,9 +165,127 @@ impl<J: House> Seat<J> {
             self.new }
         ensures put { self.new.lost ≡ false → IsPut (plain event) result self.new.seen }
     {
-        let routed = self.plan(&event);
+        match event {
+            Event::Register(endpoint) => { self.answer(rt, desk, &LentEvent::Register(&endpoint)) }
+            Event::Unregister { id } => self.answer(rt, desk, &LentEvent::Unregister { id: &id }),
+            Event::Admit {
+                id,
+                call,
+                digits,
+                units,
+            } => {
+                let event = &LentEvent::Admit {
+                    id: &id,
+                    call,
+                    digits: &digits,
+                    units,
+                };
+                self.answer(rt, desk, event)
+            }
+            Event::Change { id, call, units } => {
+                let event = &LentEvent::Change {
+                    id: &id,
+                    call,
+                    units,
+                };
+                self.answer(rt, desk, event)
+            }
+            Event::Release { id, call } => {
+                self.answer(rt, desk, &LentEvent::Release { id: &id, call })
+            }
+            Event::Reload(tables) => self.put_in_force(rt, desk, tables),
+        }
+    }
+
+    /// Answers one event that is lent, and is not a reload, as `ask` does: the reply is kept in
+    /// place, and the number of the event's entry is given back if it was recorded. For whoever
+    /// answers many events: no event is made, and the reply is copied for the receipt alone.
+    pub fn ask_lent<R: Wait>(
+        &mut self,
+        rt: &R,
+        desk: &Desk<J>,
+        event: &LentEvent<'_>,
+        kept: &mut KeptReply,
+    ) -> Option<u32>
+        requires { put_in_force (event_meant event.now) ≡ None }
+        ensures kept { IsSome kept.new.kept }
+        ensures some { IfSome result (λ number. (self.new.share ≡ self.old.share + 1)
+            × (self.new.last ≡ Some (receipt_for (event_meant event.now)
+            (reply_kept kept.new.kept) number))) }
+        ensures none { IfNone result
+            ((self.new.share ≡ self.old.share) × (self.new.last ≡ self.old.last)) }
+        ensures astray { self.old.astray ≡ true → self.new.astray ≡ true }
+        ensures lost { self.old.lost ≡ true → self.new.lost ≡ true }
+        ensures seen { IsPrefix self.old.seen self.new.seen }
+        ensures rises { self.new.astray ≡ false
+            → IfSome result (λ number. IfSome self.old.last (λ last. last.number < number)) }
+        ensures asked { Asked (opening_of J.begun J.limits) self.old (event_meant event.now)
+            (answered (event_meant event.now) (reply_kept kept.new.kept) result) self.new }
+    {
+        let routed = self.plan(event);
         let mut room = desk.room.lock(rt);
-        let answer = room.ask(rt, self, routed, event);
+        let number = room.ask(self, routed.as_ref(), event, kept);
+        let _room = MutexGuard::unlock(room);
+        number
+    }
+
+    #[tactic(auto, using(crate::proofs::Grows::answered_as))]
+    /// The same, with the reply and the receipt as values.
+    fn answer<R: Wait>(
+        &mut self,
+        rt: &R,
+        desk: &Desk<J>,
+        event: &LentEvent<'_>,
+    ) -> Result<(Reply, Receipt), Reply>
+        requires { put_in_force (event_meant event.now) ≡ None }
+        ensures book { MatchResult result
+            (λ a. (self.new.share ≡ self.old.share + 1) × (self.new.last ≡ Some a.1))
+            (λ _. (self.new.share ≡ self.old.share) × (self.new.last ≡ self.old.last)) }
+        ensures names { IfOk result (λ a. IsReceiptOf (event_meant event.now) a.0 a.1) }
+        ensures astray { self.old.astray ≡ true → self.new.astray ≡ true }
+        ensures lost { self.old.lost ≡ true → self.new.lost ≡ true }
+        ensures seen { IsPrefix self.old.seen self.new.seen }
+        ensures rises { self.new.astray ≡ false
+            → IfOk result (λ a. IfSome self.old.last (λ last. last.number < a.1.number)) }
+        ensures asked { Asked (opening_of J.begun J.limits) self.old (event_meant event.now)
+            result self.new }
+    {
+        let mut kept = KeptReply::none();
+        let number = self.ask_lent(rt, desk, event, &mut kept);
+        let reply = kept.reply();
+        match number {
+            Some(number) => Ok((reply, receipt_for(event, &reply, number))),
+            None => Err(reply),
+        }
+    }
+
+    #[tactic(auto, using(crate::proofs::Grows::as_reload))]
+    /// Puts these tables in force, whole, as the next version: the event of a reload.
+    pub fn put_in_force<R: Wait>(
+        &mut self,
+        rt: &R,
+        desk: &Desk<J>,
+        tables: Arc<Tables>,
+    ) -> Result<(Reply, Receipt), Reply>
+        ensures book { MatchResult result
+            (λ a. (self.new.share ≡ self.old.share + 1) × (self.new.last ≡ Some a.1))
+            (λ _. (self.new.share ≡ self.old.share) × (self.new.last ≡ self.old.last)) }
+        ensures names { IfOk result
+            (λ a. IsReceiptOf (Reloading (arc_value tables).commands) a.0 a.1) }
+        ensures astray { self.old.astray ≡ true → self.new.astray ≡ true }
+        ensures lost { self.old.lost ≡ true → self.new.lost ≡ true }
+        ensures seen { IsPrefix self.old.seen self.new.seen }
+        ensures rises { self.new.astray ≡ false
+            → IfOk result (λ a. IfSome self.old.last (λ last. last.number < a.1.number)) }
+        ensures asked { Asked (opening_of J.begun J.limits) self.old
+            (Reloading (arc_value tables).commands) result self.new }
+        ensures put { self.new.lost ≡ false
+            → IsPut (Reloading (arc_value tables).commands) result self.new.seen }
+        ensures above { IfOk result (λ a. self.old.share < a.1.number) }
+        ensures replied { IsReloadAnswer result }
+    {
+        let mut room = desk.room.lock(rt);
+        let answer = room.reload(rt, self, tables);
         let _room = MutexGuard::unlock(room);
         answer
     }
@@ -179,10 +320,7 @@ impl<J: House> Seat<J> {
         let Ok(tables) = Arc::new(alloc, tables) else {
             return Err(ReloadRefusal::NoMemory);
         };
-        let mut room = desk.room.lock(rt);
-        let answer = room.ask(rt, self, None, Event::Reload(tables));
-        let _room = MutexGuard::unlock(room);
-        match answer {
+        match self.put_in_force(rt, desk, tables) {
             Ok((reply, receipt)) => Ok((version_in(&reply), receipt)),
             Err(reply) => Err(refusal_in(&reply)),
         }

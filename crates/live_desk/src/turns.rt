@@ -1,20 +1,20 @@
-//! What is done under the lock for one event: what a reader learns, which plan is used, and the
-//! answer.
+//! What is done under the lock for one event: what a reader learns, whether a plan that was made
+//! outside is used, and the answer.
 
-ghost use Rattle.std.specs.Prelude.{◌≡◌, ◌+◌, ◌↔◌, true, false, length, Some, None, IfSome, IfOk};
+ghost use Rattle.std.specs.Prelude.{◌≡◌, ◌+◌, ◌↔◌, true, length, Some, None, IfSome, IfOk, IsSome};
+ghost use Rattle.std.specs.Arc.{arc_value};
 ghost use Rattle.std.specs.Option.{option_copied};
 ghost use mathlib.Core.List.{IsPrefix};
-ghost use Rattle.compiler.specs.Plan.{plan_of, target_of};
-ghost use Rattle.rulings.specs.Events as Events;
-ghost use Rattle.decision_record.specs.History.{generations, state_of, Stands, Steps};
-ghost use Rattle.live_desk.specs.Seats.{IsBehind, IsPlanFor, IsPut, IsReceiptOf, LastStands};
+ghost use Rattle.rulings.specs.Events.{event_meant, put_in_force, Reloading};
+ghost use Rattle.decision_record.specs.History.{generations, Stands, Steps};
+ghost use Rattle.admission.specs.Answering.{answered, reply_kept};
+ghost use Rattle.live_desk.specs.Seats.{IsPlanFor, IsPut, IsReceiptOf, LastStands};
 
 use crate::live::Live;
-use admission::{Event, Receipt, Record, Reply};
-use compiler::Routed;
-use gk_terms::Dialled;
+use admission::{KeptReply, LentEvent, Receipt, Record, Reply};
+use compiler::{Routed, Tables};
 use publisher::{Imprint, Reader};
-use std::sync::Wait;
+use std::sync::{Arc, Wait};
 
 /// Whether the receipt, if there is one, stands at its number.
 pub(crate) fn last_stands(log: &Record, last: &Option<Receipt>) -> bool
@@ -41,79 +41,49 @@ pub(crate) fn meet<J: Imprint>(live: &mut Live<J>, reader: &mut Reader<J>) -> bo
     }
 }
 
-#[tactic(auto, using(crate::proofs::Fronts::planned_here))]
-/// The plan that was made outside, or one made anew.
-pub(crate) fn planned<J: Imprint>(
-    live: &Live<J>,
-    routed: Option<Routed>,
-    digits: &Dialled,
-) -> Routed
-    requires behind { IfSome routed (IsBehind (generations live.now)) }
-    requires digits { IfSome routed (λ r. r.dialled ≡ digits.now) }
-    ensures digits { result.dialled ≡ digits.now }
-    ensures plan { result.version ≡ (state_of live.now).version
-        → target_of (state_of live.now).commands result.plan
-        ≡ Some (plan_of (state_of live.now).commands result.dialled) }
+#[tactic(auto, using(crate::proofs::Fronts::met_behind, crate::proofs::Grows::numbered_by))]
+/// Answers an event that is lent, and is not a reload, and says whether the reader sees just the
+/// generations in force. A plan that was made outside is used only if it does.
+pub(crate) fn turn<J: Imprint>(
+    live: &mut Live<J>,
+    reader: &mut Reader<J>,
+    routed: Option<&Routed>,
+    event: &LentEvent<'_>,
+    kept: &mut KeptReply,
+) -> (Option<u32>, bool)
+    requires planned { IfSome (option_copied routed)
+        (IsPlanFor (event_meant event.now) reader.old.list) }
+    requires other { put_in_force (event_meant event.now) ≡ None }
+    ensures kept { IsSome kept.new.kept }
+    ensures step { Steps live.old (event_meant event.now)
+        (answered (event_meant event.now) (reply_kept kept.new.kept) result.0) live.new }
+    ensures seen { IsPrefix reader.old.list reader.new.list }
+    ensures met { result.1 ≡ true → reader.new.list ≡ generations live.new }
+    ensures number { IfSome result.0 (λ number. number ≡ length live.old.entries + 1) }
 {
-    // So it is known which commands are in force, and how many were.
-    let _tables = live.tables();
-    let _version = live.version();
-    match routed {
-        Some(routed) => routed,
-        None => live.route_here(digits),
-    }
+    let met = meet(live, reader);
+    let usable = if met { routed } else { None };
+    let number = live.answer_lent(usable, event, kept);
+    (number, met)
 }
 
 #[tactic(auto, using(crate::proofs::Grows::named, crate::proofs::Grows::numbered))]
-/// Answers an event, and says whether the reader sees just the generations in force. A plan that
-/// was made outside is used only if it does, before the event.
-pub(crate) fn turn<J: Imprint, R: Wait>(
+/// Puts these tables in force, and says whether the reader sees just the generations in force then.
+pub(crate) fn reload_turn<J: Imprint, R: Wait>(
     rt: &R,
     live: &mut Live<J>,
     reader: &mut Reader<J>,
-    routed: Option<Routed>,
-    event: Event,
+    tables: Arc<Tables>,
 ) -> (Result<(Reply, Receipt), Reply>, bool)
-    requires { IfSome routed (IsPlanFor (Events.plain event) reader.old.list) }
-    ensures step { Steps live.old (Events.plain event) result.0 live.new }
+    ensures step { Steps live.old (Reloading (arc_value tables).commands) result.0 live.new }
     ensures seen { IsPrefix reader.old.list reader.new.list }
     ensures met { result.1 ≡ true → reader.new.list ≡ generations live.new }
-    ensures put { IsPut (Events.plain event) result.0 (generations live.new) }
-    ensures names { IfOk result.0 (λ a. IsReceiptOf (Events.plain event) a.0 a.1) }
+    ensures put { IsPut (Reloading (arc_value tables).commands) result.0 (generations live.new) }
+    ensures names { IfOk result.0
+        (λ a. IsReceiptOf (Reloading (arc_value tables).commands) a.0 a.1) }
     ensures number { IfOk result.0 (λ a. a.1.number ≡ length live.old.entries + 1) }
 {
-    match event {
-        Event::Register(endpoint) => {
-            let met = meet(live, reader);
-            (live.register(endpoint), met)
-        }
-        Event::Unregister { id } => {
-            let met = meet(live, reader);
-            (live.unregister(&id), met)
-        }
-        Event::Admit {
-            id,
-            call,
-            digits,
-            units,
-        } => {
-            let met = meet(live, reader);
-            let usable = if met { routed } else { None };
-            let plan = planned(live, usable, &digits);
-            (live.admit(&plan, &id, call, units), met)
-        }
-        Event::Change { id, call, units } => {
-            let met = meet(live, reader);
-            (live.change(&id, call, units), met)
-        }
-        Event::Release { id, call } => {
-            let met = meet(live, reader);
-            (live.release(&id, call), met)
-        }
-        Event::Reload(tables) => {
-            let answer = live.reload(rt, tables);
-            let met = meet(live, reader);
-            (answer, met)
-        }
-    }
+    let answer = live.reload(rt, tables);
+    let met = meet(live, reader);
+    (answer, met)
 }

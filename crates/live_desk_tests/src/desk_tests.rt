@@ -4,8 +4,9 @@ ghost use Rattle.std.specs.Prelude.{◌≡◌};
 ghost use Rattle.std.specs.Arc.{arc_value};
 
 use crate::given::{TEXT, blank_of, tables_of, two_seats};
-use admission::{Limits, STATED_LIMITS};
+use admission::{Event, Limits, STATED_LIMITS};
 use compiler::Tables;
+use gk_terms::{Gate, Name};
 use live_desk::{Blank, Desk, FinishFault, FinishKind, House, OpenFault, Seat, SeatFault};
 use std::alloc::Global;
 use std::marker::Brand;
@@ -129,6 +130,72 @@ fn ends_of<J: House, R: Wait>(
             })
         }
     }
+}
+
+/// No call of a seat or of its desk gives out another seat: after each of them there is a second
+/// seat, and no third one.
+#[test]
+fn calls_give_out_no_seat(rt: HostRuntime) -> Result<(), Fail> {
+    let tables = tables_of(rt.alloc(), TEXT).ok_or("no tables")?;
+    let others = tables_of(rt.alloc(), TEXT).ok_or("no tables")?;
+    let left = left_after_calls::<Brand, _>(
+        &rt,
+        rt.alloc(),
+        blank_of(2),
+        tables,
+        STATED_LIMITS,
+        2,
+        others,
+    );
+    assert!(&rt; left == Some((true, false)));
+    Ok(())
+}
+
+fn left_after_calls<J: House, R: Wait>(
+    rt: &R,
+    alloc: Global,
+    blank: Blank,
+    tables: Arc<Tables>,
+    limits: Limits,
+    seats: u32,
+    others: Arc<Tables>,
+) -> Option<(bool, bool)>
+    requires ledger { (blank.ledger.name ≡ J.name) × (blank.ledger.parts ≡ J.parts) }
+    requires parts { (J.all ≡ J.parts) × (seats ≡ J.all) }
+    requires publisher { blank.publisher ≡ J.book }
+    requires opening { (J.begun ≡ (arc_value tables).commands) × (J.limits ≡ limits) }
+{
+    let Ok(desk) = Desk::<J>::open(alloc, blank, tables, limits, seats) else {
+        return None;
+    };
+    let left = seats_left(rt, alloc, &desk, others);
+    desk.close(rt);
+    left
+}
+
+/// Whether the desk gives a second seat after calls of the first one, and then a third.
+fn seats_left<J: House, R: Wait>(
+    rt: &R,
+    alloc: Global,
+    desk: &Desk<J>,
+    others: Arc<Tables>,
+) -> Option<(bool, bool)> {
+    let id = Name::read(b"nobody").ok()?;
+    let mut seat = desk.seat(rt).ok()?;
+    seat.ask(rt, desk, Event::Unregister { id }).ok()?;
+    seat.put_in_force(rt, desk, others).ok()?;
+    let _snapshot = desk.snapshot(rt, alloc).ok()?;
+    desk.hold(rt, &OpenGate);
+    let second = desk.seat(rt).is_ok();
+    let third = desk.seat(rt).is_ok();
+    Some((second, third))
+}
+
+/// A gate that lets everybody through.
+struct OpenGate;
+
+impl Gate for OpenGate {
+    fn begin(&self, _worker: u32) {}
 }
 
 /// Of a desk of two seats, of which one was given out and comes back, how long the record is.

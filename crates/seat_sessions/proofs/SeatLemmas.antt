@@ -1,5 +1,5 @@
 -- What a seat is answered, as an answer to a request.
-use Rattle.std.proofs.Common.{◌≡◌, ℕ, List, true, Result, Ok, Err, sym, subst, inl, inr}
+use Rattle.std.proofs.Common.{◌≡◌, ℕ, List, true, Option, Some, None, Result, Ok, Err, refl, sym, subst, inl, inr}
 use Rattle.command_reader.specs.Configuration.{Configuration}
 use Rattle.command_reader.specs.Reading.{reading_in}
 use Rattle.rulings.specs.State.{State}
@@ -7,10 +7,14 @@ use Rattle.rulings.specs.Events.{PlainEvent}
 use Rattle.rulings.specs.declared.replies.Reply.{Reply}
 use Rattle.decision_record.specs.declared.entries.Receipt.{Receipt}
 use Rattle.live_desk.specs.Seats.{Asked, SeatParts}
+use Rattle.admission.specs.Answering.{answered, receipt_for}
+use Rattle.gk_protocol.specs.declared.requests.Request.{Request}
 use Rattle.gk_protocol.specs.declared.answers.Answer.{Answer}
+use Rattle.gk_protocol.specs.declared.answers.Answer.TheVariants as answers
+use Rattle.gk_protocol.specs.Hearing.{AnswersInto}
 use Rattle.gk_protocol.specs.Answering.{are_workers}
 use Rattle.gk_protocol.proofs.TrialLemmas.{tried_on, lacking_trial}
-use Rattle.seat_sessions.specs.SeatAnswers.{MaySay, MayShow, MayTry, reply_in, TriesOnSome}
+use Rattle.seat_sessions.specs.SeatAnswers.{MayAnswer, MaySay, MayShow, MayTry, Replies, RepliesInto, reply_in, TriesOnSome}
 
 -- the reply in what was answered is one that the desk may give
 pub said : (opening : State) (old : SeatParts) (event : PlainEvent)
@@ -25,6 +29,27 @@ pub said_as : (opening : State) (old : SeatParts) (event : PlainEvent)
     → MaySay opening old event reply new
 said_as opening old event asked reply new is h =
     subst (λ r. MaySay opening old event r new) (sym is) (said opening old event asked new h)
+
+-- the same of an answer by the number of its entry
+pub said_lent : (opening : State) (old : SeatParts) (event : PlainEvent) (reply : Reply)
+    (number : Option ℕ) (new : SeatParts)
+    → Asked opening old event (answered event reply number) new
+    → MaySay opening old event reply new
+said_lent opening old event reply (Some number) new h = inl (receipt_for event reply number, h)
+said_lent opening old event reply None new h = inr h
+
+-- a request that asks for an event is answered by the line of the desk's reply to it
+pub said_into : (opening : State) (old : SeatParts) (request asked : Request) (sequence : ℕ)
+    (event : PlainEvent) (text : List ℕ) (new : SeatParts) → request ≡ asked
+    → ((answer : Answer) → Replies opening old sequence event answer new
+    → MayAnswer opening old asked answer new)
+    → RepliesInto opening old sequence event text new
+    → AnswersInto (MayAnswer opening) old request text new
+said_into opening old request asked sequence event text new is asks told = (
+  answers.Reply sequence told.0,
+  rw (is) (asks (answers.Reply sequence told.0) (told.0, refl, told.2)),
+  told.1,
+)
 
 -- what is answered to a trial of some legal history is an answer to the trial
 pub tried_on_some : (opening : State) (seat : SeatParts) (sequence workers : ℕ)

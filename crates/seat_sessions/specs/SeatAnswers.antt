@@ -10,6 +10,8 @@ use Rattle.decision_record.specs.declared.entries.Receipt.{Receipt}
 use Rattle.live_desk.specs.Seats.{Asked, IsSnapshotOfSome, SeatParts}
 use Rattle.gk_protocol.specs.declared.requests.Request.{Request}
 use Rattle.gk_protocol.specs.declared.answers.Answer.{Answer}
+use Rattle.gk_protocol.specs.declared.answers.Answer.TheVariants as answers
+use Rattle.gk_protocol.specs.Answers.{answer_text_of}
 use Rattle.gk_protocol.specs.Requests.{trial_without_memory}
 use Rattle.gk_protocol.specs.Answering as answering
 
@@ -32,6 +34,13 @@ MayShow opening seat shown = IsSnapshotOfSome opening shown
 abbrev pub Replies : State → SeatParts → ℕ → PlainEvent → Answer → SeatParts → Type 0
 Replies opening old sequence event answer new =
     answering.Replies (MaySay opening) old sequence event answer new
+
+-- the same of the answer as it is written
+abbrev pub RepliesInto
+    : State → SeatParts → ℕ → PlainEvent → List ℕ → SeatParts → Type 0
+RepliesInto opening old sequence event text new =
+    (reply : Reply) × (text ≡ answer_text_of (answers.Reply sequence reply))
+    × MaySay opening old event reply new
 
 -- what may be answered to a reload
 abbrev pub MayReload : State → SeatParts → ℕ → List (List ℕ) → Answer → SeatParts → Type 0

@@ -1,22 +1,23 @@
 //! Seats that answer the requests of sessions.
 
-ghost use Rattle.std.specs.Prelude.{◌≡◌, true};
+ghost use Rattle.std.specs.Prelude.{◌≡◌, true, None};
+ghost use Rattle.std.specs.Arc.{arc_value};
 ghost use Rattle.gk_terms.specs.Text.{lines_of};
-ghost use Rattle.rulings.specs.Events.{plain};
+ghost use Rattle.rulings.specs.Events.{event_meant, put_in_force, Reloading};
 ghost use Rattle.rulings.specs.State.{opening_of};
 ghost use Rattle.gk_protocol.specs.Answering.{are_workers};
 ghost use Rattle.seat_sessions.specs.SeatAnswers as Spec;
 
-use admission::{Event, Receipt, Reply};
+use admission::{KeptReply, LentEvent, Receipt, Reply, ReplyTaker};
 use compiler::Tables;
 use gk_protocol::{
-    Answer, Answerer, NoTables, OwnedLines, Request, reload_without_memory, tables_of,
+    Answer, Answerer, NoTables, OwnedLines, ReplyLine, Request, reload_without_memory, tables_of,
     trial_answer, trial_tables, trial_without_memory,
 };
 use live_desk::{Desk, House, Seat};
 use std::alloc::Global;
 use std::marker::Model;
-use std::sync::Wait;
+use std::sync::{Arc, Wait};
 use std::thread::Threads;
 
 /// A seat of a desk, and the threads by which it tries other configurations. A contract sees the
@@ -53,12 +54,38 @@ impl<'d, J: House, R> Sitting<'d, J, R> {
 }
 
 impl<J: House, R: Threads + Wait> Sitting<'_, J, R> {
-    /// The desk's reply to an event, as the answer to the request of this number.
-    fn replied(&mut self, sequence: u32, event: Event) -> Answer
-        ensures { Spec.Replies (opening_of J.begun J.limits) self.old sequence (plain event) result
-            self.new }
+    #[tactic(auto, using(crate::proofs::SeatLemmas::said_lent))]
+    /// The desk's reply to an event that is lent, and is not a reload, as the answer to the request
+    /// of this number.
+    fn replied(&mut self, sequence: u32, event: &LentEvent<'_>) -> Answer
+        requires { put_in_force (event_meant event.now) ≡ None }
+        ensures { Spec.Replies (opening_of J.begun J.limits) self.old sequence
+            (event_meant event.now) result self.new }
     {
-        let asked = self.seat.ask(self.rt, self.desk, event);
+        let mut kept = KeptReply::none();
+        let _number = self.seat.ask_lent(self.rt, self.desk, event, &mut kept);
+        let reply = kept.reply();
+        Answer::Reply { sequence, reply }
+    }
+
+    /// The same, as the line of the answer. It is made after the lock was let go.
+    fn reply_into(&mut self, sequence: u32, event: &LentEvent<'_>, reply: &mut ReplyLine)
+        requires { put_in_force (event_meant event.now) ≡ None }
+        ensures { Spec.RepliesInto (opening_of J.begun J.limits) self.old sequence
+            (event_meant event.now) reply.new.text self.new }
+    {
+        let mut kept = KeptReply::none();
+        let _number = self.seat.ask_lent(self.rt, self.desk, event, &mut kept);
+        reply.repeat(sequence);
+        reply.take_reply(&kept.reply());
+    }
+
+    /// The desk's reply to a reload to these tables, as the answer to the request of this number.
+    fn put_in_force(&mut self, sequence: u32, tables: Arc<Tables>) -> Answer
+        ensures { Spec.Replies (opening_of J.begun J.limits) self.old sequence
+            (Reloading (arc_value tables).commands) result self.new }
+    {
+        let asked = self.seat.put_in_force(self.rt, self.desk, tables);
         let reply = reply_in(&asked);
         Answer::Reply { sequence, reply }
     }
@@ -70,7 +97,7 @@ impl<J: House, R: Threads + Wait> Sitting<'_, J, R> {
             (lines_of lines.old) result self.new }
     {
         match tables_of(alloc, lines) {
-            Ok(tables) => self.replied(sequence, Event::Reload(tables)),
+            Ok(tables) => self.put_in_force(sequence, tables),
             Err(NoTables::Faulty(fault)) => Answer::Misconfigured { sequence, fault },
             Err(NoTables::NoMemory) => reload_without_memory(sequence),
         }
@@ -107,13 +134,13 @@ impl<J: House, R: Threads + Wait> Answerer for Sitting<'_, J, R> {
 
     ghost may_answer = { MayAnswer (opening_of J.begun J.limits) };
 
-    fn answer(&mut self, alloc: Global, request: Request) -> Answer {
-        match request {
+    fn answer(&mut self, alloc: Global, mut request: Request) -> Answer {
+        match &mut request {
             Request::Register { sequence, endpoint } => {
-                self.replied(sequence, Event::Register(endpoint))
+                self.replied(*sequence, &LentEvent::Register(endpoint))
             }
             Request::Unregister { sequence, id } => {
-                self.replied(sequence, Event::Unregister { id })
+                self.replied(*sequence, &LentEvent::Unregister { id })
             }
             Request::Admit {
                 sequence,
@@ -122,32 +149,86 @@ impl<J: House, R: Threads + Wait> Answerer for Sitting<'_, J, R> {
                 digits,
                 units,
             } => {
-                let event = Event::Admit {
+                let event = &LentEvent::Admit {
                     id,
-                    call,
+                    call: *call,
                     digits,
-                    units,
+                    units: *units,
                 };
-                self.replied(sequence, event)
+                self.replied(*sequence, event)
             }
             Request::Change {
                 sequence,
                 id,
                 call,
                 units,
-            } => self.replied(sequence, Event::Change { id, call, units }),
-            Request::Release { sequence, id, call } => {
-                self.replied(sequence, Event::Release { id, call })
+            } => {
+                let event = &LentEvent::Change {
+                    id,
+                    call: *call,
+                    units: *units,
+                };
+                self.replied(*sequence, event)
             }
-            Request::Reload {
-                sequence,
-                mut lines,
-            } => self.reload(alloc, sequence, &mut lines),
+            Request::Release { sequence, id, call } => {
+                self.replied(*sequence, &LentEvent::Release { id, call: *call })
+            }
+            Request::Reload { sequence, lines } => self.reload(alloc, *sequence, lines),
             Request::Try {
                 sequence,
                 workers,
-                mut lines,
-            } => self.tried(alloc, sequence, workers, &mut lines),
+                lines,
+            } => self.tried(alloc, *sequence, *workers, lines),
+        }
+    }
+
+    fn answer_into(&mut self, alloc: Global, mut request: Request, reply: &mut ReplyLine) {
+        match &mut request {
+            Request::Register { sequence, endpoint } => {
+                self.reply_into(*sequence, &LentEvent::Register(endpoint), reply);
+            }
+            Request::Unregister { sequence, id } => {
+                self.reply_into(*sequence, &LentEvent::Unregister { id }, reply);
+            }
+            Request::Admit {
+                sequence,
+                id,
+                call,
+                digits,
+                units,
+            } => {
+                let event = &LentEvent::Admit {
+                    id,
+                    call: *call,
+                    digits,
+                    units: *units,
+                };
+                self.reply_into(*sequence, event, reply);
+            }
+            Request::Change {
+                sequence,
+                id,
+                call,
+                units,
+            } => {
+                let event = &LentEvent::Change {
+                    id,
+                    call: *call,
+                    units: *units,
+                };
+                self.reply_into(*sequence, event, reply);
+            }
+            Request::Release { sequence, id, call } => {
+                self.reply_into(*sequence, &LentEvent::Release { id, call: *call }, reply);
+            }
+            Request::Reload { sequence, lines } => {
+                reply.show(self.reload(alloc, *sequence, lines));
+            }
+            Request::Try {
+                sequence,
+                workers,
+                lines,
+            } => reply.show(self.tried(alloc, *sequence, *workers, lines)),
         }
     }
 }
