@@ -152,9 +152,9 @@ impl<J: House> Room<J> {
     }
 
     #[tactic(auto, using(crate::proofs::Grows::rising_by))]
-    /// Answers one event of a seat that is lent, and is not a reload, and enters it in the ledger
-    /// if it was recorded: then the number of its entry is given back. The history is the one under
-    /// the lock.
+    /// Answers one event for a seat; the event is lent, and is not a reload. If it was recorded, it
+    /// is entered in the ledger, and the number of its entry is given back. The history of which
+    /// the clauses speak is the one under the lock.
     pub fn ask(
         &mut self,
         seat: &mut Seat<J>,
@@ -194,8 +194,8 @@ impl<J: House> Room<J> {
     }
 
     #[tactic(auto, using(crate::proofs::Grows::rising))]
-    /// Puts these tables in force for a seat, and enters it in the ledger if it was recorded. The
-    /// history is the one under the lock.
+    /// Puts these tables in force for a seat, and enters that in the ledger if it was recorded. The
+    /// history of which the clauses speak is the one under the lock.
     pub fn reload<R: Wait>(
         &mut self,
         rt: &R,
