@@ -6,5 +6,6 @@ pub mod RowLemmas
 pub mod GatewayLemmas
 pub mod ZoneLemmas
 pub mod TechnologyLemmas
+pub mod LearnedLemmas
 pub mod PlanLemmas
 pub mod TableLemmas

@@ -40,7 +40,8 @@ past_front p (suc count) (x ∷ text) h within = by (p x) h (past_front p count 
     by true f rest = rest (omega arith) (omega arith)
     by false f rest = refl
 
-length_take : (count : ℕ) (text : List ℕ) → count ≤ length text → length (take count text) ≡ count
+pub length_take : (count : ℕ) (text : List ℕ) → count ≤ length text
+    → length (take count text) ≡ count
 length_take zero text h = refl
 length_take (suc count) [] h = absurd (omega arith)
 length_take (suc count) (x ∷ text) h =
@@ -212,7 +213,7 @@ within_more old new prefix hopoff longest longer within changed more fits other 
 
 -- ---- the longest of the declared prefixes
 -- what a filter keeps passes, and is among all
-in_filter : (f : List ℕ → Bool) (xs : List (List ℕ)) (place : ℕ) (q : List ℕ)
+pub in_filter : (f : List ℕ → Bool) (xs : List (List ℕ)) (place : ℕ) (q : List ℕ)
     → slice_get (filter f xs) place ≡ Some q → (f q ≡ true) × (is_among xs q ≡ true)
 in_filter f [] place q h = cc
 in_filter f (x ∷ xs) place q h = by (f x) refl place (in_filter f xs) h
@@ -238,7 +239,7 @@ in_filter f (x ∷ xs) place q h = by (f x) refl place (in_filter f xs) h
         let r = rest at q g in (r.0, later (bytes_eq x q) (is_among xs q) r.1)
 
 -- what passes and is among all is among those that a filter keeps
-filter_keeps : (f : List ℕ → Bool) (xs : List (List ℕ)) (q : List ℕ)
+pub filter_keeps : (f : List ℕ → Bool) (xs : List (List ℕ)) (q : List ℕ)
     → is_among xs q ≡ true → f q ≡ true → is_among (filter f xs) q ≡ true
 filter_keeps f [] q h pass = h
 filter_keeps f (x ∷ xs) q h pass =
@@ -259,15 +260,15 @@ filter_keeps f (x ∷ xs) q h pass =
     by false e false i rest g = rest g
 
 -- digits begin with what they begin with
-begins_from : (digits prefix : List ℕ) → prefix ≡ take (length prefix) digits
+pub begins_from : (digits prefix : List ℕ) → prefix ≡ take (length prefix) digits
     → begins_with digits prefix ≡ true
 begins_from digits prefix h = ap (bytes_eq prefix) (sym h) ∙ nat_list_eq_equiv.refl prefix
 
-begins_is : (digits prefix : List ℕ) → begins_with digits prefix ≡ true
+pub begins_is : (digits prefix : List ℕ) → begins_with digits prefix ≡ true
     → prefix ≡ take (length prefix) digits
 begins_is digits prefix h = same_text prefix (take (length prefix) digits) (sym h)
 
-begins_within : (digits prefix : List ℕ) → begins_with digits prefix ≡ true
+pub begins_within : (digits prefix : List ℕ) → begins_with digits prefix ≡ true
     → length prefix ≤ length digits
 begins_within digits prefix h =
     let e : length prefix ≡ min (length prefix) (length digits) =

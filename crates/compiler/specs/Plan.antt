@@ -1,7 +1,7 @@
 -- What the commands alone say of dialled digits: a technology prefix, its hop-off zone, and else
 -- the longest matching zone prefix. This project's profile, after Cisco's flow for an admission
 -- request.
-use Rattle.std.specs.Prelude.{ℕ, Bool, true, false, List, length, drop, slice_get, Option, Some, None, option_map, option_and_then, if◌then◌else◌}
+use Rattle.std.specs.Prelude.{◌≡◌, ◌<◌, ℕ, Bool, true, false, List, [], length, drop, slice_get, Option, Some, None, option_map, option_and_then, bytes_eq, if◌then◌else◌}
 use Rattle.std.specs.List.{list_any}
 use Rattle.gk_terms.specs.Address.{AddressParts}
 use Rattle.command_reader.specs.declared.commands.Command.{Command}
@@ -12,7 +12,7 @@ use Rattle.command_reader.specs.Zones.{zone_of}
 use Rattle.compiler.specs.declared.plans.Plan.{Plan}
 use Rattle.compiler.specs.declared.plans.Plan.TheVariants as plans
 use Rattle.compiler.specs.Pick.{picked}
-use Rattle.compiler.specs.Technology.{technology_of, hopoffs_of}
+use Rattle.compiler.specs.Technology.{technology_of, technology_among, longest_learned, found_length, hopoffs_of}
 use Rattle.compiler.specs.Rows.{ZoneRow, row_for, picked_rows_of}
 use Rattle.compiler.specs.Zones.{zone_at}
 
@@ -72,6 +72,37 @@ by_technology commands digits (Some prefix) =
 -- what the commands alone say of the digits
 unfoldable pub plan_of : List Command → List ℕ → Target
 plan_of commands digits = by_technology commands digits (technology_of commands digits)
+
+-- what the commands say of the digits, if these technology prefixes were learned too
+unfoldable pub plan_with : List (List ℕ) → List Command → List ℕ → Target
+plan_with learned commands digits =
+    by_technology commands digits (technology_among learned commands digits)
+
+-- the plan after a technology prefix that has no hop-off zone
+abbrev pub plan_after : List Command → List ℕ → List ℕ → Target
+plan_after commands digits prefix =
+    by_row commands (Some prefix) (row_for commands (drop (length prefix) digits))
+
+-- with no learned prefix it is the plan of the commands alone
+abbrev pub LearnsNothing : Type 0
+LearnsNothing =
+    (commands : List Command) (digits : List ℕ)
+    → plan_with [] commands digits ≡ plan_of commands digits
+
+-- no learned prefix is longer than the declared one: the plan of the commands alone
+abbrev pub LearnedIsNoLonger : Type 0
+LearnedIsNoLonger =
+    (learned : List (List ℕ)) (commands : List Command) (digits : List ℕ)
+    → longest_learned learned digits (found_length (technology_of commands digits)) ≡ None
+    → ((prefix : List ℕ) → list_any (λ one. bytes_eq one prefix) learned ≡ true → 0 < length prefix)
+    → plan_with learned commands digits ≡ plan_of commands digits
+
+-- one is longer: the plan after it
+abbrev pub LearnedIsLonger : Type 0
+LearnedIsLonger =
+    (learned : List (List ℕ)) (commands : List Command) (digits prefix : List ℕ)
+    → longest_learned learned digits (found_length (technology_of commands digits)) ≡ Some prefix
+    → plan_with learned commands digits ≡ plan_after commands digits prefix
 
 -- ---- a plan of numbered zones and rows
 -- a remote zone as the target; nothing if the zone is a local one

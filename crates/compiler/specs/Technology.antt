@@ -1,6 +1,6 @@
 -- Technology prefixes: which one begins dialled digits, its hop-off zones, and the default one.
 -- From Cisco's `gw-type-prefix`.
-use Rattle.std.specs.Prelude.{ℕ, ◌==◌, Bool, nat_lt, List, [], length, filter, flat_map, Option, Some, None, bytes_eq, if◌then◌else◌}
+use Rattle.std.specs.Prelude.{ℕ, ◌==◌, Bool, nat_lt, List, [], ◌++◌, length, filter, flat_map, Option, Some, None, bytes_eq, if◌then◌else◌}
 use Rattle.std.specs.List.{filter_map, starts_with}
 use Rattle.gk_terms.specs.Choice.{first_unbeaten}
 use Rattle.command_reader.specs.declared.commands.Command.{Command}
@@ -38,6 +38,21 @@ longest_beginning prefixes digits =
 -- the longest declared prefix with which the digits begin
 abbrev pub technology_of : List Command → List ℕ → Option (List ℕ)
 technology_of commands digits = longest_beginning (prefixes_of commands) digits
+
+-- the longest prefix with which the digits begin, of those that are declared and of some others
+abbrev pub technology_among : List (List ℕ) → List Command → List ℕ → Option (List ℕ)
+technology_among learned commands digits =
+    longest_beginning (learned ++ prefixes_of commands) digits
+
+-- the longest of some learned prefixes with which the digits begin, if it is longer than this
+abbrev pub longest_learned : List (List ℕ) → List ℕ → ℕ → Option (List ℕ)
+longest_learned learned digits longer_than =
+    longest_beginning (filter (λ prefix. nat_lt longer_than (length prefix)) learned) digits
+
+-- how many characters a prefix that was found has; 0 if none was
+abbrev pub found_length : Option (List ℕ) → ℕ
+found_length None = 0
+found_length (Some prefix) = length prefix
 
 -- the hop-off zones that a command names for a prefix
 abbrev pub hopoffs_in : List ℕ → Command → List (List ℕ)

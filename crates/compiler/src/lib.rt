@@ -1,6 +1,7 @@
 //! The compiler: a configuration made ready for look-ups, and where it sends dialled digits.
 #![tactic(auto)]
 
+pub mod laws;
 mod limit_table;
 pub mod limits;
 mod picking;
@@ -17,4 +18,5 @@ pub use command_reader::LimitKind;
 pub use limits::ZoneLimits;
 pub use plans::{Plan, Routed, RowNo, ZoneNo};
 pub use tables::Tables;
+pub use technologies::technology_bytes;
 pub use zones::ZoneView;

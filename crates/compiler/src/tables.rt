@@ -1,13 +1,13 @@
 //! The configuration in force, made ready for look-ups.
 
-ghost use Rattle.std.specs.Prelude.{◌≡◌, ◌<◌, ◌≤◌, length, drop, IfOk, IfSome, Some, None, option_map, unwrap_or};
+ghost use Rattle.std.specs.Prelude.{◌≡◌, ◌<◌, ◌≤◌, true, length, drop, IfOk, IfSome, Some, None, option_map, unwrap_or};
 ghost use Rattle.std.specs.Option.{option_copied};
 ghost use Rattle.command_reader.specs.Zones.{zones_of, first_local_of, is_local_option};
 ghost use Rattle.compiler.specs.Limit.{limits_of, limit_of, remote_limit_of};
-ghost use Rattle.compiler.specs.Plan.{plan_of, target_of, row_meant, rejects_unknown, is_reject, by_row};
+ghost use Rattle.compiler.specs.Plan.{plan_of, plan_after, target_of, row_meant, rejects_unknown, is_reject, by_row};
 ghost use Rattle.compiler.specs.Priority.{priority_of, AreNamedFor, entries_of};
 ghost use Rattle.compiler.specs.Rows.{row_for};
-ghost use Rattle.compiler.specs.Technology.{technology_of, hopoffs_of, default_technology_of};
+ghost use Rattle.compiler.specs.Technology.{technology_of, begins_with, hopoffs_of, default_technology_of};
 ghost use Rattle.compiler.specs.Zones.{zone_meant, local_zone, view_at, view_of_name, zone_at};
 ghost use Rattle.compiler.specs.TablesIndex as Index;
 
@@ -125,6 +125,29 @@ impl Tables {
             None => self.plan_by_row(digits, 0, None),
             Some(found) => self.plan_by_technology(digits, found.0, found.1),
         }
+    }
+
+    /// The longest technology prefix with which the digits begin, of those that the configuration
+    /// declares by `gw-type-prefix` (Cisco). Takes no memory.
+    pub fn declared(&self, digits: &Dialled) -> Option<TechPrefix>
+        ensures { result ≡ technology_of self.now.commands digits.now }
+    {
+        match technology_of(&self.technologies, digits.as_bytes()) {
+            None => None,
+            Some(found) => Some(found.0),
+        }
+    }
+
+    #[tactic(auto, using(crate::proofs::TechnologyLemmas::begins_within))]
+    /// Where a call goes if this is the technology prefix of its digits, and has no hop-off zone: the
+    /// prefix is taken off the digits, and the zone of the longest pattern that matches the rest is
+    /// the target. Takes no memory. This project's profile.
+    pub fn plan_after(&self, digits: &Dialled, prefix: &TechPrefix) -> Plan
+        requires { begins_with digits.now prefix.now ≡ true }
+        ensures { target_of self.now.commands result
+            ≡ Some (plan_after self.now.commands digits.now prefix.now) }
+    {
+        self.plan_by_row(digits, prefix.as_bytes().len(), Some(*prefix))
     }
 
     /// Where a call goes if its digits begin with this technology prefix, whose hop-off zone is

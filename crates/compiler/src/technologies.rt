@@ -125,7 +125,7 @@ pub(crate) fn technology_of(
 }
 
 /// How many characters in front of the text may be in a technology prefix.
-fn technology_bytes(text: &[u8]) -> usize
+pub fn technology_bytes(text: &[u8]) -> usize
     ensures counted { result ≡ prefix_len is_technology_byte text.now }
     ensures within { result ≤ length text.now }
 {

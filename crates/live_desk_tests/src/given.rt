@@ -2,7 +2,7 @@
 
 ghost use Rattle.std.specs.Prelude.{◌≡◌};
 
-use admission::Event;
+use admission::{Destination, Event, Reply};
 use command_reader::{Commands, read};
 use compiler::Tables;
 use gk_terms::{Address, Dialled, Name, TechPrefix, Units};
@@ -65,10 +65,16 @@ pub(crate) fn terminal(alloc: Global) -> Option<Event> {
 
 /// The registration of the gateway `ga` in the zone `gk-a`, which serves the technology prefix 1#.
 pub(crate) fn gateway(alloc: Global) -> Option<Event> {
-    let id = Name::read(b"ga").ok()?;
+    gateway_with(alloc, b"ga", b"1#")
+}
+
+/// The registration of a gateway of this ID in the zone `gk-a`, which serves this technology
+/// prefix.
+pub(crate) fn gateway_with(alloc: Global, id: &[u8], served: &[u8]) -> Option<Event> {
+    let id = Name::read(id).ok()?;
     let zone = Name::read(b"gk-a").ok()?;
     let address = Address::read(b"10.0.1.2", 1720).ok()?;
-    let served = TechPrefix::read(b"1#").ok()?;
+    let served = TechPrefix::read(served).ok()?;
     let mut gateway = Endpoint::new(alloc, EndpointKind::Gateway, id, zone, address);
     gateway.add_technology(served).ok()?;
     Some(Event::Register(gateway))
@@ -92,4 +98,38 @@ pub(crate) fn two_seats<J: House, R: Wait>(rt: &R, desk: &Desk<J>) -> Option<(Se
     let first = desk.seat(rt).ok()?;
     let second = desk.seat(rt).ok()?;
     Some((first, second))
+}
+
+/// The name of the gateway or zone to which the call of the terminal `ta` to these digits is
+/// admitted.
+pub(crate) fn name_led_to<J: House, R: Wait>(
+    rt: &R,
+    desk: &Desk<J>,
+    seat: &mut Seat<J>,
+    call: u32,
+    digits: &[u8],
+) -> Option<Name> {
+    let event = admission(b"ta", call, digits)?;
+    let answer = seat.ask(rt, desk, event);
+    match &answer {
+        Ok((reply, _)) => name_in(reply),
+        Err(_) => None,
+    }
+}
+
+/// The name of the destination in a reply that admits a call.
+fn name_in(reply: &Reply) -> Option<Name> {
+    match reply {
+        Reply::Admitted { destination, .. } => name_of(destination),
+        _ => None,
+    }
+}
+
+/// The name of a gateway or of a zone.
+fn name_of(destination: &Destination) -> Option<Name> {
+    match destination {
+        Destination::Gateway { id, .. } => Some(*id),
+        Destination::Terminal { .. } => None,
+        Destination::Zone { name, .. } => Some(*name),
+    }
 }

@@ -8,6 +8,8 @@ mod given;
 #[cfg(test)]
 mod hold_tests;
 #[cfg(test)]
+mod learned_tests;
+#[cfg(test)]
 mod refused_tests;
 #[cfg(test)]
 mod reload_tests;

@@ -4,9 +4,9 @@ ghost use Rattle.std.specs.Prelude.{◌≡◌};
 ghost use Rattle.std.specs.Arc.{arc_value};
 
 use crate::given::{
-    OTHER, TEXT, admission, blank_of, commands_of, gateway, tables_of, terminal, two_seats,
+    OTHER, TEXT, blank_of, commands_of, gateway, name_led_to, tables_of, terminal, two_seats,
 };
-use admission::{Destination, Limits, ReloadRefusal, Reply, STATED_LIMITS};
+use admission::{Limits, ReloadRefusal, STATED_LIMITS};
 use compiler::Tables;
 use gk_terms::Name;
 use live_desk::{Blank, Desk, House, Seat};
@@ -166,47 +166,15 @@ fn seen_on<J: House, R: Wait>(rt: &R, alloc: Global, desk: &Desk<J>) -> Option<S
     let (mut first, mut second) = two_seats(rt, desk)?;
     let _terminal = first.ask(rt, desk, terminal(alloc)?);
     let _gateway = first.ask(rt, desk, gateway(alloc)?);
-    let before = name_led_to(rt, desk, &mut second, 1001)?;
+    let before = name_led_to(rt, desk, &mut second, 1001, b"40855512345")?;
     if version_of_reload(rt, alloc, desk, &mut first, OTHER) != Some(2) {
         return None;
     }
-    let after = name_led_to(rt, desk, &mut second, 1002)?;
+    let after = name_led_to(rt, desk, &mut second, 1002, b"40855512345")?;
     Some(Seen {
         to_gateway: before == Name::read(b"ga").ok()?,
         to_zone: after == Name::read(b"gk-x").ok()?,
         lost: first.lost() || second.lost(),
         astray: first.astray() || second.astray(),
     })
-}
-
-/// The name of the gateway or zone to which a call to 40855512345 is admitted.
-fn name_led_to<J: House, R: Wait>(
-    rt: &R,
-    desk: &Desk<J>,
-    seat: &mut Seat<J>,
-    call: u32,
-) -> Option<Name> {
-    let event = admission(b"ta", call, b"40855512345")?;
-    let answer = seat.ask(rt, desk, event);
-    match &answer {
-        Ok((reply, _)) => name_in(reply),
-        Err(_) => None,
-    }
-}
-
-/// The name of the destination in a reply that admits a call.
-fn name_in(reply: &Reply) -> Option<Name> {
-    match reply {
-        Reply::Admitted { destination, .. } => name_of(destination),
-        _ => None,
-    }
-}
-
-/// The name of a gateway or of a zone.
-fn name_of(destination: &Destination) -> Option<Name> {
-    match destination {
-        Destination::Gateway { id, .. } => Some(*id),
-        Destination::Terminal { .. } => None,
-        Destination::Zone { name, .. } => Some(*name),
-    }
 }

@@ -10,6 +10,7 @@ pub mod RollLemmas
 pub mod RollInsertion
 pub mod RollRemoval
 pub mod ListingLemmas
+pub mod LearnedLemmas
 pub mod ShelfLemmas
 pub mod KeepingLemmas
 pub mod CopyLemmas

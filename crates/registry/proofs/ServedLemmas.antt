@@ -1,6 +1,6 @@
 -- The places that gateways serve, and what changes place by place.
-use Rattle.std.proofs.Common.{◌≡◌, inl, inr, ℕ, ◌+◌, ◌<◌, ◌≤◌, ◌==◌, Bool, true, false, not, cond, ◌&&◌, ◌||◌, List, [], ◌∷◌, length, take, drop, get_or, refl, sym, ap, ◌∙◌, arith}
-use Rattle.std.specs.Prelude.{Option, Some, None, Result, Ok, Err, OnOk, OnErr, ◌⊎◌, bytes_eq, if◌then◌else◌}
+use Rattle.std.proofs.Common.{◌≡◌, inl, inr, ℕ, ◌+◌, ◌<◌, ◌≤◌, ◌==◌, Bool, true, false, not, cond, ◌&&◌, ◌||◌, List, [], ◌∷◌, length, take, drop, get_or, refl, sym, ap, subst, ◌∙◌, arith}
+use Rattle.std.specs.Prelude.{Option, Some, None, Result, Ok, Err, OnOk, OnErr, ◌⊎◌, is_some, bytes_eq, if◌then◌else◌}
 use Rattle.std.specs.declared.cmp.Ordering.{Ordering}
 use Rattle.std.specs.declared.cmp.Ordering.TheVariants.{Less, Equal, Greater}
 use Rattle.std.specs.Ordering.{is_eq, is_gt, nat_cmp, MatchOrdering}
@@ -9,12 +9,15 @@ use Rattle.std.specs.Cmp.Lexicographic.{same_text}
 use Rattle.std.specs.List.{list_any}
 use Rattle.std.proofs.lemmas.Bool.{both_ways, and_parts}
 use Rattle.std.proofs.lemmas.Cmp.{nat_list_eq_equiv, ranked, tied_itself}
-use Rattle.std.proofs.lemmas.List.Folds.{list_any_more, list_any-append}
+use Rattle.std.specs.Map.{keys_of}
+use Rattle.std.proofs.lemmas.List.Folds.{Any-from_list_any, list_any-from_Any, list_any_more, list_any-append}
+use Rattle.std.proofs.lemmas.Map.Made.{is_some-lookup}
+use Rattle.gk_terms.specs.TechPrefix.{is_tech_prefix}
 use Rattle.std.proofs.lemmas.List.{take-append-drop}
 use Rattle.registry.specs.Endpoint.{EndpointParts, has_technology}
 use Rattle.registry.specs.declared.endpoints.EndpointKind.TheVariants.{Gateway, Terminal}
 use Rattle.registry.specs.Gateway.{is_gateway}
-use Rattle.registry.specs.Served.{HasNoEmpty, KeepsOthers, Place, Places, PutsNumber, Service, found_empty, found_number, has_gateway_number, numbers_at, same_place, same_service, serves_at, Puts, found_serving, is_of, is_partly_of, AddsPlaces, MayAddPlaces, Enters, MayEnter, lists_none}
+use Rattle.registry.specs.Served.{AreWithin, HasNoEmpty, IsChangedFor, IsServed, KeepsOthers, NoneServesIn, Place, Places, PutsIn, PutsNumber, SomeServes, ZoneNumbers, found_empty, found_in, found_number, has_gateway_number, kept_for, longest_for, same_place, serves_at, serves_in, Puts, found_serving, is_of, is_partly_of, AddsPlaces, MayAddPlaces, Enters, MayEnter, lists_none}
 
 -- ---- the numbers of gateways
 pub not_above : (a b : ℕ) → a ≤ b → is_gt (nat_cmp a b) ≡ false
@@ -25,45 +28,78 @@ not_above a b h = by (nat_cmp a b) (ranked a b (nat_cmp a b) refl)
     by Equal m = refl
     by Greater m = let never : ⊥ = omega (arith, m, h) in absurd never
 
--- ---- the numbers at a zone and a prefix
-pub same_numbers : (places : Places) (x y : Service) → same_service x y ≡ true
-    → numbers_at places x ≡ numbers_at places y
-same_numbers places x y h =
-    let parts = and_parts (bytes_eq x.0 y.0) (bytes_eq x.1 y.1) h in
-    λ i. numbers_at places
-    (same_text x.0 y.0 (sym parts.0) i, same_text x.1 y.1 (sym parts.1) i)
+-- ---- lists by text
+pub same_kept : {X : Type 0} (entries : List (List ℕ × X)) (x y : List ℕ) → bytes_eq x y ≡ true
+    → kept_for entries x ≡ kept_for entries y
+same_kept entries x y h = ap (kept_for entries) (same_text x y (sym h))
 
--- new has other numbers at one zone and prefix
-module _ (old new : Places) (service : Service) (after : Option (List ℕ))
-    (changes : (other : Service) → numbers_at new other
-    ≡ cond (same_service service other) after (numbers_at old other)) where
-  -- they differ by one number
-  pub puts_at : (number : ℕ) (there : Bool)
-      → ((n : ℕ) → found_number after n
-      ≡ (if number == n then there else found_number (numbers_at old service) n))
-      → Puts old new (service.0, service.1, number) there
-  puts_at number there puts place =
-      ap (λ o. found_number o place.2) (changes (place.0, place.1))
-      ∙ by (same_service service (place.0, place.1)) refl
-    where
-      by : (b : Bool) → same_service service (place.0, place.1) ≡ b
-          → found_number (cond b after (numbers_at old (place.0, place.1))) place.2
-          ≡ (if (b && (number == place.2)) then there
-          else found_number (numbers_at old (place.0, place.1)) place.2)
-      by true same =
-          puts place.2
-          ∙ ap (λ o. if number == place.2 then there else found_number o place.2)
-          (same_numbers old service (place.0, place.1) same)
-      by false same = refl
+-- another list is kept for one text, and it is not empty
+pub no_empty_at : {X : Type 0} (old new : List (List ℕ × List X)) (text : List ℕ)
+    (after : Option (List X)) → IsChangedFor old new text after → HasNoEmpty old
+    → found_empty after ≡ false → HasNoEmpty new
+no_empty_at old new text after changes whole some other =
+    ap found_empty (changes other) ∙ by (bytes_eq text other)
+  where
+    by : (b : Bool) → found_empty (cond b after (kept_for old other)) ≡ false
+    by true = some
+    by false = whole other
 
-  -- they are not empty
-  pub no_empty_at : HasNoEmpty old → found_empty after ≡ false → HasNoEmpty new
-  no_empty_at whole some other =
-      ap found_empty (changes other) ∙ by (same_service service other)
-    where
-      by : (b : Bool) → found_empty (cond b after (numbers_at old other)) ≡ false
-      by true = some
-      by false = whole other
+-- a list became empty, and was then taken out
+pub no_empty_left : {X : Type 0} (old mid new : List (List ℕ × List X)) (text : List ℕ)
+    → IsChangedFor mid new text None → HasNoEmpty old → KeepsOthers old mid text → HasNoEmpty new
+no_empty_left old mid new text changes whole others other =
+    ap found_empty (changes other) ∙ by (bytes_eq text other) refl
+  where
+    by : (b : Bool) → bytes_eq text other ≡ b
+        → found_empty (cond b None (kept_for mid other)) ≡ false
+    by true same = refl
+    by false apart = ap found_empty (others other apart) ∙ whole other
+
+-- a list changed, and did not become empty
+pub no_empty_kept : {X : Type 0} (old mid : List (List ℕ × List X)) (text : List ℕ)
+    → KeepsOthers old mid text → HasNoEmpty old → found_empty (kept_for mid text) ≡ false
+    → HasNoEmpty mid
+no_empty_kept old mid text others whole some other = by (bytes_eq text other) refl
+  where
+    by : (b : Bool) → bytes_eq text other ≡ b → found_empty (kept_for mid other) ≡ false
+    by true same = ap found_empty (sym (same_kept mid text other same)) ∙ some
+    by false apart = ap found_empty (others other apart) ∙ whole other
+
+-- ---- the zones of one prefix
+-- new has other numbers in one zone, which differ by one number
+pub puts_in : (old new : ZoneNumbers) (zone : List ℕ) (after : Option (List ℕ))
+    → IsChangedFor old new zone after → (number : ℕ) (there : Bool)
+    → ((n : ℕ) → found_number after n
+    ≡ (if number == n then there else found_number (kept_for old zone) n))
+    → PutsIn old new zone number there
+puts_in old new zone after changes number there puts z n =
+    ap (λ o. found_number o n) (changes z) ∙ by (bytes_eq zone z) refl
+  where
+    by : (b : Bool) → bytes_eq zone z ≡ b
+        → found_number (cond b after (kept_for old z)) n
+        ≡ (if (b && (number == n)) then there else found_number (kept_for old z) n)
+    by true same =
+        puts n
+        ∙ ap (λ o. if number == n then there else found_number o n) (same_kept old zone z same)
+    by false same = refl
+
+-- the last number of a zone was taken out, and then its entry
+pub none_left_in : (mid new : ZoneNumbers) (zone : List ℕ) → IsChangedFor mid new zone None
+    → found_empty (kept_for mid zone) ≡ true → (z : List ℕ) (n : ℕ)
+    → serves_in new z n ≡ serves_in mid z n
+none_left_in mid new zone changes empty z n =
+    ap (λ o. found_number o n) (changes z) ∙ by (bytes_eq zone z) refl
+  where
+    none : (o : Option (List ℕ)) → found_empty o ≡ true → false ≡ found_number o n
+    none None h = refl
+    none (Some []) h = refl
+    none (Some (first ∷ rest)) h = absurd (both_ways false refl h)
+
+    by : (b : Bool) → bytes_eq zone z ≡ b
+        → found_number (cond b None (kept_for mid z)) n ≡ serves_in mid z n
+    by true same =
+        none (kept_for mid zone) empty ∙ ap (λ o. found_number o n) (same_kept mid zone z same)
+    by false same = refl
 
 -- what a number was added to is not empty
 pub added_some : (old new : List ℕ) (number : ℕ) → PutsNumber old new number true
@@ -77,45 +113,187 @@ added_some old new number puts =
     by [] has = absurd (both_ways false refl has)
     by (first ∷ rest) has = refl
 
--- what a number may have been added to is not empty
-pub some_stay : {T E : Type 0} → (old new : List ℕ) (number : ℕ) (r : Result T E)
-    → OnOk r (PutsNumber old new number true) → OnErr r (new ≡ old) → lists_none old ≡ false
+-- zones in which a gateway was put are not empty
+pub put_some : (old new : ZoneNumbers) (zone : List ℕ) (number : ℕ)
+    → PutsIn old new zone number true → lists_none new ≡ false
+put_some old new zone number puts =
+    by new (puts zone number
+    ∙ ap (λ b. if b && (number == number) then true else serves_in old zone number)
+    (nat_list_eq_equiv.refl zone)
+    ∙ ap (λ b. if b then true else serves_in old zone number)
+    (sym (unsigned_tied number number) ∙ ap is_eq (tied_itself nat_cmp_total number)))
+  where
+    by : (zones : ZoneNumbers) → serves_in zones zone number ≡ true → lists_none zones ≡ false
+    by [] has = absurd (both_ways false refl has)
+    by (first ∷ rest) has = refl
+
+-- a list to which something may have been added is not empty
+pub some_stay : {T E A X : Type 0} → (old new : List X) (r : Result T E)
+    → OnOk r A → OnErr r (new ≡ old) → (A → lists_none new ≡ false) → lists_none old ≡ false
     → lists_none new ≡ false
-some_stay old new number (Ok x) puts same some = added_some old new number puts
-some_stay old new number (Err e) puts same some = ap lists_none same ∙ some
+some_stay old new (Ok x) puts same added some = added puts
+some_stay old new (Err e) puts same added some = ap lists_none same ∙ some
 
--- the last number at a zone and a prefix was taken out, and then their entry
-module _ (old mid new : Places) (service : Service)
-    (changes : (other : Service) → numbers_at new other
-    ≡ cond (same_service service other) None (numbers_at mid other)) where
-  pub no_empty_left : HasNoEmpty old → KeepsOthers old mid service → HasNoEmpty new
-  no_empty_left whole others other =
-      ap found_empty (changes other) ∙ by (same_service service other) refl
-    where
-      by : (b : Bool) → same_service service other ≡ b
-          → found_empty (cond b None (numbers_at mid other)) ≡ false
-      by true same = refl
-      by false apart = ap found_empty (others other apart) ∙ whole other
+-- a list of keys of which one passes, or none
+pub some_local : (passes : List ℕ → Bool) (entries : ZoneNumbers) → HasNoEmpty entries
+    → list_any passes (keys_of entries) ≡ true → SomeServes entries passes
+some_local passes entries whole any =
+    let found = Any-from_list_any passes (keys_of entries) any in
+    let zone = found.1 in
+    let there : is_some (kept_for entries zone) ≡ true =
+    is_some-lookup (bytes_eq zone) entries
+    ∙ list_any-from_Any (bytes_eq zone) (keys_of entries)
+    (found.0, zone, found.2, found.3, nat_list_eq_equiv.refl zone) in
+    by zone found.4 (kept_for entries zone) refl there (whole zone)
+  where
+    by : (zone : List ℕ) → passes zone ≡ true → (o : Option (List ℕ))
+        → kept_for entries zone ≡ o → is_some o ≡ true → found_empty o ≡ false
+        → SomeServes entries passes
+    by zone passing None e there some = absurd (both_ways false refl there)
+    by zone passing (Some []) e there some = absurd (both_ways true some refl)
+    by zone passing (Some (number ∷ rest)) e there some = record {
+      zone = zone;
+      number = number;
+      passing = passing;
+      there = ap (λ o. found_number o number) e
+          ∙ ap (λ b. b || has_gateway_number rest number)
+          (ap is_eq (tied_itself nat_cmp_total number));
+    }
 
-  pub none_left : found_empty (numbers_at mid service) ≡ true → (place : Place)
-      → serves_at new place ≡ serves_at mid place
-  none_left empty place =
-      ap (λ o. found_number o place.2) (changes (place.0, place.1))
-      ∙ by (same_service service (place.0, place.1)) refl
-    where
-      none : (o : Option (List ℕ)) → found_empty o ≡ true → (n : ℕ) → false ≡ found_number o n
-      none None h n = refl
-      none (Some []) h n = refl
-      none (Some (first ∷ rest)) h n = absurd (both_ways false refl h)
+pub none_local : (passes : List ℕ → Bool) (entries : ZoneNumbers)
+    → list_any passes (keys_of entries) ≡ false → NoneServesIn entries passes
+none_local passes entries none zone number passing =
+    by (serves_in entries zone number) refl
+  where
+    kept : (o : Option (List ℕ)) → found_number o number ≡ true → is_some o ≡ true
+    kept None h = absurd (both_ways false refl h)
+    kept (Some numbers) h = refl
 
-      by : (b : Bool) → same_service service (place.0, place.1) ≡ b
-          → found_number (cond b None (numbers_at mid (place.0, place.1))) place.2
-          ≡ serves_at mid place
-      by true same =
-          none (numbers_at mid service) empty place.2
-          ∙ ap (λ o. found_number o place.2)
-          (same_numbers mid service (place.0, place.1) same)
-      by false same = refl
+    by : (b : Bool) → serves_in entries zone number ≡ b → serves_in entries zone number ≡ false
+    by true h =
+        let there = sym (is_some-lookup (bytes_eq zone) entries) ∙ kept (kept_for entries zone) h in
+        let found = Any-from_list_any (bytes_eq zone) (keys_of entries) there in
+        absurd (both_ways (list_any passes (keys_of entries)) none
+        (list_any-from_Any passes (keys_of entries) (
+          found.0,
+          found.1,
+          found.2,
+          found.3,
+          ap passes (sym (same_text zone found.1 (sym found.4))) ∙ passing,
+        )))
+    by false h = h
+
+-- ---- the zones at a prefix
+-- new has other zones at one prefix, which differ by one number in one zone
+pub puts_at : (old new : Places) (prefix : List ℕ) (after : Option ZoneNumbers)
+    → IsChangedFor old new prefix after → (zone : List ℕ) (number : ℕ) (there : Bool)
+    → ((z : List ℕ) (n : ℕ) → found_in after z n
+    ≡ (if bytes_eq zone z && (number == n) then there else found_in (kept_for old prefix) z n))
+    → Puts old new (zone, prefix, number) there
+puts_at old new prefix after changes zone number there puts place =
+    ap (λ o. found_in o place.0 place.2) (changes place.1)
+    ∙ by (bytes_eq prefix place.1) refl (bytes_eq zone place.0) refl
+  where
+    by : (b : Bool) → bytes_eq prefix place.1 ≡ b → (z : Bool) → bytes_eq zone place.0 ≡ z
+        → found_in (cond b after (kept_for old place.1)) place.0 place.2
+        ≡ (if ((z && b) && (number == place.2)) then there
+        else found_in (kept_for old place.1) place.0 place.2)
+    by true same true here =
+        puts place.0 place.2
+        ∙ ap (λ t. if t && (number == place.2) then there
+        else found_in (kept_for old prefix) place.0 place.2) here
+        ∙ ap (λ o. if number == place.2 then there else found_in o place.0 place.2)
+        (same_kept old prefix place.1 same)
+    by true same false here =
+        puts place.0 place.2
+        ∙ ap (λ t. if t && (number == place.2) then there
+        else found_in (kept_for old prefix) place.0 place.2) here
+        ∙ ap (λ o. found_in o place.0 place.2) (same_kept old prefix place.1 same)
+    by false apart true here = refl
+    by false apart false here = refl
+
+-- the last zone of a prefix was taken out, and then its entry
+pub none_left : (mid new : Places) (prefix : List ℕ) → IsChangedFor mid new prefix None
+    → found_empty (kept_for mid prefix) ≡ true → (place : Place)
+    → serves_at new place ≡ serves_at mid place
+none_left mid new prefix changes empty place =
+    ap (λ o. found_in o place.0 place.2) (changes place.1) ∙ by (bytes_eq prefix place.1) refl
+  where
+    none : (o : Option ZoneNumbers) → found_empty o ≡ true → false ≡ found_in o place.0 place.2
+    none None h = refl
+    none (Some []) h = refl
+    none (Some (first ∷ rest)) h = absurd (both_ways false refl h)
+
+    by : (b : Bool) → bytes_eq prefix place.1 ≡ b
+        → found_in (cond b None (kept_for mid place.1)) place.0 place.2 ≡ serves_at mid place
+    by true same =
+        none (kept_for mid prefix) empty
+        ∙ ap (λ o. found_in o place.0 place.2) (same_kept mid prefix place.1 same)
+    by false same = refl
+
+-- ---- how long a prefix is
+-- what is kept for one more prefix
+pub within_more : (old new : Places) (prefix : List ℕ) (after : Option ZoneNumbers)
+    (longest longer : List ℕ) → IsChangedFor old new prefix after → AreWithin longest old
+    → ((other : List ℕ) → longest_for longest other ≤ longest_for longer other)
+    → is_tech_prefix prefix ≡ true → length prefix ≤ longest_for longer prefix
+    → AreWithin longer new
+within_more old new prefix after longest longer changes within more text fits other there =
+    by (bytes_eq prefix other) refl
+  where
+    by : (b : Bool) → bytes_eq prefix other ≡ b
+        → (is_tech_prefix other ≡ true) × (length other ≤ longest_for longer other)
+    by true same =
+        subst (λ q. (is_tech_prefix q ≡ true) × (length q ≤ longest_for longer q))
+        (same_text prefix other (sym same)) (text, fits)
+    by false apart =
+        let before = within other
+        (ap is_some (sym (changes other
+        ∙ ap (λ b. cond b after (kept_for old other)) apart)) ∙ there) in
+        let short = before.1 in
+        let far = more other in
+        (before.0, omega (arith, short, far))
+
+-- a prefix has other zones than before
+pub within_same : (old new : Places) (prefix : List ℕ) (after : ZoneNumbers) (longest : List ℕ)
+    → IsChangedFor old new prefix (Some after) → is_some (kept_for old prefix) ≡ true
+    → AreWithin longest old → AreWithin longest new
+within_same old new prefix after longest changes had within =
+    let own = within prefix had in
+    within_more old new prefix (Some after) longest longest changes within (λ other. omega arith)
+    own.0 own.1
+
+-- a prefix has other zones, or none as before
+pub within_kept : (old mid : Places) (prefix : List ℕ) (longest : List ℕ) → KeepsOthers old mid prefix
+    → is_some (kept_for mid prefix) ≡ is_some (kept_for old prefix) → AreWithin longest old
+    → AreWithin longest mid
+within_kept old mid prefix longest others same within other there =
+    by (bytes_eq prefix other) refl
+  where
+    by : (b : Bool) → bytes_eq prefix other ≡ b
+        → (is_tech_prefix other ≡ true) × (length other ≤ longest_for longest other)
+    by true own =
+        within other
+        (ap is_some (sym (same_kept old prefix other own)) ∙ sym same
+        ∙ ap is_some (same_kept mid prefix other own) ∙ there)
+    by false apart = within other (ap is_some (sym (others other apart)) ∙ there)
+
+-- a prefix is gone
+pub within_less : (old mid new : Places) (prefix : List ℕ) (longest : List ℕ)
+    → IsChangedFor mid new prefix None → KeepsOthers old mid prefix → AreWithin longest old
+    → AreWithin longest new
+within_less old mid new prefix longest changes others within other there =
+    by (bytes_eq prefix other) refl
+  where
+    by : (b : Bool) → bytes_eq prefix other ≡ b
+        → (is_tech_prefix other ≡ true) × (length other ≤ longest_for longest other)
+    by true same =
+        absurd (both_ways (is_some (kept_for new other))
+        (ap is_some (changes other ∙ ap (λ b. cond b None (kept_for mid other)) same)) there)
+    by false apart =
+        within other
+        (ap is_some (sym (changes other ∙ ap (λ b. cond b None (kept_for mid other)) apart
+        ∙ others other apart)) ∙ there)
 
 -- ---- one place more or less
 -- one more prefix of the list
@@ -317,3 +495,22 @@ at_ok f (Err e) h = tt
 pub at_err : {T E P Q : Type 0} → (P → Q) → (r : Result T E) → OnErr r P → OnErr r Q
 at_err f (Ok x) h = tt
 at_err f (Err e) h = f h
+
+-- ---- prefixes that are served
+-- what is kept for a prefix says whether it is served
+pub served_from : (places : Places) (passes : List ℕ → Bool) (prefix : List ℕ)
+    (zones : ZoneNumbers) → Some zones ≡ kept_for places prefix → SomeServes zones passes
+    → IsServed places passes prefix
+served_from places passes prefix zones kept s = record {
+  zone = s.zone;
+  number = s.number;
+  passing = s.passing;
+  there = ap (λ o. found_in o s.zone s.number) (sym kept) ∙ s.there;
+}
+
+pub served_nowhere : (places : Places) (passes : List ℕ → Bool) (prefix : List ℕ)
+    (zones : ZoneNumbers) → Some zones ≡ kept_for places prefix → NoneServesIn zones passes
+    → IsServed places passes prefix → ⊥
+served_nowhere places passes prefix zones kept none s =
+    both_ways (serves_in zones s.zone s.number) (none s.zone s.number s.passing)
+    (ap (λ o. found_in o s.zone s.number) kept ∙ s.there)

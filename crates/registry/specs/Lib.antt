@@ -6,6 +6,7 @@ pub mod Registering
 pub mod Served
 pub mod Roll
 pub mod Listing
+pub mod Learned
 pub mod Chosen
 pub mod GatewayLaws
 pub mod BriefTexts

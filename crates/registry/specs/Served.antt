@@ -1,9 +1,11 @@
--- Which gateways serve a zone with a technology prefix: by zone and prefix, their numbers in order.
-use Rattle.std.specs.Prelude.{◌≡◌, ◌≤◌, ◌<◌, ◌⊎◌, ℕ, ◌==◌, Bool, true, false, not, ◌&&◌, List, [], ◌∷◌, Option, Some, None, bytes_eq, if◌then◌else◌}
+-- Which gateways serve a zone with a technology prefix: by prefix, the zones in which gateways
+-- serve with it, and by zone their numbers in order.
+use Rattle.std.specs.Prelude.{◌≡◌, ◌≤◌, ◌<◌, ◌⊎◌, ℕ, ◌==◌, Bool, true, false, not, cond, ◌&&◌, List, [], ◌∷◌, get_or, length, take, Option, Some, None, is_some, bytes_eq, if◌then◌else◌}
 use Rattle.std.specs.BTreeMap.{is_at}
 use Rattle.std.specs.Ordering.{nat_cmp}
 use Rattle.std.specs.List.{list_any}
 use Rattle.std.specs.Map.{lookup}
+use Rattle.gk_terms.specs.TechPrefix.{is_tech_prefix}
 use Rattle.registry.specs.Endpoint.{EndpointParts}
 use Rattle.registry.specs.Gateway.{serves}
 
@@ -12,10 +14,10 @@ use Rattle.registry.specs.Gateway.{serves}
 abbrev pub has_gateway_number : List ℕ → ℕ → Bool
 has_gateway_number numbers number = list_any (is_at (nat_cmp number)) numbers
 
--- whether no number is listed
-abbrev pub lists_none : List ℕ → Bool
+-- whether nothing is listed
+abbrev pub lists_none : {X : Type 0} → List X → Bool
 lists_none [] = true
-lists_none (number ∷ rest) = false
+lists_none (first ∷ rest) = false
 
 -- new has `there` for that number, and for each other number what old has
 abbrev pub PutsNumber : List ℕ → List ℕ → ℕ → Bool → Type 0
@@ -33,52 +35,84 @@ pub record IsLeastFrom (test : ℕ → Bool) (from number : ℕ) : Type 0 where
   pub from_here : from ≤ number
   pub least : (other : ℕ) → from ≤ other → other < number → test other ≡ false
 
--- ---- the numbers of the gateways that serve a zone with a technology prefix
--- a zone and a technology prefix
-abbrev pub Service : Type 0
-Service = List ℕ × List ℕ
+-- ---- lists by text
+-- what is kept for a text
+abbrev pub kept_for : {X : Type 0} → List (List ℕ × X) → List ℕ → Option X
+kept_for entries text = lookup (bytes_eq text) entries
 
-abbrev pub Places : Type 0
-Places = List (Service × List ℕ)
+-- whether a list was found, and it is empty
+abbrev pub found_empty : {X : Type 0} → Option (List X) → Bool
+found_empty None = false
+found_empty (Some xs) = lists_none xs
 
-abbrev pub same_service : Service → Service → Bool
-same_service x y = bytes_eq x.0 y.0 && bytes_eq x.1 y.1
+-- no empty list is kept
+abbrev pub HasNoEmpty : {X : Type 0} → List (List ℕ × List X) → Type 0
+HasNoEmpty entries = (text : List ℕ) → found_empty (kept_for entries text) ≡ false
 
--- the numbers of those that serve a zone with a prefix, if there are any
-abbrev pub numbers_at : Places → Service → Option (List ℕ)
-numbers_at places service = lookup (same_service service) places
+-- new has what old has for each other text
+abbrev pub KeepsOthers : {X : Type 0} → List (List ℕ × X) → List (List ℕ × X) → List ℕ → Type 0
+KeepsOthers old new text =
+    (other : List ℕ) → bytes_eq text other ≡ false → kept_for new other ≡ kept_for old other
+
+-- new has this for the text, and what old has for each other
+abbrev pub IsChangedFor : {X : Type 0} → List (List ℕ × X) → List (List ℕ × X) → List ℕ → Option X
+    → Type 0
+IsChangedFor old new text after =
+    (other : List ℕ) → kept_for new other ≡ cond (bytes_eq text other) after (kept_for old other)
+
+-- ---- the zones in which gateways serve with one prefix
+-- by zone, the numbers of those that serve there
+abbrev pub ZoneNumbers : Type 0
+ZoneNumbers = List (List ℕ × List ℕ)
 
 -- whether numbers were found, and this is one of them
 abbrev pub found_number : Option (List ℕ) → ℕ → Bool
 found_number None number = false
 found_number (Some numbers) number = has_gateway_number numbers number
 
--- whether numbers were found, and there are none
-abbrev pub found_empty : Option (List ℕ) → Bool
-found_empty None = false
-found_empty (Some numbers) = lists_none numbers
+-- whether the gateway of a number serves in a zone
+abbrev pub serves_in : ZoneNumbers → List ℕ → ℕ → Bool
+serves_in zones zone number = found_number (kept_for zones zone) number
 
--- a zone and a prefix that no gateway serves have no entry
-abbrev pub HasNoEmpty : Places → Type 0
-HasNoEmpty places = (service : Service) → found_empty (numbers_at places service) ≡ false
+-- new has `there` for that number in that zone, and for each other what old has
+abbrev pub PutsIn : ZoneNumbers → ZoneNumbers → List ℕ → ℕ → Bool → Type 0
+PutsIn old new zone number there =
+    (z : List ℕ) (n : ℕ)
+    → serves_in new z n
+    ≡ (if bytes_eq zone z && (number == n) then there else serves_in old z n)
 
--- new has what old has for each other zone or prefix
-abbrev pub KeepsOthers : Places → Places → Service → Type 0
-KeepsOthers old new service =
-    (other : Service) → same_service service other ≡ false
-    → numbers_at new other ≡ numbers_at old other
+-- some gateway serves in a zone that passes
+pub record SomeServes (zones : ZoneNumbers) (passes : List ℕ → Bool) : Type 0 where
+  pub zone : List ℕ
+  pub number : ℕ
+  pub passing : passes zone ≡ true
+  pub there : serves_in zones zone number ≡ true
+
+-- no gateway serves in a zone that passes
+abbrev pub NoneServesIn : ZoneNumbers → (List ℕ → Bool) → Type 0
+NoneServesIn zones passes =
+    (zone : List ℕ) (number : ℕ) → passes zone ≡ true → serves_in zones zone number ≡ false
 
 -- ---- places
+-- by technology prefix, the zones in which gateways serve with it
+abbrev pub Places : Type 0
+Places = List (List ℕ × ZoneNumbers)
+
 -- a zone, a technology prefix and the number of a gateway
 abbrev pub Place : Type 0
 Place = List ℕ × List ℕ × ℕ
 
 abbrev pub same_place : Place → Place → Bool
-same_place x y = same_service (x.0, x.1) (y.0, y.1) && (x.2 == y.2)
+same_place x y = bytes_eq x.0 y.0 && bytes_eq x.1 y.1 && (x.2 == y.2)
+
+-- whether zones were found, and the gateway of a number serves in that one
+abbrev pub found_in : Option ZoneNumbers → List ℕ → ℕ → Bool
+found_in None zone number = false
+found_in (Some zones) zone number = serves_in zones zone number
 
 -- whether the gateway of a place's number serves there
 abbrev pub serves_at : Places → Place → Bool
-serves_at places place = found_number (numbers_at places (place.0, place.1)) place.2
+serves_at places place = found_in (kept_for places place.1) place.0 place.2
 
 -- new has `there` for that place, and for each other place what old has
 abbrev pub Puts : Places → Places → Place → Bool → Type 0
@@ -143,3 +177,40 @@ Leaves old new number gone kept =
 -- the least number from here on under which a gateway serves the zone with the prefix
 abbrev pub IsNext : Places → List ℕ → List ℕ → ℕ → ℕ → Type 0
 IsNext places zone prefix = IsLeastFrom (λ number. serves_at places (zone, prefix, number))
+
+-- ---- prefixes that are served
+-- what is kept for the first character of a text; 0 if it has none
+abbrev pub longest_for : List ℕ → List ℕ → ℕ
+longest_for longest [] = 0
+longest_for longest (first ∷ rest) = get_or longest first 0
+
+-- each is a technology prefix, of at most as many characters as are kept for its first one
+abbrev pub AreWithin : List ℕ → Places → Type 0
+AreWithin longest places =
+    (prefix : List ℕ) → is_some (kept_for places prefix) ≡ true
+    → (is_tech_prefix prefix ≡ true) × (length prefix ≤ longest_for longest prefix)
+
+-- some gateway serves with the prefix, in a zone that passes
+pub record IsServed (places : Places) (passes : List ℕ → Bool) (prefix : List ℕ) : Type 0 where
+  pub zone : List ℕ
+  pub number : ℕ
+  pub passing : passes zone ≡ true
+  pub there : serves_at places (zone, prefix, number) ≡ true
+
+-- the longest prefix with which the text begins and with which some gateway serves in a zone that
+-- passes, of those that have more characters than `least`
+pub record IsLongestServed
+    (places : Places) (passes : List ℕ → Bool) (text : List ℕ) (least : ℕ) (prefix : List ℕ)
+    : Type 0 where
+  pub longer : least < length prefix
+  pub within : length prefix ≤ length text
+  pub begins : prefix ≡ take (length prefix) text
+  pub served : IsServed places passes prefix
+  pub longest : (count : ℕ) → length prefix < count → count ≤ length text
+      → IsServed places passes (take count text) → ⊥
+
+-- there is none
+abbrev pub NoneIsServed : Places → (List ℕ → Bool) → List ℕ → ℕ → Type 0
+NoneIsServed places passes text least =
+    (count : ℕ) → least < count → count ≤ length text → IsServed places passes (take count text)
+    → ⊥

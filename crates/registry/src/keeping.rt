@@ -25,7 +25,7 @@ pub fn keep_zones(shelf: &mut Shelf, tables: &Tables)
 }
 
 /// Whether the zone of this very name is a local one; `-` is a name like any other here.
-fn is_local(tables: &Tables, zone: &Name) -> bool
+pub fn is_local(tables: &Tables, zone: &Name) -> bool
     ensures { result ≡ is_local tables.now.commands zone.now }
 {
     match tables.zone_of(zone) {

@@ -17,6 +17,7 @@ mod listing;
 pub mod registry;
 mod roll;
 mod served;
+mod served_zones;
 mod shelf;
 
 pub use brief_endpoint::BriefEndpoint;

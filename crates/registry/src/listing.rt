@@ -6,6 +6,8 @@ ghost use Rattle.std.specs.Ordering.{nat_cmp};
 ghost use Rattle.std.specs.List.{IsDistinct};
 ghost use Rattle.std.specs.List.Sorted.{IsStrictlySortedBy};
 ghost use Rattle.std.specs.Map.{keys_of, values_of};
+ghost use Rattle.compiler.specs.Technology.{longest_learned};
+ghost use Rattle.registry.specs.Learned.{learned_prefixes};
 ghost use Rattle.registry.specs.Listing.{IsNextServing, NoneServes};
 ghost use Rattle.registry.specs.Roll.{IsChangedAt, IsNextFrom, IsNumberFor, IsPut, IsSetAt, IsTakenOut, NoneFrom, at_number, by_id, kept_endpoint_of};
 
@@ -14,6 +16,7 @@ use crate::endpoints::Endpoint;
 use crate::held_endpoint::HeldEndpoint;
 use crate::roll::Roll;
 use crate::served::Served;
+use compiler::Tables;
 use gk_terms::{Name, TechPrefix};
 use std::alloc::{AllocError, Global};
 use std::collections::btree_map::Values;
@@ -114,6 +117,17 @@ impl Listing {
             (IsNextServing self.now.entries zone.now prefix.now from) }
     {
         self.served.next_from(zone, prefix, from)
+    }
+
+    /// The longest technology prefix with which the text begins, of those of gateways whose zone is
+    /// a local one of these tables that have more than `least` characters.
+    pub fn learned(&self, tables: &Tables, text: &[u8], least: usize) -> Option<TechPrefix>
+        ensures { result ≡ longest_learned
+            (learned_prefixes tables.now.commands (values_of self.now.entries)) text.now least }
+    {
+        // So it is known that the numbers ascend.
+        let _next = self.roll.next();
+        self.served.longest_local(tables, text, least)
     }
 
     /// The endpoints, in order.

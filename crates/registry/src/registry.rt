@@ -6,6 +6,8 @@ ghost use Rattle.gk_terms.specs.Outcome.{Changes, ChangesUnlessMemory};
 ghost use Rattle.registry.specs.declared.faults.RegistryFault.TheVariants.{NoMemory};
 ghost use Rattle.registry.specs.Registration.{IsRegistry, endpoint_of, is_registered, by_alias, is_full_for, alias_is_taken, placement_of, with_endpoint, registered_in, unregistered_in, with_kept_zones};
 ghost use Rattle.compiler.specs.Plan.{row_meant};
+ghost use Rattle.compiler.specs.Technology.{longest_learned};
+ghost use Rattle.registry.specs.Learned.{learned_prefixes};
 ghost use Rattle.registry.specs.Gateway.{gateway_of};
 ghost use Rattle.registry.specs.Registering.{placement_among};
 
@@ -111,6 +113,24 @@ impl Registry {
                 self.shelf.chosen(zone, prefix, &named)
             }
         }
+    }
+
+    /// The longest technology prefix with which the digits begin, of those that have more than
+    /// `longer_than` characters and that a registered gateway gave whose zone is a local one of
+    /// these tables. Terminals' prefixes do not count. Takes no memory. The time does not grow with
+    /// the number of the endpoints or of their prefixes: at most one text is looked up for each
+    /// length that a prefix may have, and of the zones of a prefix those up to the first local one
+    /// are asked. This project's profile.
+    pub fn learned(
+        &self,
+        tables: &Tables,
+        digits: &Dialled,
+        longer_than: usize,
+    ) -> Option<TechPrefix>
+        ensures { result ≡ longest_learned
+            (learned_prefixes tables.now.commands self.now.endpoints) digits.now longer_than }
+    {
+        self.shelf.learned(tables, digits.as_bytes(), longer_than)
     }
 
     #[tactic(auto, using(crate::proofs::RegisteringLemmas::placement_of_local))]

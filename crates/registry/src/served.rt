@@ -1,37 +1,43 @@
 //! Which gateways serve a zone with a technology prefix.
 
-ghost use Rattle.std.specs.Prelude.{◌≡◌, ◌≤◌, [], true, false, Some, OnOk, OnErr, MatchOption};
+ghost use Rattle.std.specs.Prelude.{◌≡◌, ◌≤◌, ℕ, List, [], length, true, false, Some, OnOk, OnErr, IfSome, MatchOption, is_some};
 ghost use Rattle.std.specs.Option.{option_copied};
+ghost use Rattle.command_reader.specs.Zones.{is_local};
+ghost use Rattle.gk_terms.specs.TechPrefix.{is_tech_prefix};
 ghost use Rattle.registry.specs.Roll.{at_number};
-ghost use Rattle.registry.specs.Served.{Puts, AddsPlaces, MayAddPlaces, TakesOut, Enters, MayEnter, KeepsOthers, Leaves, IsNext, serves_at, found_empty, found_serving, numbers_at};
+ghost use Rattle.registry.specs.Served.{Puts, AddsPlaces, MayAddPlaces, TakesOut, Enters, MayEnter, KeepsOthers, Leaves, IsLongestServed, IsNext, IsServed, NoneIsServed, serves_at, found_empty, found_serving, kept_for, longest_for};
 
 use crate::endpoints::{Endpoint, EndpointKind};
-use crate::gateway_numbers::GatewayNumbers;
 use crate::held_endpoint::HeldEndpoint;
 use crate::roll::Roll;
+use crate::served_zones::ServedZones;
+use compiler::{Tables, technology_bytes};
+use gk_terms::limits::MOST_TECHNOLOGY;
 use gk_terms::{Name, TechPrefix};
 use std::alloc::{AllocError, Global};
 use std::collections::HashMap;
 use std::marker::Model;
 
-/// Which gateways serve a zone with a technology prefix: by zone and prefix, their numbers in
-/// order. So a look-up hashes the zone and the prefix once, and then compares numbers alone. A zone
-/// and a prefix that no gateway serves have no entry, so nothing stays of what was once served. A
-/// contract sees the entries.
+/// Which gateways serve a zone with a technology prefix: by prefix, the zones in which gateways
+/// serve with it, each with their numbers in order. So whatever begins dialled digits is found by
+/// its text. A prefix with which no gateway serves has no entry, so nothing stays of what was once
+/// served. By a first character, `longest` has a number of characters that no prefix which begins
+/// with it passes, so that most digits need no look-up. A contract sees the entries.
 #[derive(Drop)]
 pub struct Served {
-    numbers: HashMap<(Name, TechPrefix), GatewayNumbers>,
+    zones: HashMap<TechPrefix, ServedZones>,
+    longest: [u8; 256],
     alloc: Global,
 }
 
 impl Model for Served {
-    ghost use Rattle.registry.specs.Served.{Places, HasNoEmpty};
+    ghost use Rattle.registry.specs.Served.{AreWithin, HasNoEmpty, Places};
 
     ghost Value = { Places };
 
-    ghost view = { λ s. s.numbers.entries };
+    ghost view = { λ s. s.zones.entries };
 
-    ghost invariant = { λ s. HasNoEmpty s.numbers.entries };
+    ghost invariant = { λ s. HasNoEmpty s.zones.entries × AreWithin s.longest s.zones.entries };
 }
 
 impl Served {
@@ -40,7 +46,8 @@ impl Served {
         ensures { result ≡ [] }
     {
         Served {
-            numbers: HashMap::new(alloc),
+            zones: HashMap::new(alloc),
+            longest: [0; 256],
             alloc,
         }
     }
@@ -52,35 +59,72 @@ impl Served {
             → serves_at self.now (zone.now, prefix.now, number) ≡ false)
             (IsNext self.now zone.now prefix.now from) }
     {
-        match self.numbers.get(&(*zone, *prefix)) {
-            Some(numbers) => numbers.next_from(from),
+        match self.zones.get(prefix) {
+            Some(zones) => zones.next_from(zone, from),
             None => None,
         }
     }
 
+    /// The longest prefix with which the text begins and with which a gateway serves in a zone that
+    /// is a local one of these tables, of those that have more than `least` characters. Looks up at
+    /// most one text for each length up to that of the longest prefix with the same first character.
+    pub fn longest_local(&self, tables: &Tables, text: &[u8], least: usize) -> Option<TechPrefix>
+        ensures { MatchOption result
+            (NoneIsServed self.now (is_local tables.now.commands) text.now least)
+            (IsLongestServed self.now (is_local tables.now.commands) text.now least) }
+    {
+        let longest = longest_for(&self.longest, text);
+        let front = &text[..text.len().min(longest)];
+        let most = technology_bytes(front).min(MOST_TECHNOLOGY);
+        for shorter in 0..most.saturating_sub(least) {
+            if let Some(prefix) = self.served_as(tables, &text[..most - shorter]) {
+                return Some(prefix);
+            }
+        }
+        None
+    }
+
+    /// The text as a prefix, if a gateway serves with it in a local zone.
+    fn served_as(&self, tables: &Tables, text: &[u8]) -> Option<TechPrefix>
+        requires { is_tech_prefix text.now ≡ true }
+        ensures spells { IfSome result (λ prefix. prefix ≡ text.now) }
+        ensures served { MatchOption result
+            (IsServed self.now (is_local tables.now.commands) text.now → ⊥)
+            (λ _. IsServed self.now (is_local tables.now.commands) text.now) }
+    {
+        let prefix = as_prefix(text)?;
+        let zones = self.zones.get(&prefix)?;
+        if zones.has_local(tables) {
+            Some(prefix)
+        } else {
+            None
+        }
+    }
+
     /// Adds one place.
-    fn add(&mut self, zone: Name, prefix: TechPrefix, number: u32) -> Result<(), AllocError>
-        ensures ok { OnOk result (Puts self.old self.new (zone, prefix, number) true) }
+    fn add(&mut self, zone: &Name, prefix: &TechPrefix, number: u32) -> Result<(), AllocError>
+        ensures ok { OnOk result (Puts self.old self.new (zone.now, prefix.now, number) true) }
         ensures err { OnErr result (self.new ≡ self.old) }
     {
-        let service = (zone, prefix);
-        if let Some(numbers) = self.numbers.get_mut(&service) {
-            return numbers.add(number);
+        if let Some(zones) = self.zones.get_mut(prefix) {
+            return zones.add(zone, number, self.alloc);
         }
-        let first = GatewayNumbers::of(number, self.alloc)?;
-        match self.numbers.insert(service, first) {
-            Ok(_) => Ok(()),
+        let first = ServedZones::of(zone, number, self.alloc)?;
+        match self.zones.insert(*prefix, first) {
+            Ok(_) => {
+                lengthen(&mut self.longest, prefix);
+                Ok(())
+            }
             Err(_) => Err(AllocError),
         }
     }
 
     /// Takes out one place, if it is there.
-    fn take_out(&mut self, zone: Name, prefix: TechPrefix, number: u32)
-        ensures { Puts self.old self.new (zone, prefix, number) false }
+    fn take_out(&mut self, zone: &Name, prefix: &TechPrefix, number: u32)
+        ensures { Puts self.old self.new (zone.now, prefix.now, number) false }
     {
-        let service = (zone, prefix);
-        if is_last_taken(&mut self.numbers, &service, number) {
-            drop(self.numbers.remove(&service));
+        if is_last_taken(&mut self.zones, zone, prefix, number) {
+            drop(self.zones.remove(prefix));
         }
     }
 
@@ -96,7 +140,7 @@ impl Served {
         ensures err { OnErr result (MayAddPlaces self.old self.new number zone prefixes.now) }
     {
         for prefix in prefixes {
-            self.add(zone, *prefix, number)?;
+            self.add(&zone, prefix, number)?;
         }
         Ok(())
     }
@@ -114,7 +158,7 @@ impl Served {
     {
         for prefix in prefixes {
             if !serves(kept, &zone, prefix) {
-                self.take_out(zone, *prefix, number);
+                self.take_out(&zone, prefix, number);
             }
         }
     }
@@ -167,21 +211,55 @@ impl Served {
     }
 }
 
-/// Takes out one place, if it is there. Gives whether no number is left where one was.
+/// How many characters a prefix with the first character of this text may have.
+fn longest_for(longest: &[u8; 256], text: &[u8]) -> usize
+    ensures { result ≡ longest_for longest.now text.now }
+{
+    match text {
+        [first, ..] => longest[*first as usize] as usize,
+        [] => 0,
+    }
+}
+
+/// Lets a prefix with the first character of this one have as many characters as this one has.
+fn lengthen(longest: &mut [u8; 256], prefix: &TechPrefix)
+    ensures own { length prefix.now ≤ longest_for longest.new prefix.now }
+    ensures others { (other : List ℕ)
+        → longest_for longest.old other ≤ longest_for longest.new other }
+    ensures text { is_tech_prefix prefix.now ≡ true }
+{
+    let text = prefix.as_bytes();
+    if let [first, ..] = text {
+        let place = *first as usize;
+        longest[place] = longest[place].max(text.len() as u8);
+    }
+}
+
+/// The text, which is a prefix, as one.
+fn as_prefix(text: &[u8]) -> Option<TechPrefix>
+    requires { is_tech_prefix text.now ≡ true }
+    ensures { result ≡ Some text.now }
+{
+    TechPrefix::read(text).ok()
+}
+
+/// Takes out one place, if it is there. Gives whether no zone is left where one was.
 fn is_last_taken(
-    numbers: &mut HashMap<(Name, TechPrefix), GatewayNumbers>,
-    service: &(Name, TechPrefix),
+    zones: &mut HashMap<TechPrefix, ServedZones>,
+    zone: &Name,
+    prefix: &TechPrefix,
     number: u32,
 ) -> bool
-    ensures puts { Puts numbers.old.entries numbers.new.entries
-        (service.now.0, service.now.1, number) false }
-    ensures others { KeepsOthers numbers.old.entries numbers.new.entries service.now }
-    ensures empty { result ≡ found_empty (numbers_at numbers.new.entries service.now) }
+    ensures puts { Puts zones.old.entries zones.new.entries (zone.now, prefix.now, number) false }
+    ensures others { KeepsOthers zones.old.entries zones.new.entries prefix.now }
+    ensures there { is_some (kept_for zones.new.entries prefix.now)
+        ≡ is_some (kept_for zones.old.entries prefix.now) }
+    ensures empty { result ≡ found_empty (kept_for zones.new.entries prefix.now) }
 {
-    match numbers.get_mut(service) {
-        Some(numbers) => {
-            numbers.take_out(number);
-            numbers.is_empty()
+    match zones.get_mut(prefix) {
+        Some(zones) => {
+            zones.take_out(zone, number);
+            zones.is_empty()
         }
         None => false,
     }

@@ -8,6 +8,8 @@ ghost use Rattle.std.specs.List.Sorted.{IsStrictlySortedBy};
 ghost use Rattle.std.specs.Map.{keys_of};
 ghost use Rattle.std.specs.HashMap.{spare};
 ghost use Rattle.compiler.specs.Priority.{named_priority};
+ghost use Rattle.compiler.specs.Technology.{longest_learned};
+ghost use Rattle.registry.specs.Learned.{learned_prefixes};
 ghost use Rattle.registry.specs.Registration.{HaveDifferentIds, ShareNoAlias, endpoint_of, by_alias, is_registered, id_is_taken, alias_is_taken, with_endpoint, without_endpoint};
 ghost use Rattle.registry.specs.RegistryIndex.{Forgets, LeadTo, aliases_of, is_of_another, owner_of};
 ghost use Rattle.registry.specs.Gateway.{gateway_by};
@@ -17,6 +19,7 @@ use crate::choosing;
 use crate::endpoints::Endpoint;
 use crate::held_endpoint::{HeldEndpoint, endpoint_in};
 use crate::listing::Listing;
+use compiler::Tables;
 use gk_terms::{Dialled, Name, TechPrefix};
 use indexmap::IndexMap;
 use std::alloc::{AllocError, Global};
@@ -126,6 +129,15 @@ impl Shelf {
             (endpoints_of self.now) zone.now prefix.now }
     {
         choosing::chosen(&self.listing, zone, prefix, named)
+    }
+
+    /// The longest technology prefix with which the text begins, of those of gateways whose zone is
+    /// a local one of these tables that have more than `least` characters.
+    pub fn learned(&self, tables: &Tables, text: &[u8], least: usize) -> Option<TechPrefix>
+        ensures { result ≡ longest_learned
+            (learned_prefixes tables.now.commands (endpoints_of self.now)) text.now least }
+    {
+        self.listing.learned(tables, text, least)
     }
 
     /// Whether the endpoint's ID is registered from another address.

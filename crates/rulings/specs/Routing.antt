@@ -4,13 +4,14 @@ use Rattle.std.specs.Prelude.{ℕ, List, Option, Some, None, option_map}
 use Rattle.command_reader.specs.declared.commands.Command.{Command}
 use Rattle.compiler.specs.Rows.{ZoneRow}
 use Rattle.compiler.specs.Technology.{default_technology_of}
-use Rattle.compiler.specs.Plan.{Target, RemoteZone, LocalZone, CallersZone, UnknownPrefix, plan_of, zone_of_target}
+use Rattle.compiler.specs.Plan.{Target, RemoteZone, LocalZone, CallersZone, UnknownPrefix, plan_with, zone_of_target}
 use Rattle.compiler.specs.Zones.{zone_at}
 use Rattle.registry.specs.declared.endpoints.EndpointKind.{EndpointKind}
 use Rattle.registry.specs.declared.endpoints.EndpointKind.TheVariants.{Gateway, Terminal}
 use Rattle.registry.specs.Endpoint.{EndpointParts}
 use Rattle.registry.specs.Registration.{by_alias}
 use Rattle.registry.specs.Gateway.{gateway_of}
+use Rattle.registry.specs.Learned.{learned_prefixes}
 use Rattle.rulings.specs.declared.routes.Destination.{Destination}
 use Rattle.rulings.specs.declared.routes.Destination.TheVariants as destinations
 use Rattle.rulings.specs.declared.routes.Route.{Route}
@@ -59,10 +60,11 @@ route_of_target commands endpoints caller digits (CallersZone technology) =
     in_local_zone commands endpoints caller None digits technology
 route_of_target commands endpoints caller digits UnknownPrefix = Refused refusals.UnknownPrefix
 
--- the target of dialled digits, by the commands and the registered endpoints: today the commands
--- alone decide
+-- the target of dialled digits, by the commands and by the technology prefixes that registered
+-- gateways gave
 abbrev pub target_for : List Command → List EndpointParts → List ℕ → Target
-target_for commands endpoints digits = plan_of commands digits
+target_for commands endpoints digits =
+    plan_with (learned_prefixes commands endpoints) commands digits
 
 -- where a call of a caller of this zone goes
 unfoldable pub route_of : List Command → List EndpointParts → List ℕ → List ℕ → Route

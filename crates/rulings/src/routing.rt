@@ -1,11 +1,11 @@
 //! Where dialled digits lead: the plan of the tables, and then an endpoint of the target zone.
 
-ghost use Rattle.std.specs.Prelude.{◌≡◌, ℕ, List, Some, None, IfSome, IsSome, option_and_then};
+ghost use Rattle.std.specs.Prelude.{◌≡◌, ℕ, List, Some, None, IfSome, IsSome, nat_lt, length, option_and_then};
 ghost use Rattle.std.specs.Option.{option_copied};
 ghost use Rattle.command_reader.specs.declared.commands.Command.{Command};
 ghost use Rattle.compiler.specs.Plan as Plans;
 ghost use Rattle.compiler.specs.Zones.{zone_at};
-ghost use Rattle.compiler.specs.Technology.{default_technology_of};
+ghost use Rattle.compiler.specs.Technology.{default_technology_of, found_length};
 ghost use Rattle.registry.specs.Registration.{by_alias};
 ghost use Rattle.rulings.specs.Lent.{route_meant};
 ghost use Rattle.rulings.specs.Routing as Spec;
@@ -18,12 +18,14 @@ use registry::{Endpoint, Registry};
 
 /// Where the digits lead a caller of this zone, by the configuration and the registered endpoints.
 ///
-/// A technology prefix with a hop-off zone leads to that zone, and one without is taken off the
-/// digits. The zone of the longest pattern that matches is the target, else the caller's zone,
-/// unless the configuration rejects such digits. A remote zone is the destination itself. In a
-/// local zone it is a gateway for the technology prefix, if there was one; else the endpoint that
-/// has all of the digits as an alias; else a gateway for the default technology, if one is set.
-/// This project's profile, after Cisco's flow for an admission request.
+/// The technology prefix of the digits is the longest with which they begin, of those that are
+/// declared and of those that gateways of local zones gave when they registered. One that is
+/// declared with a hop-off zone leads to that zone, and any other is taken off the digits. The zone
+/// of the longest pattern that matches is the target, else the caller's zone, unless the
+/// configuration rejects such digits. A remote zone is the destination itself. In a local zone it
+/// is a gateway for the technology prefix, if there was one; else the endpoint that has all of the
+/// digits as an alias; else a gateway for the default technology, if one is set. This project's
+/// profile, after Cisco's flow for an admission request.
 pub fn route(tables: &Tables, registry: &Registry, caller: &Name, digits: &Dialled) -> Route
     ensures { result ≡ Spec.route_of
         tables.now.commands registry.now.endpoints caller.now digits.now }
@@ -45,10 +47,38 @@ pub fn led<'a>(
         ≡ Some (Spec.target_zone_of tables.now.commands registry.now.endpoints caller.now
         digits.now) }
 {
-    let plan = tables.plan(digits);
+    let plan = plan_beside(tables, registry, &tables.plan(digits), digits);
     Led {
         route: route_of_plan(tables, registry, &plan, caller, digits),
         zone: zone_of_plan(tables, &plan),
+    }
+}
+
+/// What the configuration and the registered endpoints say of the digits, if this plan is what the
+/// configuration alone says of them: they differ if the digits begin with a technology prefix that
+/// a gateway gave, and that is longer than the declared one.
+pub fn plan_beside(tables: &Tables, registry: &Registry, plan: &Plan, digits: &Dialled) -> Plan
+    requires planned { Plans.target_of tables.now.commands plan.now
+        ≡ Some (Plans.plan_of tables.now.commands digits.now) }
+    ensures { Plans.target_of tables.now.commands result
+        ≡ Some (Spec.target_for tables.now.commands registry.now.endpoints digits.now) }
+{
+    let Some(prefix) = registry.learned(tables, digits, 0) else {
+        return *plan;
+    };
+    if !is_longer(&prefix, &tables.declared(digits)) {
+        return *plan;
+    }
+    tables.plan_after(digits, &prefix)
+}
+
+/// Whether a prefix has more characters than the declared one, if one was found.
+fn is_longer(prefix: &TechPrefix, declared: &Option<TechPrefix>) -> bool
+    ensures { result ≡ nat_lt (found_length declared.now) (length prefix.now) }
+{
+    match declared {
+        Some(declared) => declared.as_bytes().len() < prefix.as_bytes().len(),
+        None => !prefix.as_bytes().is_empty(),
     }
 }
 

@@ -17,7 +17,7 @@ use crate::lent_rulings::LentRuling;
 use crate::machine::Machine;
 use crate::registering::refusal_of;
 use crate::replies::{ChangeRefusal, RegisterRefusal, ReleaseRefusal, UnregisterRefusal};
-use crate::routing::{is_remote, route_of_plan, target_zone};
+use crate::routing::{is_remote, plan_beside, route_of_plan, target_zone};
 use bandwidth::OpenCall;
 use compiler::{Plan, Tables};
 use gk_terms::{Dialled, Name, Units};
@@ -137,9 +137,10 @@ impl Machine {
     // ---- admissions
 
     #[tactic(auto, using(crate::proofs::AdmittingLemmas::caller_has_id), unfolding(crate::specs::Ruling::ruling_of))]
-    /// The ruling on an admission; the plan is what the commands in force say of the digits. The
-    /// refusals are tried in this order: the caller is not registered; a call of the number is
-    /// open; the digits lead nowhere; a sum of the call would be above its limit.
+    /// The ruling on an admission. The plan is what the commands in force say of the digits; the
+    /// technology prefixes that gateways gave are added here. The refusals are tried in this order:
+    /// the caller is not registered; a call of the number is open; the digits lead nowhere; a sum of
+    /// the call would be above its limit.
     pub fn admission<'a>(
         &'a self,
         tables: &'a Tables,
@@ -161,6 +162,7 @@ impl Machine {
         if self.calls().is_open(call) {
             return LentRuling::CallOpen { call, source };
         }
+        let plan = &plan_beside(tables, self.registry(), plan, digits);
         match route_of_plan(tables, self.registry(), plan, source, digits) {
             LentRoute::Refused(refusal) => LentRuling::NoRoute {
                 call,

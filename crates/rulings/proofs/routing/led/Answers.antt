@@ -9,4 +9,4 @@ of_found P o found is holds = subst (λ p. IfSome p P) is holds
 
 pub returns-clause-zone : goal.returns-clause-zone
 returns-clause-zone c =
-    of_found _ _ _ c.plan-plan.ensures (c.zone_of_plan.ensures c.args.caller.now)
+    of_found _ _ _ c.plan_beside-plan.ensures (c.zone_of_plan.ensures c.args.caller.now)
