@@ -9,7 +9,6 @@ use Rattle.bandwidth.specs.declared.open_call.OpenCall.{OpenCall}
 use Rattle.bandwidth.specs.declared.over.Over.{Over}
 use Rattle.bandwidth.specs.Calls.{call_of, is_open, owns, has_owner}
 use Rattle.bandwidth.specs.Fits.{over_of}
-use Rattle.compiler.specs.Plan.{plan_of}
 use Rattle.rulings.specs.declared.replies.RegisterRefusal.{RegisterRefusal}
 use Rattle.rulings.specs.declared.replies.ReleaseRefusal.{ReleaseRefusal}
 use Rattle.rulings.specs.declared.replies.Reply.{Reply}
@@ -26,7 +25,7 @@ use Rattle.rulings.specs.Ruling.{Ruling}
 use Rattle.rulings.specs.State.{State, free_places}
 use Rattle.command_reader.specs.declared.commands.Command.{Command}
 use Rattle.rulings.specs.Events.{PlainEvent, Registering, Unregistering, Admitting, Changing, Releasing, Reloading, endpoint_asking, put_in_force}
-use Rattle.rulings.specs.Routing.{route_of}
+use Rattle.rulings.specs.Routing.{target_for, route_of}
 use Rattle.rulings.specs.Ruling.{unrouted, register_refusal, registration_unless, unregistration_ruling, admitted_call, admission_unless, admission_to, call_open_ruling, admission_ruling, change_unless, change_ruling, release_refused, release_ruling, ruling_of}
 use Rattle.rulings.specs.Step.{is_recorded, places_needed, record_full_reply_of, record_refusal, are_endpoints_full, are_calls_full, count_refusal, with_registered, with_commands, with_effect, no_memory_reply_of}
 use Rattle.admission.specs.HistoryLaws.{IsWithinLimits}
@@ -76,12 +75,13 @@ module _ (s : State) where
     to_founded : (caller : EndpointParts) (route : Route)
         → is_open s.calls call ≡ false
         → are_calls_full s
-        (admission_to s caller call units (plan_of s.commands digits) route).effect ≡ false
+        (admission_to s caller call units (target_for s.commands s.endpoints digits) route).effect
+        ≡ false
         → IsFounded s (Admitting id call digits units)
-        (admission_to s caller call units (plan_of s.commands digits) route).effect
+        (admission_to s caller call units (target_for s.commands s.endpoints digits) route).effect
     to_founded caller (Refused refusal) closed room = tt
     to_founded caller (To destination) closed room =
-        let admitted = admitted_call caller call units (plan_of s.commands digits) in
+        let admitted = admitted_call caller call units (target_for s.commands s.endpoints digits) in
         within_founded caller.zone destination admitted (over_of s.commands s.calls admitted)
         closed room
 
@@ -95,11 +95,11 @@ module _ (s : State) where
         by : (there : Bool) → is_open s.calls call ≡ there
             → are_calls_full s
             (cond there (call_open_ruling caller call)
-            (admission_to s caller call units (plan_of s.commands digits)
+            (admission_to s caller call units (target_for s.commands s.endpoints digits)
             (route_of s.commands s.endpoints caller.zone digits))).effect ≡ false
             → IsFounded s (Admitting id call digits units)
             (cond there (call_open_ruling caller call)
-            (admission_to s caller call units (plan_of s.commands digits)
+            (admission_to s caller call units (target_for s.commands s.endpoints digits)
             (route_of s.commands s.endpoints caller.zone digits))).effect
         by true same room = tt
         by false same room =

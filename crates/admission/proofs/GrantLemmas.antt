@@ -3,7 +3,6 @@ use Rattle.std.proofs.Common.{◌≡◌, Bool, true, false, cond, List, Option, 
 use Rattle.std.specs.Prelude.{ℕ}
 use Rattle.registry.specs.Endpoint.{EndpointParts}
 use Rattle.registry.specs.Registration.{endpoint_of, is_registered}
-use Rattle.compiler.specs.Plan.{plan_of}
 use Rattle.bandwidth.specs.declared.open_call.OpenCall.{OpenCall}
 use Rattle.bandwidth.specs.declared.over.Over.{Over}
 use Rattle.bandwidth.specs.Calls.{call_of, is_open, owns, has_owner}
@@ -22,7 +21,7 @@ use Rattle.rulings.specs.declared.rulings.Effect.TheVariants.{Nothing, Remove, O
 use Rattle.rulings.specs.Ruling.{Ruling}
 use Rattle.rulings.specs.State.{State}
 use Rattle.rulings.specs.Events.{PlainEvent, Registering, Unregistering, Admitting, Changing, Releasing, Reloading}
-use Rattle.rulings.specs.Routing.{route_of}
+use Rattle.rulings.specs.Routing.{target_for, route_of}
 use Rattle.admission.specs.HistoryLaws.{Asks, ToBeAdmitted, ToBeChanged, sum_named}
 use Rattle.rulings.specs.Ruling.{unrouted, register_refusal, registration_unless, unregistration_ruling, admitted_call, admission_unless, admission_to, call_open_ruling, admission_ruling, change_unless, change_ruling, release_refused, release_ruling, ruling_of}
 
@@ -82,27 +81,30 @@ module _ (s : State) where
     within_behind : (caller : EndpointParts) (destination : Destination) (over : Option Over)
         → endpoint_of s.endpoints id ≡ Some caller
         → over_of s.commands s.calls
-        (admitted_call caller call units (plan_of s.commands digits)) ≡ over
+        (admitted_call caller call units (target_for s.commands s.endpoints digits)) ≡ over
         → is_open s.calls call ≡ false
         → IsBehind s (Admitting id call digits units)
         (admission_unless caller.zone destination
-        (admitted_call caller call units (plan_of s.commands digits)) over)
+        (admitted_call caller call units (target_for s.commands s.endpoints digits)) over)
     within_behind caller destination (Some over) there fits closed =
-        Refusing refl over (admitted_call caller call units (plan_of s.commands digits)) refl
+        Refusing refl over
+        (admitted_call caller call units (target_for s.commands s.endpoints digits)) refl
         (ToBeAdmitted id digits call units caller there) fits
     within_behind caller destination None there fits closed =
-        Opening destination (admitted_call caller call units (plan_of s.commands digits)) refl refl
+        Opening destination
+        (admitted_call caller call units (target_for s.commands s.endpoints digits)) refl refl
         closed fits
 
     to_behind : (caller : EndpointParts) (route : Route)
         → endpoint_of s.endpoints id ≡ Some caller → is_open s.calls call ≡ false
         → IsBehind s (Admitting id call digits units)
-        (admission_to s caller call units (plan_of s.commands digits) route)
+        (admission_to s caller call units (target_for s.commands s.endpoints digits) route)
     to_behind caller (Refused refusal) there closed = Other refl refl
     to_behind caller (To destination) there closed =
         within_behind caller destination
         (over_of s.commands s.calls
-        (admitted_call caller call units (plan_of s.commands digits))) there refl closed
+        (admitted_call caller call units (target_for s.commands s.endpoints digits))) there refl
+        closed
 
     admission_behind : (caller : Option EndpointParts) → endpoint_of s.endpoints id ≡ caller
         → IsBehind s (Admitting id call digits units) (admission_ruling s call digits units caller)
@@ -112,7 +114,7 @@ module _ (s : State) where
         by : (open_already : Bool) → is_open s.calls call ≡ open_already
             → IsBehind s (Admitting id call digits units)
             (cond open_already (call_open_ruling caller call)
-            (admission_to s caller call units (plan_of s.commands digits)
+            (admission_to s caller call units (target_for s.commands s.endpoints digits)
             (route_of s.commands s.endpoints caller.zone digits)))
         by true same = Other refl refl
         by false same =

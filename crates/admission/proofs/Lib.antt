@@ -1,6 +1,7 @@
 pub mod AnsweringLemmas
 pub mod CallsLemmas
 pub mod CoreLemmas
+pub mod EndpointLaws
 pub mod EnteringLemmas
 pub mod EventLemmas
 pub mod FirstLaws

@@ -10,9 +10,9 @@ use Rattle.command_reader.specs.Configuration.{Configuration}
 use Rattle.command_reader.specs.Progress.{NumberedCommand, Progress, commands_in, line_count}
 use Rattle.command_reader.specs.Reading.{names_unknown, unknown_zone, zones_checked, finished, finished_of, fault_at, lines_after, nothing_read, reading_in}
 use Rattle.command_reader.specs.declared.faults.FaultKind.TheVariants.{NoLocalZone}
-use Rattle.compiler.specs.Plan.{plan_of}
 use Rattle.registry.specs.Endpoint.{EndpointParts}
 use Rattle.registry.specs.Registration.{endpoint_of}
+use Rattle.registry.specs.Learned.{learned_prefixes}
 use Rattle.bandwidth.specs.Calls.{is_open}
 use Rattle.rulings.specs.declared.routes.Destination.{Destination}
 use Rattle.rulings.specs.declared.routes.Route.{Route}
@@ -22,18 +22,18 @@ use Rattle.rulings.specs.declared.replies.AdmitRefusal.TheVariants.{CallerNotReg
 use Rattle.rulings.specs.declared.replies.Reply.{Reply}
 use Rattle.rulings.specs.declared.replies.Reply.TheVariants.{Admitted, AdmitRefused}
 use Rattle.rulings.specs.State.{State}
-use Rattle.rulings.specs.Routing.{route_of_target, route_of}
+use Rattle.rulings.specs.Routing.{route_of_target, target_for, route_of}
 use Rattle.rulings.specs.Events.{Admitting}
 use Rattle.rulings.specs.Ruling.{admitted_call, admission_unless, admission_to, call_open_ruling, admission_ruling, ruling_of, verdict_of}
 use Rattle.bandwidth.specs.declared.open_call.OpenCall.{OpenCall}
 use Rattle.bandwidth.specs.declared.over.Over.{Over}
 use Rattle.bandwidth.specs.Fits.{over_of}
 use Rattle.registry.specs.Registration.{has_id}
-use Rattle.admission.specs.RouteLaws.{IsRouted, IsUnrouted, AdmissionsAreRouted, RefusalsAreUnrouted, StrangersAreRefused, OpenNumbersAreRefused}
+use Rattle.admission.specs.RouteLaws.{prefixes_known, IsRouted, IsUnrouted, AdmissionsAreRouted, RefusalsAreUnrouted, StrangersAreRefused, OpenNumbersAreRefused}
 use Rattle.compiler.proofs.PickLemmas.{pick_is_order}
 use Rattle.admission.proofs.FirstLaws.{nothing}
 use Rattle.admission.proofs.RouteWays.{led, lost}
-use Rattle.admission.proofs.TargetLaws.{NamesDeclared, plan_means}
+use Rattle.admission.proofs.TargetLaws.{NamesDeclared, Means, plan_means}
 
 -- ---- an accepted configuration declares each zone that it names
 known : (all names : List (List ℕ)) (is : List ℕ → Bool)
@@ -110,7 +110,8 @@ accepted_declares lines configuration h = by (lines_after nothing_read lines) h
 -- ---- verdicts
 route_is : (s : State) (caller digits : List ℕ)
     → route_of s.commands s.endpoints caller digits
-    ≡ route_of_target s.commands s.endpoints caller digits (plan_of s.commands digits)
+    ≡ route_of_target s.commands s.endpoints caller digits
+    (target_for s.commands s.endpoints digits)
 unfolding route_of
 route_is s caller digits = refl
 
@@ -153,10 +154,10 @@ module _ (zone : List ℕ) (reached : Destination) (admitted : OpenCall) (replie
 module _ (s : State) (call units : ℕ) (digits : List ℕ) (caller : EndpointParts) where
   abbrev verdict_to : Route → Reply
   verdict_to route =
-      (admission_to s caller call units (plan_of s.commands digits) route).verdict
+      (admission_to s caller call units (target_for s.commands s.endpoints digits) route).verdict
 
   abbrev asked_call : OpenCall
-  asked_call = admitted_call caller call units (plan_of s.commands digits)
+  asked_call = admitted_call caller call units (target_for s.commands s.endpoints digits)
 
   abbrev over_there : Option Over
   over_there = over_of s.commands s.calls asked_call
@@ -169,7 +170,7 @@ module _ (s : State) (call units : ℕ) (digits : List ℕ) (caller : EndpointPa
     where
       by : (t : Bool)
           → (cond t (call_open_ruling caller call)
-          (admission_to s caller call units (plan_of s.commands digits)
+          (admission_to s caller call units (target_for s.commands s.endpoints digits)
           (route_of s.commands s.endpoints caller.zone digits))).verdict
           ≡ verdict
           → verdict_to (route_of s.commands s.endpoints caller.zone digits) ≡ verdict
@@ -194,7 +195,7 @@ module _ (s : State) (call units : ℕ) (digits : List ℕ) (caller : EndpointPa
     where
       by : (t : Bool) → is_open s.calls call ≡ t
           → (cond t (call_open_ruling caller call)
-          (admission_to s caller call units (plan_of s.commands digits)
+          (admission_to s caller call units (target_for s.commands s.endpoints digits)
           (route_of s.commands s.endpoints caller.zone digits))).verdict
           ≡ AdmitRefused call CallOpen
           → is_open s.calls call ≡ true
@@ -206,7 +207,7 @@ module _ (s : State) (call units : ℕ) (digits : List ℕ) (caller : EndpointPa
       → (admission_ruling s call digits units (Some caller)).verdict ≡ AdmitRefused call CallOpen
   is_refused_as_open same =
       ap (λ t. (cond t (call_open_ruling caller call)
-      (admission_to s caller call units (plan_of s.commands digits)
+      (admission_to s caller call units (target_for s.commands s.endpoints digits)
       (route_of s.commands s.endpoints caller.zone digits))).verdict) same
 
 -- ---- laws
@@ -216,6 +217,13 @@ accepted_state : (lines : List (List ℕ)) (configuration : Configuration) (s : 
 accepted_state lines configuration s accepted same =
     subst (λ (l : List Command). NamesDeclared l l) (sym same)
     (accepted_declares lines configuration accepted)
+
+-- what the target of the digits says of them
+target_means : (s : State) (declared : NamesDeclared s.commands s.commands) (digits : List ℕ)
+    → Means (prefixes_known s) s.commands digits (target_for s.commands s.endpoints digits)
+target_means s declared digits =
+    plan_means (learned_prefixes s.commands s.endpoints) s.commands (pick_is_order s.commands)
+    declared digits
 
 module _ (s : State) (declared : NamesDeclared s.commands s.commands) (call units : ℕ)
     (id digits : List ℕ) (replied_call : ℕ) where
@@ -236,8 +244,8 @@ module _ (s : State) (declared : NamesDeclared s.commands s.commands) (call unit
           caller = caller;
           registered = there;
           led =
-              led s caller.zone digits destination (plan_of s.commands digits)
-              (plan_means s.commands (pick_is_order s.commands) declared digits) goes;
+              led s caller.zone digits destination (target_for s.commands s.endpoints digits)
+              (target_means s declared digits) goes;
         },
       )
 
@@ -265,8 +273,8 @@ module _ (s : State) (declared : NamesDeclared s.commands s.commands) (call unit
           caller = caller;
           registered = there;
           lost =
-              lost s caller.zone digits refusal (plan_of s.commands digits)
-              (plan_means s.commands (pick_is_order s.commands) declared digits) goes;
+              lost s caller.zone digits refusal (target_for s.commands s.endpoints digits)
+              (target_means s declared digits) goes;
         },
       )
   refused_by refusal caller there (To reached) e h =

@@ -21,7 +21,7 @@ use Rattle.rulings.specs.declared.routes.RouteRefusal.{RouteRefusal}
 use Rattle.rulings.specs.declared.routes.RouteRefusal.TheVariants as refusals
 use Rattle.rulings.specs.State.{State}
 use Rattle.rulings.specs.Routing.{destination_of, to_gateway, by_default, by_alias_or_default, in_local_zone, route_of_target}
-use Rattle.admission.specs.RouteLaws.{HasDigits, ReachesNone, IsToReach, Sent, Kept, IsLedTo, Away, ByTechnology, ByAlias, ByDefault, IsLost, Rejected, WithoutTechnology, WithoutDefault, WithoutAlias}
+use Rattle.admission.specs.RouteLaws.{HasDigits, ReachesNone, IsToReach, Sent, Kept, prefixes_known, IsLedTo, Away, ByTechnology, ByAlias, ByDefault, IsLost, Rejected, WithoutTechnology, WithoutDefault, WithoutAlias}
 use Rattle.registry.specs.GatewayLaws.{HasNoCandidate}
 use Rattle.registry.proofs.GatewayLaws.{chosen_from_computed, none_computed}
 use Rattle.admission.proofs.FirstLaws.{found_first, found_none}
@@ -94,7 +94,8 @@ module _ (s : State) (caller digits : List ℕ) where
       subst (IsLedTo s caller digits) same (way found chosen)
 
   by_alias_led : (zone : List ℕ) (row : Option ZoneRow) (destination : Destination)
-      → IsToReach s.commands caller digits zone None row → (found : Option EndpointParts)
+      → IsToReach (prefixes_known s) s.commands caller digits zone None row
+      → (found : Option EndpointParts)
       → by_alias s.endpoints zone digits ≡ found
       → by_alias_or_default s.commands s.endpoints zone row found ≡ To destination
       → IsLedTo s caller digits destination
@@ -118,7 +119,8 @@ module _ (s : State) (caller digits : List ℕ) where
           (gateway_of s.commands s.endpoints zone prefix row) refl h
 
   in_zone_led : (zone : List ℕ) (row : Option ZoneRow) (destination : Destination)
-      → (technology : Option (List ℕ)) → IsToReach s.commands caller digits zone technology row
+      → (technology : Option (List ℕ))
+      → IsToReach (prefixes_known s) s.commands caller digits zone technology row
       → in_local_zone s.commands s.endpoints zone row digits technology ≡ To destination
       → IsLedTo s caller digits destination
   in_zone_led zone row destination None reach h =
@@ -128,7 +130,8 @@ module _ (s : State) (caller digits : List ℕ) where
       (λ found chosen. ByTechnology zone prefix row found reach chosen)
       (gateway_of s.commands s.endpoints zone prefix row) refl h
 
-  pub led : (destination : Destination) (target : Target) → Means s.commands digits target
+  pub led : (destination : Destination) (target : Target)
+      → Means (prefixes_known s) s.commands digits target
       → route_of_target s.commands s.endpoints caller digits target ≡ To destination
       → IsLedTo s caller digits destination
   led destination (RemoteZone zone address) (technology, row, cost, priority, sent, kind) h =
@@ -156,7 +159,8 @@ module _ (s : State) (caller digits : List ℕ) where
       (way (none_computed (priority_of s.commands row) s.endpoints zone prefix e))
 
   by_alias_lost : (zone : List ℕ) (row : Option ZoneRow) (refusal : RouteRefusal)
-      → IsToReach s.commands caller digits zone None row → (found : Option EndpointParts)
+      → IsToReach (prefixes_known s) s.commands caller digits zone None row
+      → (found : Option EndpointParts)
       → by_alias s.endpoints zone digits ≡ found
       → by_alias_or_default s.commands s.endpoints zone row found ≡ Refused refusal
       → IsLost s caller digits refusal
@@ -178,7 +182,8 @@ module _ (s : State) (caller digits : List ℕ) where
           none) (gateway_of s.commands s.endpoints zone prefix row) refl h
 
   in_zone_lost : (zone : List ℕ) (row : Option ZoneRow) (refusal : RouteRefusal)
-      → (technology : Option (List ℕ)) → IsToReach s.commands caller digits zone technology row
+      → (technology : Option (List ℕ))
+      → IsToReach (prefixes_known s) s.commands caller digits zone technology row
       → in_local_zone s.commands s.endpoints zone row digits technology ≡ Refused refusal
       → IsLost s caller digits refusal
   in_zone_lost zone row refusal None reach h =
@@ -187,7 +192,8 @@ module _ (s : State) (caller digits : List ℕ) where
       without_gateway zone prefix row refusal (λ none. WithoutTechnology zone prefix row reach none)
       (gateway_of s.commands s.endpoints zone prefix row) refl h
 
-  pub lost : (refusal : RouteRefusal) (target : Target) → Means s.commands digits target
+  pub lost : (refusal : RouteRefusal) (target : Target)
+      → Means (prefixes_known s) s.commands digits target
       → route_of_target s.commands s.endpoints caller digits target ≡ Refused refusal
       → IsLost s caller digits refusal
   lost refusal (RemoteZone zone address) means h = let impossible : ⊥ = cc in absurd impossible

@@ -1,6 +1,6 @@
 -- Where the commands send dialled digits: each target comes of a technology prefix, of a pattern,
 -- or of neither.
-use Rattle.std.proofs.Common.{◌≡◌, ◌≤◌, ℕ, zero, suc, ◌==◌, Bool, true, false, cond, ◌&&◌, List, [], ◌∷◌, length, drop, filter, find, Option, Some, None, slice_get, option_map, bytes_eq, refl, subst, arith}
+use Rattle.std.proofs.Common.{◌≡◌, ◌≤◌, ℕ, zero, suc, ◌==◌, Bool, true, false, cond, ◌&&◌, List, [], ◌∷◌, ◌++◌, length, drop, filter, find, Option, Some, None, slice_get, option_map, bytes_eq, refl, subst, arith}
 use Rattle.std.specs.Prelude.{IsTrue, option_and_then}
 use Rattle.std.specs.Bool.{beq}
 use Rattle.std.specs.List.{All, Contains, filter_map, cons_option}
@@ -19,9 +19,9 @@ use Rattle.command_reader.specs.declared.zones.ZoneKind.{ZoneKind}
 use Rattle.command_reader.specs.declared.zones.ZoneKind.TheVariants as kinds
 use Rattle.command_reader.specs.Zones.{zone_of, zones_of, is_declared, named_by}
 use Rattle.compiler.specs.Pick.{picked, is_picked_before, IsPicked}
-use Rattle.compiler.specs.Technology.{prefixes_of, begins_with, is_longer, technology_of, hopoffs_in, hopoffs_of}
+use Rattle.compiler.specs.Technology.{prefixes_of, begins_with, is_longer, longest_beginning, technology_among, hopoffs_in, hopoffs_of}
 use Rattle.compiler.specs.Rows.{ZoneRow, row_of, rows_of, zone_for, zones_for, row_of_pattern, row_for}
-use Rattle.compiler.specs.Plan.{Target, RemoteZone, LocalZone, CallersZone, UnknownPrefix, target_in, rejects_unknown, by_row, by_hopoff, by_technology, plan_of}
+use Rattle.compiler.specs.Plan.{Target, RemoteZone, LocalZone, CallersZone, UnknownPrefix, target_in, rejects_unknown, by_row, by_hopoff, by_technology, plan_with}
 use Rattle.admission.specs.RouteLaws.{IsTechnology, NoTechnology, IsLookedFor, All_of_them, After_prefix, IsLongestRow, NoneMatches, IsSentTo, ByHopoff, ByPattern}
 use Rattle.admission.proofs.FirstLaws.{untrue, find_some}
 
@@ -71,29 +71,27 @@ contained : {X : Type 0} (xs : List X) (k : ℕ) (x : X) → slice_get xs k ≡ 
 contained xs k x h = (k, within_list xs k x h, get_or_from_slice_get xs k x x h)
 
 -- ---- technology prefixes
-module _ (commands : List Command) (digits : List ℕ) where
-  some_technology : (prefix : List ℕ) → technology_of commands digits ≡ Some prefix
-      → IsTechnology commands digits prefix
+module _ (known : List (List ℕ)) (digits : List ℕ) where
+  some_technology : (prefix : List ℕ) → longest_beginning known digits ≡ Some prefix
+      → IsTechnology known digits prefix
   some_technology prefix h =
-      let beginning = filter (begins_with digits) (prefixes_of commands) in
+      let beginning = filter (begins_with digits) known in
       let first = first_unbeaten-IsFirstUnbeaten is_longer beginning prefix h in
       let there = contained beginning first.place prefix first.stands in
       record {
-        declared = in_filter (begins_with digits) (prefixes_of commands) prefix there;
+        is_known = in_filter (begins_with digits) known prefix there;
         begins = All-contains (λ p. begins_with digits p ≡ true) beginning prefix
-            (filter_passes (begins_with digits) (prefixes_of commands)) there;
-        longest = all_of_filter (begins_with digits) (λ other. length other ≤ length prefix)
-            (prefixes_of commands)
+            (filter_passes (begins_with digits) known) there;
+        longest = all_of_filter (begins_with digits) (λ other. length other ≤ length prefix) known
             (All-weaker (λ other. is_longer other prefix ≡ false)
             (λ other. length other ≤ length prefix)
             (λ other e. ltb-false (length prefix) (length other) e) beginning first.unbeaten);
       }
 
-  no_technology : technology_of commands digits ≡ None → NoTechnology commands digits
+  no_technology : longest_beginning known digits ≡ None → NoTechnology known digits
   no_technology h =
-      none_of_filter (begins_with digits) (prefixes_of commands)
-      (first_unbeaten-none is_longer (IsRankOrder-by length)
-      (filter (begins_with digits) (prefixes_of commands)) h)
+      none_of_filter (begins_with digits) known
+      (first_unbeaten-none is_longer (IsRankOrder-by length) (filter (begins_with digits) known) h)
 
 -- ---- picks
 module _ (commands : List Command) (order : IsRankOrder (is_picked_before commands)) where
@@ -289,35 +287,36 @@ module _ (all : List Command) where
 
 -- ---- targets
 -- what a target says of the digits
-abbrev pub Means : List Command → List ℕ → Target → Type 0
-Means commands digits (RemoteZone zone address) =
+abbrev pub Means : List (List ℕ) → List Command → List ℕ → Target → Type 0
+Means known commands digits (RemoteZone zone address) =
     (technology : Option (List ℕ)) × (row : Option ZoneRow) × (cost : ℕ) × (priority : ℕ)
-    × IsSentTo commands digits zone technology row
+    × IsSentTo known commands digits zone technology row
     × (zone_of commands zone ≡ Some (kinds.Remote address cost priority))
-Means commands digits (LocalZone zone technology row) =
-    IsSentTo commands digits zone technology row × (zone_of commands zone ≡ Some kinds.Local)
-Means commands digits (CallersZone technology) =
-    (rest : List ℕ) × IsLookedFor commands digits technology rest × NoneMatches commands rest
+Means known commands digits (LocalZone zone technology row) =
+    IsSentTo known commands digits zone technology row × (zone_of commands zone ≡ Some kinds.Local)
+Means known commands digits (CallersZone technology) =
+    (rest : List ℕ) × IsLookedFor known commands digits technology rest × NoneMatches commands rest
     × (rejects_unknown commands ≡ false)
-Means commands digits UnknownPrefix =
+Means known commands digits UnknownPrefix =
     (technology : Option (List ℕ)) × (rest : List ℕ)
-    × IsLookedFor commands digits technology rest × NoneMatches commands rest
+    × IsLookedFor known commands digits technology rest × NoneMatches commands rest
     × (rejects_unknown commands ≡ true)
 
-module _ (commands : List Command) (order : IsRankOrder (is_picked_before commands))
-    (declared : NamesDeclared commands commands) (digits : List ℕ) where
+module _ (known : List (List ℕ)) (commands : List Command)
+    (order : IsRankOrder (is_picked_before commands)) (declared : NamesDeclared commands commands)
+    (digits : List ℕ) where
   sent : (zone : List ℕ) (technology : Option (List ℕ)) (row : Option ZoneRow)
-      → IsSentTo commands digits zone technology row → is_declared commands zone ≡ true
+      → IsSentTo known commands digits zone technology row → is_declared commands zone ≡ true
       → (kind : Option ZoneKind) → zone_of commands zone ≡ kind
-      → Means commands digits (target_in zone technology row kind)
-  sent zone technology row to known None e = absurd (zone_known commands zone known e)
-  sent zone technology row to known (Some kinds.Local) e = (to, e)
-  sent zone technology row to known (Some (kinds.Remote address cost priority)) e =
+      → Means known commands digits (target_in zone technology row kind)
+  sent zone technology row to there None e = absurd (zone_known commands zone there e)
+  sent zone technology row to there (Some kinds.Local) e = (to, e)
+  sent zone technology row to there (Some (kinds.Remote address cost priority)) e =
       (technology, row, cost, priority, to, e)
 
   looked_for : (technology : Option (List ℕ)) (rest : List ℕ)
-      → IsLookedFor commands digits technology rest → (row : Option ZoneRow)
-      → row_for commands rest ≡ row → Means commands digits (by_row commands technology row)
+      → IsLookedFor known commands digits technology rest → (row : Option ZoneRow)
+      → row_for commands rest ≡ row → Means known commands digits (by_row commands technology row)
   looked_for technology rest looked (Some row) e =
       let longest = longest_row commands order rest row e in
       sent row.1 technology (Some row) (ByPattern technology rest row looked longest)
@@ -327,13 +326,13 @@ module _ (commands : List Command) (order : IsRankOrder (is_picked_before comman
   looked_for technology rest looked None e = by (rejects_unknown commands) refl
     where
       by : (t : Bool) → rejects_unknown commands ≡ t
-          → Means commands digits (cond t UnknownPrefix (CallersZone technology))
+          → Means known commands digits (cond t UnknownPrefix (CallersZone technology))
       by true f = (technology, rest, looked, none_matches commands order rest e, f)
       by false f = (rest, looked, none_matches commands order rest e, f)
 
-  hopped : (prefix : List ℕ) → IsTechnology commands digits prefix → (zone : Option (List ℕ))
+  hopped : (prefix : List ℕ) → IsTechnology known digits prefix → (zone : Option (List ℕ))
       → picked commands (hopoffs_of commands prefix) ≡ zone
-      → Means commands digits (by_hopoff commands prefix (drop (length prefix) digits) zone)
+      → Means known commands digits (by_hopoff commands prefix (drop (length prefix) digits) zone)
   hopped prefix technology (Some zone) e =
       let pick = pick_is commands order (hopoffs_of commands prefix) zone e in
       sent zone (Some prefix) None (ByHopoff prefix zone technology pick)
@@ -344,15 +343,21 @@ module _ (commands : List Command) (order : IsRankOrder (is_picked_before comman
       (After_prefix prefix technology (no_pick commands order (hopoffs_of commands prefix) e))
       (row_for commands (drop (length prefix) digits)) refl
 
-  by_prefix : (technology : Option (List ℕ)) → technology_of commands digits ≡ technology
-      → Means commands digits (by_technology commands digits technology)
+  by_prefix : (technology : Option (List ℕ)) → longest_beginning known digits ≡ technology
+      → Means known commands digits (by_technology commands digits technology)
   by_prefix None e =
-      looked_for None digits (All_of_them (no_technology commands digits e))
+      looked_for None digits (All_of_them (no_technology known digits e))
       (row_for commands digits) refl
   by_prefix (Some prefix) e =
-      hopped prefix (some_technology commands digits prefix e)
+      hopped prefix (some_technology known digits prefix e)
       (picked commands (hopoffs_of commands prefix)) refl
 
-  pub plan_means : Means commands digits (plan_of commands digits)
-  unfolding plan_of
-  plan_means = by_prefix (technology_of commands digits) refl
+-- what the commands and some learned prefixes say of the digits
+pub plan_means : (learned : List (List ℕ)) (commands : List Command)
+    (order : IsRankOrder (is_picked_before commands)) (declared : NamesDeclared commands commands)
+    (digits : List ℕ)
+    → Means (learned ++ prefixes_of commands) commands digits (plan_with learned commands digits)
+unfolding plan_with
+plan_means learned commands order declared digits =
+    by_prefix (learned ++ prefixes_of commands) commands order declared digits
+    (technology_among learned commands digits) refl

@@ -1,14 +1,15 @@
 -- What every record says, whatever was asked: its admissions went where the configuration leads,
--- its grants keep the sums of their calls within the limits, and it never passes the limits of the
--- run.
-use Rattle.std.specs.Prelude.{◌≡◌, ◌≤◌, ◌<◌, ℕ, ◌+◌, List, [], ◌∷◌, ◌++◌, length, Option, Some, None, Ok}
-use Rattle.std.specs.List.{AllByRecursion}
+-- its grants keep the sums of their calls within the limits, its endpoints are in local zones, and
+-- it never passes the limits of the run.
+use Rattle.std.specs.Prelude.{◌≡◌, ◌≤◌, ◌<◌, ℕ, ◌+◌, IsTrue, List, [], ◌∷◌, ◌++◌, length, Option, Some, None, Ok}
+use Rattle.std.specs.List.{All, AllByRecursion}
 use Rattle.command_reader.specs.declared.commands.Command.{Command}
 use Rattle.command_reader.specs.Configuration.{Configuration}
 use Rattle.command_reader.specs.Reading.{reading_in}
+use Rattle.command_reader.specs.Zones.{is_local}
 use Rattle.compiler.specs.Last.{last_in}
 use Rattle.registry.specs.Endpoint.{EndpointParts}
-use Rattle.registry.specs.Registration.{endpoint_of}
+use Rattle.registry.specs.Registration.{endpoint_of, kept_zones}
 use Rattle.bandwidth.specs.declared.open_call.OpenCall.{OpenCall}
 use Rattle.bandwidth.specs.declared.over.Over.{Over}
 use Rattle.bandwidth.specs.Calls.{call_of, without_call}
@@ -162,6 +163,20 @@ RecordedLimitsAreAbove =
     → StandsAfter entries before e
     → sum_named e.reply ≡ Some over
     → IsRefusedRightly (replay (opening_of commands limits) before) e.event over
+
+-- ---- zones
+-- the zone of each registered endpoint is a local zone of the commands in force, so that none is
+-- left out where only endpoints of local zones count
+pub record AreInLocalZones (s : State) : Type 0 where
+  pub local : All (λ (e : EndpointParts). IsTrue (is_local s.commands e.zone)) s.endpoints
+  pub all_kept : kept_zones s.commands s.endpoints ≡ s.endpoints
+
+-- every record leaves its endpoints so
+abbrev pub EndpointsAreLocal : Type 0
+EndpointsAreLocal =
+    (commands : List Command) (limits : Limits) (entries : List PlainEntry)
+    → IsLegal (opening_of commands limits) entries
+    → AreInLocalZones (replay (opening_of commands limits) entries)
 
 -- ---- limits
 -- endpoints, calls and reloads are within their limits, and the record has room for its entries and

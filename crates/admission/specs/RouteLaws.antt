@@ -16,6 +16,7 @@ use Rattle.compiler.specs.Rows.{ZoneRow, rows_of, zones_for}
 use Rattle.compiler.specs.Plan.{rejects_unknown}
 use Rattle.registry.specs.Endpoint.{EndpointParts}
 use Rattle.registry.specs.Registration.{endpoint_of, is_registered}
+use Rattle.registry.specs.Learned.{learned_prefixes}
 use Rattle.bandwidth.specs.Calls.{is_open}
 use Rattle.registry.specs.Gateway.{IsChosen}
 use Rattle.registry.specs.GatewayLaws.{HasNoCandidate}
@@ -39,26 +40,25 @@ pub record IsFirst {X : Type 0} (Has : X → Type 0) (xs : List X) (x : X) : Typ
   pub none_before : All (λ y. ¬ Has y) before
 
 -- ---- technology prefixes
--- the longest declared technology prefix with which the digits begin
-pub record IsTechnology (commands : List Command) (digits prefix : List ℕ) : Type 0 where
-  pub declared : Contains (prefixes_of commands) prefix
+-- the longest of the known technology prefixes with which the digits begin
+pub record IsTechnology (known : List (List ℕ)) (digits prefix : List ℕ) : Type 0 where
+  pub is_known : Contains known prefix
   pub begins : IsTrue (begins_with digits prefix)
   pub longest : All (λ other. IsTrue (begins_with digits other) → length other ≤ length prefix)
-      (prefixes_of commands)
+      known
 
--- the digits begin with no declared technology prefix
-abbrev pub NoTechnology : List Command → List ℕ → Type 0
-NoTechnology commands digits =
-    All (λ prefix. ¬ IsTrue (begins_with digits prefix)) (prefixes_of commands)
+-- the digits begin with no known technology prefix
+abbrev pub NoTechnology : List (List ℕ) → List ℕ → Type 0
+NoTechnology known digits = All (λ prefix. ¬ IsTrue (begins_with digits prefix)) known
 
--- the digits by which a pattern is looked for: all of them, or those after a technology prefix that
--- has no hop-off zone
-pub data IsLookedFor (commands : List Command) (digits : List ℕ)
+-- the digits by which a pattern is looked for: all of them, or those after a technology prefix for
+-- which the commands declare no hop-off zone, as one that was only learned
+pub data IsLookedFor (known : List (List ℕ)) (commands : List Command) (digits : List ℕ)
     : Option (List ℕ) → List ℕ → Type 0 where
-  All_of_them : NoTechnology commands digits → IsLookedFor commands digits None digits
-  After_prefix : (prefix : List ℕ) → IsTechnology commands digits prefix
+  All_of_them : NoTechnology known digits → IsLookedFor known commands digits None digits
+  After_prefix : (prefix : List ℕ) → IsTechnology known digits prefix
       → hopoffs_of commands prefix ≡ []
-      → IsLookedFor commands digits (Some prefix) (drop (length prefix) digits)
+      → IsLookedFor known commands digits (Some prefix) (drop (length prefix) digits)
 
 -- ---- patterns
 -- the longest pattern that matches the digits, with the zone picked from those it is declared for
@@ -74,27 +74,28 @@ NoneMatches commands digits = All (λ (row : ZoneRow). ¬ Matches row.0 digits) 
 -- ---- the target zone
 -- the commands send the digits to this zone, with the technology prefix that was found and the row
 -- that was used
-pub data IsSentTo (commands : List Command) (digits : List ℕ)
+pub data IsSentTo (known : List (List ℕ)) (commands : List Command) (digits : List ℕ)
     : List ℕ → Option (List ℕ) → Option ZoneRow → Type 0 where
   -- the zone picked from the hop-off zones of the technology prefix
-  ByHopoff : (prefix zone : List ℕ) → IsTechnology commands digits prefix
+  ByHopoff : (prefix zone : List ℕ) → IsTechnology known digits prefix
       → IsPicked commands (hopoffs_of commands prefix) zone
-      → IsSentTo commands digits zone (Some prefix) None
+      → IsSentTo known commands digits zone (Some prefix) None
   -- the zone of the longest matching pattern
   ByPattern : (technology : Option (List ℕ)) (rest : List ℕ) (row : ZoneRow)
-      → IsLookedFor commands digits technology rest → IsLongestRow commands rest row
-      → IsSentTo commands digits row.1 technology (Some row)
+      → IsLookedFor known commands digits technology rest → IsLongestRow commands rest row
+      → IsSentTo known commands digits row.1 technology (Some row)
 
 -- the call of a caller of this zone is to reach an endpoint of a zone: the local zone to which the
 -- commands send its digits; or the caller's own, since no pattern matches
-pub data IsToReach (commands : List Command) (caller digits : List ℕ)
+pub data IsToReach (known : List (List ℕ)) (commands : List Command) (caller digits : List ℕ)
     : List ℕ → Option (List ℕ) → Option ZoneRow → Type 0 where
   Sent : (zone : List ℕ) (technology : Option (List ℕ)) (row : Option ZoneRow)
-      → IsSentTo commands digits zone technology row → zone_of commands zone ≡ Some Local
-      → IsToReach commands caller digits zone technology row
+      → IsSentTo known commands digits zone technology row → zone_of commands zone ≡ Some Local
+      → IsToReach known commands caller digits zone technology row
   Kept : (technology : Option (List ℕ)) (rest : List ℕ)
-      → IsLookedFor commands digits technology rest → NoneMatches commands rest
-      → rejects_unknown commands ≡ false → IsToReach commands caller digits caller technology None
+      → IsLookedFor known commands digits technology rest → NoneMatches commands rest
+      → rejects_unknown commands ≡ false
+      → IsToReach known commands caller digits caller technology None
 
 -- ---- endpoints
 -- the endpoint is registered in the zone, and the digits are one of its aliases
@@ -105,28 +106,33 @@ HasDigits zone digits e = (e.zone ≡ zone) × Contains e.aliases digits
 abbrev pub ReachesNone : List EndpointParts → List ℕ → List ℕ → Type 0
 ReachesNone endpoints zone digits = All (λ e. ¬ HasDigits zone digits e) endpoints
 
+-- ---- the technology prefixes of a state
+-- the known ones: those that gateways of local zones gave, and those that the commands declare
+abbrev pub prefixes_known : State → List (List ℕ)
+prefixes_known s = learned_prefixes s.commands s.endpoints ++ prefixes_of s.commands
+
 -- ---- an admission that is granted
 -- the ways in which the digits of a caller of this zone lead to a destination
 pub data IsLedTo (s : State) (caller digits : List ℕ) : Destination → Type 0 where
   -- to the remote zone to which the commands send them
   Away : (zone : List ℕ) (technology : Option (List ℕ)) (row : Option ZoneRow)
       (address : AddressParts) (cost priority : ℕ)
-      → IsSentTo s.commands digits zone technology row
+      → IsSentTo (prefixes_known s) s.commands digits zone technology row
       → zone_of s.commands zone ≡ Some (Remote address cost priority)
       → IsLedTo s caller digits (destinations.Zone zone address)
   -- to the chosen gateway for the technology prefix of the digits
   ByTechnology : (zone prefix : List ℕ) (row : Option ZoneRow) (e : EndpointParts)
-      → IsToReach s.commands caller digits zone (Some prefix) row
+      → IsToReach (prefixes_known s) s.commands caller digits zone (Some prefix) row
       → IsChosen s.commands s.endpoints zone prefix row e
       → IsLedTo s caller digits (destinations.Gateway e.id e.address)
   -- to the first endpoint of the zone that has the digits as an alias, as what it registered
   ByAlias : (zone : List ℕ) (row : Option ZoneRow) (e : EndpointParts)
-      → IsToReach s.commands caller digits zone None row
+      → IsToReach (prefixes_known s) s.commands caller digits zone None row
       → IsFirst (HasDigits zone digits) s.endpoints e
       → IsLedTo s caller digits (destination_of e.kind e)
   -- to the chosen gateway for the default technology, since no endpoint of the zone has the digits
   ByDefault : (zone prefix : List ℕ) (row : Option ZoneRow) (e : EndpointParts)
-      → IsToReach s.commands caller digits zone None row
+      → IsToReach (prefixes_known s) s.commands caller digits zone None row
       → ReachesNone s.endpoints zone digits
       → default_technology_of s.commands ≡ Some prefix
       → IsChosen s.commands s.endpoints zone prefix row e
@@ -143,23 +149,24 @@ pub record IsRouted (s : State) (id digits : List ℕ) (destination : Destinatio
 pub data IsLost (s : State) (caller digits : List ℕ) : RouteRefusal → Type 0 where
   -- no pattern matches, and such digits are rejected
   Rejected : (technology : Option (List ℕ)) (rest : List ℕ)
-      → IsLookedFor s.commands digits technology rest → NoneMatches s.commands rest
+      → IsLookedFor (prefixes_known s) s.commands digits technology rest
+      → NoneMatches s.commands rest
       → rejects_unknown s.commands ≡ true → IsLost s caller digits refusals.UnknownPrefix
   -- the zone has no gateway for the technology prefix of the digits
   WithoutTechnology : (zone prefix : List ℕ) (row : Option ZoneRow)
-      → IsToReach s.commands caller digits zone (Some prefix) row
+      → IsToReach (prefixes_known s) s.commands caller digits zone (Some prefix) row
       → HasNoCandidate s.commands s.endpoints zone prefix row
       → IsLost s caller digits refusals.NoGateway
   -- no endpoint of the zone has the digits, and it has no gateway for the default technology
   WithoutDefault : (zone prefix : List ℕ) (row : Option ZoneRow)
-      → IsToReach s.commands caller digits zone None row
+      → IsToReach (prefixes_known s) s.commands caller digits zone None row
       → ReachesNone s.endpoints zone digits
       → default_technology_of s.commands ≡ Some prefix
       → HasNoCandidate s.commands s.endpoints zone prefix row
       → IsLost s caller digits refusals.NoGateway
   -- no endpoint of the zone has the digits, and no default technology is set
   WithoutAlias : (zone : List ℕ) (row : Option ZoneRow)
-      → IsToReach s.commands caller digits zone None row
+      → IsToReach (prefixes_known s) s.commands caller digits zone None row
       → ReachesNone s.endpoints zone digits
       → default_technology_of s.commands ≡ None
       → IsLost s caller digits refusals.NoDefault

@@ -1,7 +1,7 @@
 //! Theorems on how calls are routed, and on what every record keeps and says. Each is the contract of a
 //! function that does nothing.
 
-ghost use Rattle.admission.specs.HistoryLaws.{RecordedAdmissionsAreRouted, RecordedRefusalsAreUnrouted, RecordedGrantsAreWithin, RecordedRaisesWereWithin, RecordedLimitsAreAbove, RecordsAreSound};
+ghost use Rattle.admission.specs.HistoryLaws.{RecordedAdmissionsAreRouted, RecordedRefusalsAreUnrouted, RecordedGrantsAreWithin, RecordedRaisesWereWithin, RecordedLimitsAreAbove, EndpointsAreLocal, RecordsAreSound};
 ghost use Rattle.admission.specs.RouteLaws.{AdmissionsAreRouted, RefusalsAreUnrouted, StrangersAreRefused, OpenNumbersAreRefused};
 ghost use Rattle.admission.specs.RowLaws.{RowsAreNeverRefused};
 
@@ -59,6 +59,12 @@ pub fn recorded_raises_were_within()
 /// it.
 pub fn recorded_limits_are_above()
     ensures { RecordedLimitsAreAbove }
+{}
+
+/// In every legal history: each registered endpoint is in a local zone of the configuration then in
+/// force, so the technology prefixes of each registered gateway count.
+pub fn endpoints_are_local()
+    ensures { EndpointsAreLocal }
 {}
 
 /// Every legal history has the commands in force that were put in force last, as its version says,

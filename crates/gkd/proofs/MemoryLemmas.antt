@@ -1,7 +1,7 @@
 -- The machine's own replies do not say that memory ran out.
 use Rattle.std.proofs.Common.{◌≡◌, ℕ, Bool, true, false, cond, List, ap}
 use Rattle.std.specs.Prelude.{◌≢◌, Option, Some, None}
-use Rattle.compiler.specs.Plan.{Target, plan_of}
+use Rattle.compiler.specs.Plan.{Target}
 use Rattle.registry.specs.Endpoint.{EndpointParts}
 use Rattle.registry.specs.Registration.{endpoint_of}
 use Rattle.registry.specs.declared.faults.Duplicate.TheVariants.{Id, E164}
@@ -23,7 +23,7 @@ use Rattle.rulings.specs.declared.replies.Reply.TheVariants.{RegisterRefused, Un
 use Rattle.rulings.specs.declared.rulings.Effect.TheVariants.{Nothing, Remove}
 use Rattle.rulings.specs.State.{State}
 use Rattle.rulings.specs.Events.{PlainEvent, Registering, Unregistering, Admitting, Changing, Releasing, Reloading}
-use Rattle.rulings.specs.Routing.{route_of}
+use Rattle.rulings.specs.Routing.{target_for, route_of}
 use Rattle.rulings.specs.Ruling.{Ruling, register_refusal, registration_unless, admitted_call, admission_unless, admission_to, admission_ruling, call_open_ruling, change_unless, change_ruling, unrouted, ruling_of}
 use Rattle.rulings.specs.Step.{count_refusal, outcome_of, step, no_memory_reply_of}
 
@@ -70,7 +70,7 @@ admit_apart s call digits units (Some caller) h =
     let P : Ruling → Type 0 = λ r. AdmitRefused call admit.NoMemory ≢ r.verdict in
     let taken : P (call_open_ruling caller call) = λ i. cc in
     either P _ _ _ taken
-    (to_apart s caller call units (plan_of s.commands digits)
+    (to_apart s caller call units (target_for s.commands s.endpoints digits)
     (route_of s.commands s.endpoints caller.zone digits)) h
 
 change_unless_apart : (id : List ℕ) (call units : ℕ) (over : Option Over) → ChangeRefused call

@@ -177,6 +177,39 @@ LongDigits = Writes stated
     (after_registered (codes "ACF 5 1001 ZONE gk-y 10.9.0.2:1719 640" ∷ codes "ERR digits"
     ∷ codes "ERR digits" ∷ []))
 
+-- ---- technology prefixes that gateways gave
+-- a gateway with a prefix of its own, which counts until it leaves
+abbrev pub LearnedUntilItLeaves : Type 0
+LearnedUntilItLeaves = Writes stated
+    (dial_plan default_technology []
+    ++ after_endpoints (codes "RRQ 5 GW gc gk-a 10.0.1.3:1720 tech=91"
+    ∷ codes "ARQ 6 ta 1001 9123 640" ∷ codes "URQ 7 gc" ∷ codes "ARQ 8 ta 1002 9123 640" ∷ []))
+    (after_registered (codes "RCF 5 gc gk-a" ∷ codes "ACF 6 1001 GW gc 10.0.1.3:1720 640"
+    ∷ codes "UCF 7 gc" ∷ codes "ACF 8 1002 ZONE gk-y 10.9.0.2:1719 640" ∷ []))
+
+-- a longer one than the one that has a hop-off zone
+abbrev pub LearnedBeforeHopoff : Type 0
+LearnedBeforeHopoff = Writes stated
+    (dial_plan default_technology []
+    ++ after_endpoints (codes "RRQ 5 GW gd gk-b 10.0.2.3:1720 tech=2#4"
+    ∷ codes "ARQ 6 ta 1003 2#4085551234 640" ∷ []))
+    (after_registered (codes "RCF 5 gd gk-b"
+    ∷ codes "ARJ 6 1003 calledPartyNotRegistered no-gateway" ∷ []))
+
+-- one that a terminal gave does not count
+abbrev pub NoneLearnedFromTerminals : Type 0
+NoneLearnedFromTerminals = Writes stated
+    (dial_plan default_technology []
+    ++ after_endpoints (codes "RRQ 5 TERM td gk-a 10.0.1.4 tech=5"
+    ∷ codes "ARQ 6 ga 1004 5551000 640" ∷ []))
+    (after_registered (codes "RCF 5 td gk-a" ∷ codes "ACF 6 1004 TERM ta 10.0.1.1:1720 640" ∷ []))
+
+-- one that no line declares
+abbrev pub LearnedUndeclared : Type 0
+LearnedUndeclared = Writes stated
+    (dial_plan [] [] ++ after_endpoints (codes "ARQ 5 ta 1001 1#4085551234 640" ∷ []))
+    (after_registered (codes "ACF 5 1001 GW gb1 10.0.2.1:1720 640" ∷ []))
+
 -- ---- bandwidth limits
 -- two calls take all that a zone may have, and one of 0 units still fits
 abbrev pub FullTotal : Type 0

@@ -45,6 +45,10 @@ pub fn worked_rows()
     ensures no_default { Rows.NoDefault }
     ensures other_aliases { Rows.OtherAliases }
     ensures long_digits { Rows.LongDigits }
+    ensures learned_until_it_leaves { Rows.LearnedUntilItLeaves }
+    ensures learned_before_hopoff { Rows.LearnedBeforeHopoff }
+    ensures none_learned_from_terminals { Rows.NoneLearnedFromTerminals }
+    ensures learned_undeclared { Rows.LearnedUndeclared }
     ensures full_total { Rows.FullTotal }
     ensures session_before_total { Rows.SessionBeforeTotal }
     ensures between_zones { Rows.BetweenZones }

@@ -1,4 +1,4 @@
-use Rattle.gkd.proofs.Rows.{first_run, open_call, full_record, stranger, faults, by_pattern_cost_and_hopoff, prefix_alone, greatest_priority, priority_zero, unknown_prefix, alias_or_default, no_default, other_aliases, long_digits, full_total, session_before_total, between_zones, to_remote_zones, raised_and_lowered, counted_in_target_zone, by_owner_alone, routed_by_new_lines, limited_by_new_lines, without_second_zone, faulty_reloads, smallest_limits, tried_on_calls, tried_by_none}
+use Rattle.gkd.proofs.Rows.{first_run, open_call, full_record, stranger, faults, by_pattern_cost_and_hopoff, prefix_alone, greatest_priority, priority_zero, unknown_prefix, alias_or_default, no_default, other_aliases, long_digits, learned_until_it_leaves, learned_before_hopoff, none_learned_from_terminals, learned_undeclared, full_total, session_before_total, between_zones, to_remote_zones, raised_and_lowered, counted_in_target_zone, by_owner_alone, routed_by_new_lines, limited_by_new_lines, without_second_zone, faulty_reloads, smallest_limits, tried_on_calls, tried_by_none}
 use Rattle.std.proofs.Common.{refl}
 use Rattle.gkd.proofs.laws.worked_rows.Goals as goal
 
@@ -19,6 +19,10 @@ returns c = record {
   no_default = no_default;
   other_aliases = other_aliases;
   long_digits = long_digits;
+  learned_until_it_leaves = learned_until_it_leaves;
+  learned_before_hopoff = learned_before_hopoff;
+  none_learned_from_terminals = none_learned_from_terminals;
+  learned_undeclared = learned_undeclared;
   full_total = full_total;
   session_before_total = session_before_total;
   between_zones = between_zones;
