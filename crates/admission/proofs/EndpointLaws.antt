@@ -1,5 +1,6 @@
 -- Registered endpoints are in local zones, whatever is recorded.
 use Rattle.std.proofs.Common.{◌≡◌, ◌+◌, Bool, true, false, not, cond, List, [], ◌∷◌, take, drop, Option, Some, None, refl, sym, ap, subst, ◌∙◌}
+use Rattle.std.specs.Prelude.{flat_map}
 use Rattle.std.specs.List.{All, position_or_len}
 use Rattle.std.proofs.lemmas.List.Elements.{All-nil, All-cons, All-head, All-tail, All-append, All-take, All-drop, All-filter, filter_passes}
 use Rattle.std.proofs.lemmas.Option.{none-some}
@@ -7,6 +8,7 @@ use Rattle.command_reader.specs.declared.commands.Command.{Command}
 use Rattle.command_reader.specs.Zones.{is_local}
 use Rattle.compiler.specs.Zones.{zone_meant}
 use Rattle.registry.specs.Endpoint.{EndpointParts}
+use Rattle.registry.specs.Learned.{prefixes_given}
 use Rattle.registry.specs.Registration.{has_id, with_endpoint, kept_zones}
 use Rattle.rulings.specs.declared.rulings.Effect.{Effect}
 use Rattle.rulings.specs.declared.rulings.Effect.TheVariants.{Nothing, Put, Remove, Open, Resize, Close, PutInForce}
@@ -110,4 +112,5 @@ endpoints_are_local commands limits entries legal =
     let s = replay (opening_of commands limits) entries in
     let all = replay_local (opening_of commands limits) entries legal
     (All-nil (IsInLocalZone commands)) in
-    record { local = all; all_kept = all_stay s.commands s.endpoints all }
+    let kept = all_stay s.commands s.endpoints all in
+    record { local = all; all_kept = kept; all_learned = ap (flat_map prefixes_given) kept }

@@ -1,7 +1,7 @@
 -- What every record says, whatever was asked: its admissions went where the configuration leads,
 -- its grants keep the sums of their calls within the limits, its endpoints are in local zones, and
 -- it never passes the limits of the run.
-use Rattle.std.specs.Prelude.{◌≡◌, ◌≤◌, ◌<◌, ℕ, ◌+◌, IsTrue, List, [], ◌∷◌, ◌++◌, length, Option, Some, None, Ok}
+use Rattle.std.specs.Prelude.{◌≡◌, ◌≤◌, ◌<◌, ℕ, ◌+◌, IsTrue, List, [], ◌∷◌, ◌++◌, length, flat_map, Option, Some, None, Ok}
 use Rattle.std.specs.List.{All, AllByRecursion}
 use Rattle.command_reader.specs.declared.commands.Command.{Command}
 use Rattle.command_reader.specs.Configuration.{Configuration}
@@ -9,6 +9,7 @@ use Rattle.command_reader.specs.Reading.{reading_in}
 use Rattle.command_reader.specs.Zones.{is_local}
 use Rattle.compiler.specs.Last.{last_in}
 use Rattle.registry.specs.Endpoint.{EndpointParts}
+use Rattle.registry.specs.Learned.{learned_prefixes, prefixes_given}
 use Rattle.registry.specs.Registration.{endpoint_of, kept_zones}
 use Rattle.bandwidth.specs.declared.open_call.OpenCall.{OpenCall}
 use Rattle.bandwidth.specs.declared.over.Over.{Over}
@@ -166,10 +167,12 @@ RecordedLimitsAreAbove =
 
 -- ---- zones
 -- the zone of each registered endpoint is a local zone of the commands in force, so that none is
--- left out where only endpoints of local zones count
+-- left out where only endpoints of local zones count, and the learned prefixes are those of all
+-- gateways
 pub record AreInLocalZones (s : State) : Type 0 where
   pub local : All (λ (e : EndpointParts). IsTrue (is_local s.commands e.zone)) s.endpoints
   pub all_kept : kept_zones s.commands s.endpoints ≡ s.endpoints
+  pub all_learned : learned_prefixes s.commands s.endpoints ≡ flat_map prefixes_given s.endpoints
 
 -- every record leaves its endpoints so
 abbrev pub EndpointsAreLocal : Type 0

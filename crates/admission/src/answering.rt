@@ -19,7 +19,8 @@ impl Core {
     /// Answers an event that is lent, and is not a reload, as `answer` does: the reply is kept in
     /// place, and the number of the event's entry is given back if it was recorded, from which its
     /// receipt can be made. For whoever answers many. An admission is planned by the tables in
-    /// force, unless its digits were routed under their version.
+    /// force, unless its digits were routed under their version, and by the technology prefixes that
+    /// gateways gave.
     pub fn answer_lent(
         &mut self,
         routed: Option<&Routed>,

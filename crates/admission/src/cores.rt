@@ -107,7 +107,8 @@ impl Core {
 
     /// Admits a call to where its digits were routed. If that was done under the version in force,
     /// the plan has to be what its tables say of the digits; a plan of another version is made
-    /// anew. Ok and Err are as of `answer`.
+    /// anew, and so is one for digits that begin with a technology prefix which a gateway gave and
+    /// which is longer than the declared one. Ok and Err are as of `answer`.
     pub fn admit(
         &mut self,
         routed: &Routed,
@@ -208,7 +209,8 @@ impl Core {
         }
     }
 
-    /// Answers an event. An admission is planned by the tables in force.
+    /// Answers an event. An admission is planned by the tables in force and by the technology
+    /// prefixes that gateways gave.
     ///
     /// `Ok` comes exactly if the event was recorded: with the reply, granted or refused, and the
     /// receipt of the new entry. `Err` is a refusal by a count (endpoints-full, calls-full,

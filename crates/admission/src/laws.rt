@@ -37,7 +37,8 @@ pub fn recorded_admissions_are_routed()
 {}
 
 /// In every legal history under accepted configurations: each admission that was refused for its
-/// route had digits that led nowhere, by the configuration then in force, for this reason.
+/// route had digits that led nowhere, by the configuration then in force and the endpoints then
+/// registered, for this reason.
 pub fn recorded_refusals_are_unrouted()
     ensures { RecordedRefusalsAreUnrouted }
 {}

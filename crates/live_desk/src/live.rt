@@ -314,7 +314,7 @@ impl<J: Imprint> Live<J> {
 
     #[tactic(auto, using(crate::proofs::Grows::steps_shown))]
     /// Answers an event as the call of its kind does. An admission is planned by the tables in
-    /// force.
+    /// force and by the technology prefixes that gateways gave.
     pub fn answer<R: Wait>(&mut self, rt: &R, event: Event) -> Result<(Reply, Receipt), Reply>
         ensures step { Steps self.old (Events.plain event) result self.new }
         ensures put { IsPut (Events.plain event) result (generations self.new) }

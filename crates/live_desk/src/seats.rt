@@ -145,7 +145,8 @@ impl<J: House> Seat<J> {
     ///
     /// An admission is planned before the lock is taken. Under the lock the last receipt is looked
     /// for in the record, and the seat learns what is published, before the event (in a reload
-    /// after it); a plan of another version than the one in force is made anew.
+    /// after it); a plan of another version than the one in force is made anew, and technology
+    /// prefixes that gateways gave are added to any plan.
     pub fn ask<R: Wait>(
         &mut self,
         rt: &R,

@@ -67,7 +67,8 @@ impl Served {
 
     /// The longest prefix with which the text begins and with which a gateway serves in a zone that
     /// is a local one of these tables, of those that have more than `least` characters. Looks up at
-    /// most one text for each length up to that of the longest prefix with the same first character.
+    /// most one text for each length up to that of the longest prefix with the same first character
+    /// that was ever given.
     pub fn longest_local(&self, tables: &Tables, text: &[u8], least: usize) -> Option<TechPrefix>
         ensures { MatchOption result
             (NoneIsServed self.now (is_local tables.now.commands) text.now least)

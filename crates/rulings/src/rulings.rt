@@ -46,7 +46,7 @@ pub enum Effect {
 impl Machine {
     #[tactic(auto, unfolding(crate::specs::Ruling::ruling_of))]
     /// The ruling on an event, with these tables in force. An admission is planned by them, unless
-    /// their plan for its digits is given.
+    /// their plan for its digits is given, and by the technology prefixes that gateways gave.
     #[inline(never)]
     pub fn ruling<'a, 'e: 'a>(
         &'a self,
