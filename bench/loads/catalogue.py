@@ -3,7 +3,7 @@
 from dataclasses import dataclass
 from typing import Callable
 
-from loads import decisions, gateways, network, registrations, reloads, small_site
+from loads import decisions, gateways, learned, network, registrations, reloads, small_site
 from loads.writer import Writer
 
 REQUESTS = (30000, 100000, 300000)
@@ -58,6 +58,15 @@ LOADS = [
         gateways.write,
         (1000, 3000, 10000),
         (1000, 3000, 10000),
+        (100000,),
+        (20000,),
+    ),
+    Load(
+        "learned prefixes",
+        "gateways",
+        learned.write,
+        (100, 1000, 10000),
+        (100, 1000, 10000),
         (100000,),
         (20000,),
     ),
