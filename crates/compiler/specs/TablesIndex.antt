@@ -297,6 +297,17 @@ AreLimits zones commands limits =
     limits_if_local kind (limits_or (own_limits_of commands name) (default_limits_of commands)))
     (kind_at zones (number_in zones name))
 
+-- ---- parts
+-- what is made of the `zone prefix` lines: their patterns, the trie of these, and the gateways that
+-- are named for them
+pub record AreRoutes {S : Type 0} (zones : Zones) (commands : List Command)
+    (rows : List NumberedRow) (prefixes : List (PatternParts × ℕ)) (priorities : Priorities S)
+    : Type 0 where
+  pub rows_are : AreRows zones commands rows
+  pub distinct : IsDistinct same_pattern (keys_of rows)
+  pub prefixes_are : prefixes ≡ places_of rows
+  pub priorities_are : ArePriorities zones commands rows priorities
+
 -- ---- the whole
 -- the tables stand for the commands
 pub record IsIndex {S : Type 0} (commands : List Command) (zones : Zones) (first_local : List ℕ)

@@ -4,6 +4,7 @@
 pub mod laws;
 mod limit_table;
 pub mod limits;
+mod parts;
 mod picking;
 pub mod plans;
 mod priorities;

@@ -11,14 +11,13 @@ ghost use Rattle.compiler.specs.Technology.{technology_of, begins_with, hopoffs_
 ghost use Rattle.compiler.specs.Zones.{zone_meant, local_zone, view_at, view_of_name, zone_at};
 ghost use Rattle.compiler.specs.TablesIndex as Index;
 
-use crate::limit_table::{limits_at, limits_in, remote_limit_in};
+use crate::limit_table::{limits_at, remote_limit_in};
 use crate::limits::ZoneLimits;
+use crate::parts::{Parts, Routes, parts_in};
 use crate::plans::{DEFAULT_GATEWAY_PRIORITY, Plan, Routed, RowNo, ZoneNo};
-use crate::priorities::priorities_in;
-use crate::rows::{prefixes_in, rows_in};
-use crate::technologies::{default_technology_in, technologies_in, technology_of};
+use crate::technologies::{default_technology_in, technology_of};
 use crate::technology_map::TechnologyMap;
-use crate::zone_table::{first_local_in, kind_at, view_of, zones_in};
+use crate::zone_table::{first_local_in, kind_at, view_of};
 use crate::zones::ZoneView;
 use command_reader::{Command, Commands, LimitKind, ZoneKind};
 use digit_patterns::{Pattern, PrefixTable};
@@ -73,17 +72,23 @@ impl Tables {
         let lines = commands.as_slice();
         // So it is known how many there are at most.
         let _count = commands.len();
-        let zones = zones_in(alloc, lines)?;
+        let parts = parts_in(alloc, lines)?;
+        let Parts {
+            zones,
+            routes,
+            technologies,
+            limits,
+        } = parts;
+        let Routes {
+            rows,
+            prefixes,
+            priorities,
+        } = routes;
         let Some(first_local) = first_local_in(lines) else {
             unreachable!()
         };
-        let rows = rows_in(alloc, lines, &zones)?;
-        let prefixes = prefixes_in(alloc, &rows)?;
-        let priorities = priorities_in(alloc, lines, &zones, &rows)?;
-        let technologies = technologies_in(alloc, lines, &zones)?;
         let default_technology = default_technology_in(lines);
         let rejects_unknown = rejects_unknown(lines);
-        let limits = limits_in(alloc, lines, &zones)?;
         let remote_limit = remote_limit_in(lines);
         Ok(Tables {
             commands,
@@ -329,8 +334,8 @@ impl Tables {
         self.limits(zone).of(kind)
     }
 
-    /// The limit of all calls to remote zones together, 10 to 100,000,000 units of 100 bit/s: what
-    /// the last `bandwidth remote` line says. From Cisco's `bandwidth`.
+    /// The limit of all calls to and from other gatekeepers together, 10 to 100,000,000 units of
+    /// 100 bit/s: what the last `bandwidth remote` line says. From Cisco's `bandwidth`.
     pub fn remote_limit(&self) -> Option<u64>
         ensures { result ≡ remote_limit_of self.now.commands }
     {
