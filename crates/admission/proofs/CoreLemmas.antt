@@ -6,7 +6,7 @@ use Rattle.rulings.specs.Founded.{IsUnder, takes_memory}
 use Rattle.std.specs.Prelude.{IsSome, is_some}
 use Rattle.std.specs.List.{AllByRecursion}
 use Rattle.command_reader.specs.declared.commands.Command.{Command}
-use Rattle.rulings.specs.Events.{PlainEvent, Registering, Unregistering, Admitting, Changing, Releasing, Reloading, put_in_force}
+use Rattle.rulings.specs.Events.{PlainEvent, Registering, Unregistering, Admitting, Answering, Changing, Releasing, Reloading, put_in_force}
 use Rattle.rulings.specs.Ruling.{ruling_of, verdict_of}
 use Rattle.rulings.specs.Step.{places_needed, count_refusal, step, no_memory_reply_of}
 use Rattle.decision_record.specs.History.{PlainEntry, entry_of, IsLegal, replay, CoreParts, RecordParts, in_force, generations_of, generations, state_of, with_entry, receipt_of, MayReply, core_after}
@@ -187,6 +187,7 @@ reload_is_light s (Registering e) puts = let impossible : ⊥ = cc in absurd imp
 reload_is_light s (Unregistering id) puts = let impossible : ⊥ = cc in absurd impossible
 reload_is_light s (Admitting id call digits units) puts =
     let impossible : ⊥ = cc in absurd impossible
+reload_is_light s (Answering id call units) puts = let impossible : ⊥ = cc in absurd impossible
 reload_is_light s (Changing id call units) puts = let impossible : ⊥ = cc in absurd impossible
 reload_is_light s (Releasing id call) puts = let impossible : ⊥ = cc in absurd impossible
 reload_is_light s (Reloading commands) puts = (refl, refl)

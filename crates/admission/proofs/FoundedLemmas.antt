@@ -9,6 +9,7 @@ use Rattle.bandwidth.specs.declared.open_call.OpenCall.{OpenCall}
 use Rattle.bandwidth.specs.declared.over.Over.{Over}
 use Rattle.bandwidth.specs.Calls.{call_of, is_open, owns, has_owner}
 use Rattle.bandwidth.specs.Fits.{over_of}
+use Rattle.bandwidth.proofs.CallLemmas.{closed_if_none}
 use Rattle.rulings.specs.declared.replies.RegisterRefusal.{RegisterRefusal}
 use Rattle.rulings.specs.declared.replies.ReleaseRefusal.{ReleaseRefusal}
 use Rattle.rulings.specs.declared.replies.Reply.{Reply}
@@ -24,9 +25,9 @@ use Rattle.rulings.specs.declared.rulings.Effect.TheVariants.{Nothing, Put, Remo
 use Rattle.rulings.specs.Ruling.{Ruling}
 use Rattle.rulings.specs.State.{State, free_places}
 use Rattle.command_reader.specs.declared.commands.Command.{Command}
-use Rattle.rulings.specs.Events.{PlainEvent, Registering, Unregistering, Admitting, Changing, Releasing, Reloading, endpoint_asking, put_in_force}
-use Rattle.rulings.specs.Routing.{target_for, route_of}
-use Rattle.rulings.specs.Ruling.{unrouted, register_refusal, registration_unless, unregistration_ruling, admitted_call, admission_unless, admission_to, call_open_ruling, admission_ruling, change_unless, change_ruling, release_refused, release_ruling, ruling_of}
+use Rattle.rulings.specs.Events.{PlainEvent, Registering, Unregistering, Admitting, Answering, Changing, Releasing, Reloading, endpoint_asking, put_in_force}
+use Rattle.rulings.specs.Routing.{target_for, destination_of, route_of}
+use Rattle.rulings.specs.Ruling.{unrouted, register_refusal, registration_unless, unregistration_ruling, admitted_call, admission_unless, admission_to, call_open_ruling, admission_ruling, answered_call, is_that, repeated_answer, answering_to, answering_ruling, change_unless, change_ruling, release_refused, release_ruling, ruling_of}
 use Rattle.rulings.specs.Step.{is_recorded, places_needed, record_full_reply_of, record_refusal, are_endpoints_full, are_calls_full, count_refusal, with_registered, with_commands, with_effect, no_memory_reply_of}
 use Rattle.admission.specs.HistoryLaws.{IsWithinLimits}
 use Rattle.admission.proofs.CallsLemmas.{length-with_call, length-with_changed, length-without_call}
@@ -81,7 +82,8 @@ module _ (s : State) where
         (admission_to s caller call units (target_for s.commands s.endpoints digits) route).effect
     to_founded caller (Refused refusal) closed room = tt
     to_founded caller (To destination) closed room =
-        let admitted = admitted_call caller call units (target_for s.commands s.endpoints digits) in
+        let admitted = admitted_call caller call units (target_for s.commands s.endpoints digits)
+        destination in
         within_founded caller.zone destination admitted (over_of s.commands s.calls admitted)
         closed room
 
@@ -104,6 +106,39 @@ module _ (s : State) where
         by true same room = tt
         by false same room =
             to_founded caller (route_of s.commands s.endpoints caller.zone digits) same room
+
+  module _ (id : List ℕ) (call units : ℕ) where
+    answered_founded : (zone : List ℕ) (destination : Destination) (answered : OpenCall)
+        (over : Option Over)
+        → is_open s.calls answered.number ≡ false
+        → are_calls_full s (admission_unless zone destination answered over).effect ≡ false
+        → IsFounded s (Answering id call units)
+        (admission_unless zone destination answered over).effect
+    answered_founded zone destination answered (Some over) closed room = tt
+    answered_founded zone destination answered None closed room =
+        record { closed = closed; room = room; fallible = refl }
+
+    answering_to_founded : (e : EndpointParts) (held : Option OpenCall)
+        → call_of s.calls call ≡ held
+        → are_calls_full s (answering_to s e call units held).effect ≡ false
+        → IsFounded s (Answering id call units) (answering_to s e call units held).effect
+    answering_to_founded e None found room =
+        let answered = answered_call e call units in
+        answered_founded e.zone (destination_of e.kind e) answered
+        (over_of s.commands s.calls answered) (closed_if_none s.calls call found) room
+    answering_to_founded e (Some held) found room = by (is_that e.id held.answerer)
+      where
+        by : (that : Bool)
+            → IsFounded s (Answering id call units)
+            (cond that (repeated_answer e call held.units) (call_open_ruling e call)).effect
+        by true = tt
+        by false = tt
+
+    answering_founded : (endpoint : Option EndpointParts)
+        → are_calls_full s (answering_ruling s call units endpoint).effect ≡ false
+        → IsFounded s (Answering id call units) (answering_ruling s call units endpoint).effect
+    answering_founded None room = tt
+    answering_founded (Some e) room = answering_to_founded e (call_of s.calls call) refl room
 
   module _ (id : List ℕ) (call : ℕ) where
     change_unless_founded : (units : ℕ) (over : Option Over)
@@ -159,6 +194,8 @@ founded s (Registering e) h =
 founded s (Unregistering id) h = unregistration_founded s id
 founded s (Admitting id call digits units) h =
     admission_founded s id digits call units (endpoint_of s.endpoints id) (not_full _ _ _ h).0
+founded s (Answering id call units) h =
+    answering_founded s id call units (endpoint_of s.endpoints id) (not_full _ _ _ h).0
 founded s (Changing id call units) h = change_founded s id call units (call_of s.calls call) refl
 founded s (Releasing id call) h = release_founded s id call (call_of s.calls call) refl
 founded s (Reloading commands) h = record {
@@ -220,6 +257,8 @@ places_are_free s (Registering e) h recorded =
 places_are_free s (Unregistering id) h recorded = has_places s (Unregistering id) _ _ refl h
 places_are_free s (Admitting id call digits units) h recorded =
     has_places s (Admitting id call digits units) _ _ refl (not_full _ _ _ h).1
+places_are_free s (Answering id call units) h recorded =
+    has_places s (Answering id call units) _ _ refl (not_full _ _ _ h).1
 places_are_free s (Changing id call units) h recorded =
     has_places s (Changing id call units) _ _ refl h
 places_are_free s (Releasing id call) h recorded =
@@ -236,6 +275,7 @@ unfolding ruling_of
 may_lack_memory s (Registering e) recorded one = refl
 may_lack_memory s (Unregistering id) recorded one = refl
 may_lack_memory s (Admitting id call digits units) recorded one = refl
+may_lack_memory s (Answering id call units) recorded one = refl
 may_lack_memory s (Changing id call units) recorded one = refl
 may_lack_memory s (Releasing id call) recorded one =
     let none = closes_by s id call (call_of s.calls call) recorded in

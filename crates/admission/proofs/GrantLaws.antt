@@ -24,7 +24,7 @@ use Rattle.admission.specs.HistoryLaws.{StandsAfter, IsGrant, ToOpen, ToRaise, I
 use Rattle.admission.proofs.StepLemmas.{step_state}
 use Rattle.admission.proofs.HistoryLaws.{verdict_there}
 use Rattle.admission.proofs.OrderLemmas.{calls_in_order}
-use Rattle.admission.proofs.GrantLemmas.{gives_bandwidth, IsBehind, Other, Refusing, Opening, Changing_to, behind}
+use Rattle.admission.proofs.GrantLemmas.{gives_bandwidth, IsBehind, Other, Refusing, Opening, Repeating, Changing_to, behind}
 
 -- ---- who is found after a change
 -- none of a number that is less
@@ -50,7 +50,7 @@ none_less (c ∷ calls) call after =
         ∙ rest
     by false e rest = rest
 
-found_opened : (calls : List OpenCall) (call : OpenCall)
+pub found_opened : (calls : List OpenCall) (call : OpenCall)
     → call_of (with_call calls call) call.number ≡ Some call
 found_opened calls call =
     none_less calls call (filter (λ c. nat_lt call.number c.number) calls)
@@ -78,7 +78,7 @@ found_changed (call ∷ calls) number units held found =
         ∙ rest later
 
 -- ---- the state after a grant
-after_effect : (s : State) (event : PlainEvent) (effect : Effect)
+pub after_effect : (s : State) (event : PlainEvent) (effect : Effect)
     → (ruling_of s event).effect ≡ effect
     → state_after s event (ruling_of s event) ≡ with_count (with_effect s event effect)
 unfolding state_after
@@ -122,13 +122,13 @@ module _ (s : State) (event : PlainEvent) (number units : ℕ) where
   granted_within order (Other gives none) grant = absurd (true≢false (sym (given grant) ∙ gives))
     where
       given : {reply : Reply} → IsGrant s number units reply → gives_bandwidth reply ≡ true
-      given (ToOpen destination) = refl
+      given (ToOpen destination closed) = refl
       given (ToRaise held found more) = refl
   granted_within order (Refusing gives over call names asks fits) grant =
       absurd (true≢false (sym (given grant) ∙ gives))
     where
       given : {reply : Reply} → IsGrant s number units reply → gives_bandwidth reply ≡ true
-      given (ToOpen destination) = refl
+      given (ToOpen destination closed) = refl
       given (ToRaise held found more) = refl
   granted_within order (Opening destination call verdict effect closed fits) grant =
       let is = opened_as grant verdict in
@@ -137,14 +137,23 @@ module _ (s : State) (event : PlainEvent) (number units : ℕ) where
       opened_as : {reply : Reply} → IsGrant s number units reply
           → reply ≡ Admitted call.number destination call.units
           → (call.number ≡ number) × (call.units ≡ units)
-      opened_as (ToOpen reached) same = (cc, cc)
+      opened_as (ToOpen reached none) same = (cc, cc)
       opened_as (ToRaise held found more) same = let impossible : ⊥ = cc in absurd impossible
+  granted_within order (Repeating asked destination held verdict effect found answers) grant =
+      absurd (opens_none grant verdict)
+    where
+      opens_none : {reply : Reply} → IsGrant s number units reply
+          → reply ≡ Admitted asked destination held.units → ⊥
+      opens_none (ToOpen reached none) same =
+          let number_is : number ≡ asked = cc in
+          none-some held (sym none ∙ ap (call_of s.calls) number_is ∙ found)
+      opens_none (ToRaise was there more) same = cc
   granted_within order (Changing_to call asked id held verdict effect found fits) grant =
       raised_as grant verdict
     where
       raised_as : {reply : Reply} → IsGrant s number units reply → reply ≡ Changed call asked
           → IsCallWithin (state_after s event (ruling_of s event)) number units
-      raised_as (ToOpen reached) same = let impossible : ⊥ = cc in absurd impossible
+      raised_as (ToOpen reached none) same = let impossible : ⊥ = cc in absurd impossible
       raised_as (ToRaise was there more) same =
           let number_is : call ≡ number = cc in
           let units_are : asked ≡ units = cc in
@@ -188,12 +197,12 @@ module _ (commands : List Command) (limits : Limits) (entries before : List Plai
       calls_in_order (opening_of commands limits) before
       (legal_before (opening_of commands limits) before e stands.0 legal_there) tt
 
-  verdict_is : verdict_of (replay (opening_of commands limits) before) e.event ≡ e.reply
+  pub verdict_is : verdict_of (replay (opening_of commands limits) before) e.event ≡ e.reply
   verdict_is =
       verdict_there (opening_of commands limits) entries before e legal stands e.event e.reply refl
       refl
 
-  state_is : replay (opening_of commands limits) (before ++ e ∷ [])
+  pub state_is : replay (opening_of commands limits) (before ++ e ∷ [])
       ≡ state_after (replay (opening_of commands limits) before) e.event
       (ruling_of (replay (opening_of commands limits) before) e.event)
   state_is =
@@ -226,6 +235,13 @@ raise_was_within s event number units held order (Opening destination call is ef
     let impossible : ⊥ = differ (sym is ∙ verdict) in absurd impossible
   where
     differ : Admitted call.number destination call.units ≡ Changed number units → ⊥
+    differ h = cc
+raise_was_within s event number units held order (Repeating asked destination was is effect there
+    answers)
+    verdict found more =
+    let impossible : ⊥ = differ (sym is ∙ verdict) in absurd impossible
+  where
+    differ : Admitted asked destination was.units ≡ Changed number units → ⊥
     differ h = cc
 raise_was_within s event number units held order (Changing_to call asked id was is effect there
     fits)
@@ -274,6 +290,8 @@ refused_rightly s event over (Refusing gives named call is asks fits) names =
           (fits ∙ ap Some (same_Some named over (sym is ∙ names)))).1;
     }
 refused_rightly s event over (Opening destination call is effect closed fits) names =
+    absurd (none-some over (sym (ap sum_named is) ∙ names))
+refused_rightly s event over (Repeating asked destination held is effect there answers) names =
     absurd (none-some over (sym (ap sum_named is) ∙ names))
 refused_rightly s event over (Changing_to call asked id was is effect there fits) names =
     absurd (none-some over (sym (ap sum_named is) ∙ names))

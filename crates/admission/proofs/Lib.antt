@@ -1,4 +1,6 @@
 pub mod AnsweringLemmas
+pub mod AnswerLaws
+pub mod AnswerRefusals
 pub mod CallsLemmas
 pub mod CoreLemmas
 pub mod EndpointLaws

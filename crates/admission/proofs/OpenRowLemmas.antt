@@ -1,12 +1,11 @@
 -- The open calls of rows and those of a state, by how many there are of each number.
-use Rattle.std.proofs.Common.{◌≡◌, ◌≤◌, ℕ, ◌+◌, ◌==◌, Bool, true, false, cond, List, [], ◌∷◌, length, Option, Some, None, refl, sym, ap, subst, ◌∙◌, true≢false, arith, eq-eqb}
-use Rattle.std.specs.Prelude.{nat_le, is_some}
+use Rattle.std.proofs.Common.{◌≡◌, ◌≤◌, ℕ, ◌+◌, ◌==◌, Bool, true, false, cond, List, [], ◌∷◌, length, Option, Some, None, refl, sym, ap, ◌∙◌, true≢false, arith, eq-eqb}
+use Rattle.std.specs.Prelude.{is_some}
 use Rattle.std.specs.List.{sum_by}
 use Rattle.std.proofs.lemmas.Bool.{eqb-true}
 use Rattle.std.proofs.lemmas.List.Sums.{sum_by-cons}
-use Rattle.std.proofs.lemmas.Option.{none-some}
 use Rattle.bandwidth.specs.declared.open_call.OpenCall.{OpenCall}
-use Rattle.bandwidth.specs.Calls.{has_call_number, call_of, with_call, without_call, with_changed, has_owner, is_open as is_open_call}
+use Rattle.bandwidth.specs.Calls.{has_call_number, call_of, with_call, without_call, with_changed, is_open as is_open_call}
 use Rattle.bandwidth.proofs.CallLemmas.{Ascend, has_its_number, closed_head, closed_tail, sum_with, sum_without, sum_changed, within_sum}
 use Rattle.rulings.specs.Founded.{is_owned}
 use Rattle.call_rows.specs.OpenCalls.{Open, open_of, with_units, without}

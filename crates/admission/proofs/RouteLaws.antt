@@ -124,7 +124,7 @@ verdict_is s call units id digits = refl
 -- ---- admissions to a destination
 module _ (zone : List ℕ) (reached : Destination) (admitted : OpenCall) (replied_call : ℕ) where
   -- one that is granted is what was asked
-  to_granted : (granted : ℕ) (destination : Destination) (over : Option Over)
+  pub to_granted : (granted : ℕ) (destination : Destination) (over : Option Over)
       → (admission_unless zone reached admitted over).verdict
       ≡ Admitted replied_call destination granted
       → (replied_call ≡ admitted.number) × (granted ≡ admitted.units) × (reached ≡ destination)
@@ -138,13 +138,13 @@ module _ (zone : List ℕ) (reached : Destination) (admitted : OpenCall) (replie
   to_has_route refusal None h = cc
   to_has_route refusal (Some over) h = cc
 
-  to_has_caller : (over : Option Over)
+  pub to_has_caller : (over : Option Over)
       → (admission_unless zone reached admitted over).verdict
       ≡ AdmitRefused replied_call CallerNotRegistered → ⊥
   to_has_caller None h = cc
   to_has_caller (Some over) h = cc
 
-  to_has_number : (over : Option Over)
+  pub to_has_number : (over : Option Over)
       → (admission_unless zone reached admitted over).verdict
       ≡ AdmitRefused replied_call CallOpen → ⊥
   to_has_number None h = cc
@@ -156,11 +156,12 @@ module _ (s : State) (call units : ℕ) (digits : List ℕ) (caller : EndpointPa
   verdict_to route =
       (admission_to s caller call units (target_for s.commands s.endpoints digits) route).verdict
 
-  abbrev asked_call : OpenCall
-  asked_call = admitted_call caller call units (target_for s.commands s.endpoints digits)
+  abbrev asked_call : Destination → OpenCall
+  asked_call destination =
+      admitted_call caller call units (target_for s.commands s.endpoints digits) destination
 
-  abbrev over_there : Option Over
-  over_there = over_of s.commands s.calls asked_call
+  abbrev over_there : Destination → Option Over
+  over_there destination = over_of s.commands s.calls (asked_call destination)
 
   -- no verdict but call-open comes of an open number
   by_route : (verdict : Reply) → verdict ≢ AdmitRefused call CallOpen
@@ -181,12 +182,12 @@ module _ (s : State) (call units : ℕ) (digits : List ℕ) (caller : EndpointPa
       → verdict_to route ≡ AdmitRefused call CallerNotRegistered → ⊥
   route_has_caller (Refused reason) h = cc
   route_has_caller (To destination) h =
-      to_has_caller caller.zone destination asked_call call over_there h
+      to_has_caller caller.zone destination (asked_call destination) call (over_there destination) h
 
   route_has_number : (route : Route) → verdict_to route ≡ AdmitRefused call CallOpen → ⊥
   route_has_number (Refused reason) h = cc
   route_has_number (To destination) h =
-      to_has_number caller.zone destination asked_call call over_there h
+      to_has_number caller.zone destination (asked_call destination) call (over_there destination) h
 
   -- call-open comes exactly of an open number
   opens_as : (admission_ruling s call digits units (Some caller)).verdict
@@ -235,8 +236,8 @@ module _ (s : State) (declared : NamesDeclared s.commands s.commands) (call unit
   granted_by granted destination caller there (Refused reason) e h =
       let impossible : ⊥ = cc in absurd impossible
   granted_by granted destination caller there (To reached) e h =
-      let is = to_granted caller.zone reached (asked_call s call units digits caller) replied_call
-      granted destination (over_there s call units digits caller) h in
+      let is = to_granted caller.zone reached (asked_call s call units digits caller reached)
+      replied_call granted destination (over_there s call units digits caller reached) h in
       let goes = sym (route_is s caller.zone digits) ∙ e ∙ ap To is.2 in (
         is.0,
         is.1,
@@ -278,8 +279,8 @@ module _ (s : State) (declared : NamesDeclared s.commands s.commands) (call unit
         },
       )
   refused_by refusal caller there (To reached) e h =
-      absurd (to_has_route caller.zone reached (asked_call s call units digits caller)
-      replied_call refusal (over_there s call units digits caller) h)
+      absurd (to_has_route caller.zone reached (asked_call s call units digits caller reached)
+      replied_call refusal (over_there s call units digits caller reached) h)
 
   refused_to : (refusal : RouteRefusal) (caller : Option EndpointParts)
       → endpoint_of s.endpoints id ≡ caller
@@ -324,7 +325,7 @@ strangers_are_refused s call units id digits = (
 )
 
 -- ---- open numbers
-is_some_found : {X : Type 0} (p : X → Bool) (xs : List X) → is_some (find p xs) ≡ list_any p xs
+pub is_some_found : {X : Type 0} (p : X → Bool) (xs : List X) → is_some (find p xs) ≡ list_any p xs
 is_some_found p [] = refl
 is_some_found p (x ∷ xs) = by (p x) (is_some_found p xs)
   where

@@ -1,11 +1,11 @@
 -- The rows of a record: what each entry adds to them, and that none is refused.
-use Rattle.std.proofs.Common.{◌≡◌, ◌≤◌, ◌<◌, ℕ, zero, suc, ◌+◌, ◌-◌, ◌==◌, Bool, true, false, cond, ◌&&◌, List, [], ◌∷◌, ◌++◌, length, take, nat_le, Option, Some, None, refl, sym, ap, ap₂, subst, ◌∙◌, ◌⊎◌, inl, inr, arith, append-nil}
-use Rattle.std.specs.Prelude.{IsTrue, slice_get}
+use Rattle.std.proofs.Common.{◌≡◌, ◌≤◌, ◌<◌, ℕ, zero, suc, ◌+◌, ◌-◌, ◌==◌, Bool, true, false, cond, List, [], ◌∷◌, ◌++◌, length, take, nat_le, Option, Some, None, refl, sym, ap, ap₂, subst, ◌∙◌, ◌⊎◌, inl, inr, arith, append-nil}
+use Rattle.std.specs.Prelude.{slice_get}
 use Rattle.std.specs.Option.{option_and_then}
 use Rattle.std.specs.List.{AllByRecursion, cons_option}
 use Rattle.std.proofs.lemmas.Bool.{leb-true, lt-leb, ne_eqb, and_parts}
 use Rattle.std.proofs.lemmas.List.{take_all, length-take-le}
-use Rattle.std.proofs.lemmas.Option.{none-some, same_Some, slice_get-get_or, slice_get_within}
+use Rattle.std.proofs.lemmas.Option.{none-some, same_Some}
 use Rattle.bandwidth.specs.declared.open_call.OpenCall.{OpenCall}
 use Rattle.bandwidth.proofs.CallLemmas.{Ascend}
 use Rattle.call_rows.specs.declared.rows.CallEvent.{CallEvent}
@@ -22,7 +22,7 @@ use Rattle.gk_terms.specs.declared.limits.TheConstants.{MOST_CALLS, MOST_RECORDS
 use Rattle.admission.specs.HistoryLaws.{IsSound}
 use Rattle.rulings.specs.Ruling.{ruling_of}
 use Rattle.rulings.specs.Events.{PlainEvent}
-use Rattle.rulings.specs.Step.{with_effect, state_after, step}
+use Rattle.rulings.specs.Step.{state_after, step}
 use Rattle.decision_record.specs.History.{PlainEntry, entry_of, entry_of_number, IsLegal, replay}
 use Rattle.decision_record.specs.Rows.{call_event, row_of, entry_row, row_in, rows_from, rows_of}
 use Rattle.admission.proofs.FoundedLemmas.{founded}

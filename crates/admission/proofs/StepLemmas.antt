@@ -3,7 +3,7 @@ use Rattle.std.proofs.Common.{◌≡◌, ℕ, ◌+◌, Bool, true, false, cond, 
 use Rattle.command_reader.specs.declared.commands.Command.{Command}
 use Rattle.registry.specs.Endpoint.{EndpointParts}
 use Rattle.rulings.specs.State.{State}
-use Rattle.rulings.specs.Events.{PlainEvent, Registering, Unregistering, Admitting, Changing, Releasing, Reloading, endpoint_asking, put_in_force}
+use Rattle.rulings.specs.Events.{PlainEvent, Registering, Unregistering, Admitting, Answering, Changing, Releasing, Reloading, endpoint_asking, put_in_force}
 use Rattle.rulings.specs.Ruling.{ruling_of, verdict_of}
 use Rattle.rulings.specs.Step.{is_recorded, count_refusal, with_registered, with_commands, with_effect, state_after, outcome_of, step}
 use Rattle.decision_record.specs.History.{in_force_after}
@@ -120,6 +120,9 @@ next_after s (Admitting id call digits units) =
     same_is_next s _ (Admitting id call digits units) refl
     (keeps_version s (Admitting id call digits units)
     (ruling_of s (Admitting id call digits units)).effect refl)
+next_after s (Answering id call units) =
+    same_is_next s _ (Answering id call units) refl
+    (keeps_version s (Answering id call units) (ruling_of s (Answering id call units)).effect refl)
 next_after s (Changing id call units) =
     same_is_next s _ (Changing id call units) refl
     (keeps_version s (Changing id call units) (ruling_of s (Changing id call units)).effect refl)

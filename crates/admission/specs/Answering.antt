@@ -1,9 +1,9 @@
 -- What a core answers to an event that is lent.
-use Rattle.std.specs.Prelude.{◌≡◌, ⊤, ℕ, List, Option, Some, None, Result, Ok, Err}
+use Rattle.std.specs.Prelude.{◌≡◌, ℕ, List, Option, Some, None, Result, Ok, Err}
 use Rattle.compiler.specs.declared.plans.Routed.{Routed}
 use Rattle.compiler.specs.Plan.{plan_of, target_of}
 use Rattle.rulings.specs.State.{State}
-use Rattle.rulings.specs.Events.{PlainEvent, Registering, Unregistering, Admitting, Changing, Releasing, Reloading, kind_of, id_of, call_number_of}
+use Rattle.rulings.specs.Events.{PlainEvent, Registering, Unregistering, Admitting, Answering, Changing, Releasing, Reloading, kind_of, id_of, call_number_of}
 use Rattle.rulings.specs.declared.replies.Reply.{Reply}
 use Rattle.rulings.specs.declared.replies.Reply.TheVariants.{Released}
 use Rattle.decision_record.specs.declared.entries.Receipt.{Receipt}
@@ -13,6 +13,7 @@ abbrev pub digits_asked : PlainEvent → Option (List ℕ)
 digits_asked (Registering endpoint) = None
 digits_asked (Unregistering id) = None
 digits_asked (Admitting id call digits units) = Some digits
+digits_asked (Answering id call units) = None
 digits_asked (Changing id call units) = None
 digits_asked (Releasing id call) = None
 digits_asked (Reloading commands) = None

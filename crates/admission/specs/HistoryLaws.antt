@@ -17,6 +17,7 @@ use Rattle.bandwidth.specs.Calls.{call_of, without_call}
 use Rattle.bandwidth.specs.FitLaws.{SumsAreWithin, IsAbove}
 use Rattle.rulings.specs.declared.limits.Limits.{Limits}
 use Rattle.rulings.specs.declared.routes.Destination.{Destination}
+use Rattle.rulings.specs.declared.routes.Route.TheVariants.{To}
 use Rattle.rulings.specs.declared.routes.RouteRefusal.{RouteRefusal}
 use Rattle.rulings.specs.declared.replies.AdmitRefusal.{AdmitRefusal}
 use Rattle.rulings.specs.declared.replies.AdmitRefusal.TheVariants as admit
@@ -25,9 +26,9 @@ use Rattle.rulings.specs.declared.replies.ChangeRefusal.TheVariants as change
 use Rattle.rulings.specs.declared.replies.Reply.{Reply}
 use Rattle.rulings.specs.declared.replies.Reply.TheVariants.{Registered, RegisterRefused, Unregistered, UnregisterRefused, Admitted, AdmitRefused, Changed, ChangeRefused, Released, ReleaseRefused, Reloaded, ReloadRefused}
 use Rattle.rulings.specs.State.{State, opening_of}
-use Rattle.rulings.specs.Events.{PlainEvent, Admitting, Changing}
-use Rattle.rulings.specs.Routing.{target_for}
-use Rattle.rulings.specs.Ruling.{admitted_call}
+use Rattle.rulings.specs.Events.{PlainEvent, Admitting, Answering, Changing}
+use Rattle.rulings.specs.Routing.{target_for, route_of}
+use Rattle.rulings.specs.Ruling.{admitted_call, answered_call}
 use Rattle.decision_record.specs.History.{PlainEntry, IsLegal, replay, generations_of}
 use Rattle.admission.specs.RouteLaws.{IsRouted, IsUnrouted}
 
@@ -72,9 +73,10 @@ RecordedRefusalsAreUnrouted =
 
 -- ---- bandwidth
 -- the reply grants bandwidth that the call of this number did not have: it opens the call, or it
--- gives it more
+-- gives it more. An answer to a call that is open is granted too, and gives it nothing.
 pub data IsGrant (s : State) (number units : ℕ) : Reply → Type 0 where
-  ToOpen : (destination : Destination) → IsGrant s number units (Admitted number destination units)
+  ToOpen : (destination : Destination) → call_of s.calls number ≡ None
+      → IsGrant s number units (Admitted number destination units)
   ToRaise : (held : OpenCall) → call_of s.calls number ≡ Some held → held.units < units
       → IsGrant s number units (Changed number units)
 
@@ -107,13 +109,21 @@ RecordedRaisesWereWithin =
     → held.units < units
     → IsCallWithin (replay (opening_of commands limits) before) number held.units
 
--- the call for which an event asks bandwidth, as it would be: that of a registered caller, or an
--- open one
+-- the call for which an event asks bandwidth, as it would be: that of a registered caller to where
+-- its digits lead, or that which a registered endpoint answers, if no call of its number is open;
+-- or an open one
 pub data Asks (s : State) : PlainEvent → OpenCall → Type 0 where
   ToBeAdmitted : (id digits : List ℕ) (call units : ℕ) (caller : EndpointParts)
+      (destination : Destination)
       → endpoint_of s.endpoints id ≡ Some caller
+      → route_of s.commands s.endpoints caller.zone digits ≡ To destination
+      → call_of s.calls call ≡ None
       → Asks s (Admitting id call digits units)
-      (admitted_call caller call units (target_for s.commands s.endpoints digits))
+      (admitted_call caller call units (target_for s.commands s.endpoints digits) destination)
+  ToBeAnswered : (id : List ℕ) (call units : ℕ) (endpoint : EndpointParts)
+      → endpoint_of s.endpoints id ≡ Some endpoint
+      → call_of s.calls call ≡ None
+      → Asks s (Answering id call units) (answered_call endpoint call units)
   ToBeChanged : (id : List ℕ) (call units : ℕ) (held : OpenCall)
       → call_of s.calls call ≡ Some held
       → Asks s (Changing id call units) (record held { units = units })

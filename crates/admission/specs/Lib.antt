@@ -1,4 +1,5 @@
 pub mod Answering
+pub mod AnswerLaws
 pub mod CoreInvariant
 pub mod HistoryLaws
 pub mod Replying

@@ -100,6 +100,13 @@ pub fn receipt_for(event: &LentEvent<'_>, reply: &Reply, number: u32) -> Receipt
             call: Some(*call),
             reply: *reply,
         },
+        LentEvent::Incoming { id, call, .. } => Receipt {
+            number,
+            kind: EventKind::Incoming,
+            id: Some(**id),
+            call: Some(*call),
+            reply: *reply,
+        },
         LentEvent::Change { id, call, .. } => Receipt {
             number,
             kind: EventKind::BandwidthChange,

@@ -132,6 +132,25 @@ impl Core {
         self.answer_by(Some(plan), event)
     }
 
+    /// Lets an endpoint answer a call. A call of a number that is not open comes from a zone of
+    /// another gatekeeper: it is opened, and the endpoint owns it. One that was admitted to this ID
+    /// stays as it is, and is granted with its own bandwidth, as often as it is asked. Ok and Err
+    /// are as of `answer`.
+    pub fn incoming(
+        &mut self,
+        id: &Name,
+        call: u32,
+        units: Units,
+    ) -> Result<(Reply, Receipt), Reply>
+        ensures { Steps self.old (Events.Answering id.now call units) result self.new }
+    {
+        self.answer(Event::Incoming {
+            id: *id,
+            call,
+            units,
+        })
+    }
+
     /// Gives an open call another bandwidth. Ok and Err are as of `answer`.
     pub fn change(&mut self, id: &Name, call: u32, units: Units) -> Result<(Reply, Receipt), Reply>
         ensures { Steps self.old (Events.Changing id.now call units) result self.new }
@@ -144,7 +163,7 @@ impl Core {
     }
 
     /// Releases an open call. Ok and Err are as of `answer`. Takes no memory, and meets no full
-    /// record: the place of the entry was kept when the call was admitted.
+    /// record: the place of the entry was kept when the call was opened.
     pub fn release(&mut self, id: &Name, call: u32) -> Result<(Reply, Receipt), Reply>
         ensures { Steps self.old (Events.Releasing id.now call) result self.new }
     {

@@ -1,6 +1,7 @@
 //! Theorems on how calls are routed, and on what every record keeps and says. Each is the contract of a
 //! function that does nothing.
 
+ghost use Rattle.admission.specs.AnswerLaws.{AnswersLeadToTheEndpoint, AnswersOfStrangersAreRefused, AnswersToOthersCallsAreRefused, RecordedAnswersLeadToTheEndpoint, RecordedAnswersOpenTheirCalls, RecordedRepeatsChangeNothing};
 ghost use Rattle.admission.specs.HistoryLaws.{RecordedAdmissionsAreRouted, RecordedRefusalsAreUnrouted, RecordedGrantsAreWithin, RecordedRaisesWereWithin, RecordedLimitsAreAbove, EndpointsAreLocal, RecordsAreSound};
 ghost use Rattle.admission.specs.RouteLaws.{AdmissionsAreRouted, RefusalsAreUnrouted, StrangersAreRefused, OpenNumbersAreRefused};
 ghost use Rattle.admission.specs.RowLaws.{RowsAreNeverRefused};
@@ -43,8 +44,50 @@ pub fn recorded_refusals_are_unrouted()
     ensures { RecordedRefusalsAreUnrouted }
 {}
 
-/// In every legal history: after each grant, an admission or a raise, the call is open with the
-/// bandwidth that was granted, and no sum of it is above its limit in force.
+/// In any state: if the verdict on an endpoint's answer to a call is a grant, the endpoint of that
+/// ID is registered, and the destination is that endpoint. The call was not open, and has the
+/// bandwidth that was asked; or it had been admitted to that ID, and keeps its own.
+pub fn answers_lead_to_the_endpoint()
+    ensures { AnswersLeadToTheEndpoint }
+{}
+
+/// The verdict on an endpoint's answer to a call is callerNotRegistered exactly if the endpoint of
+/// that ID is not registered. A full record, or that memory ran out, may be replied in its place.
+pub fn answers_of_strangers_are_refused()
+    ensures { AnswersOfStrangersAreRefused }
+{}
+
+/// The verdict on an endpoint's answer to a call is call-open exactly if the endpoint of that ID is
+/// registered, and a call of the number is open that was not admitted to that ID. A full record, or
+/// that memory ran out, may be replied in its place.
+pub fn answers_to_others_calls_are_refused()
+    ensures { AnswersToOthersCallsAreRefused }
+{}
+
+/// In every legal history: each granted answer to a call led to the endpoint of that ID which was
+/// registered when it was asked.
+pub fn recorded_answers_lead_to_the_endpoint()
+    ensures { RecordedAnswersLeadToTheEndpoint }
+{}
+
+/// In every legal history: after each granted answer to a call whose number was not open, the call
+/// is open. It belongs to the endpoint of that ID which was registered when it was asked, leads
+/// from another gatekeeper, of which no zone is known, to that endpoint's zone, and has the
+/// bandwidth that was asked.
+pub fn recorded_answers_open_their_calls()
+    ensures { RecordedAnswersOpenTheirCalls }
+{}
+
+/// In every legal history: a call whose number was open was granted only as an answer of the ID to
+/// which that call had been admitted, and as it was, with its own bandwidth, and left the endpoints
+/// and the open calls as they were. So an admission was granted only if no call of its number was
+/// open.
+pub fn recorded_repeats_change_nothing()
+    ensures { RecordedRepeatsChangeNothing }
+{}
+
+/// In every legal history: after each grant, a call that is opened or a raise, the call is open
+/// with the bandwidth that was granted, and no sum of it is above its limit in force.
 pub fn recorded_grants_are_within()
     ensures { RecordedGrantsAreWithin }
 {}
@@ -55,9 +98,9 @@ pub fn recorded_raises_were_within()
     ensures { RecordedRaisesWereWithin }
 {}
 
-/// In every legal history: each refusal for a limit, of an admission or of a bandwidth change,
-/// names a sum in which the call that asks counts, and that would be above its limit in force with
-/// it.
+/// In every legal history: each refusal for a limit, of an admission, of an answer to a call or of
+/// a bandwidth change, names a sum in which the call that asks counts, and that would be above its
+/// limit in force with it. No call of the number of such an admission or answer was open.
 pub fn recorded_limits_are_above()
     ensures { RecordedLimitsAreAbove }
 {}

@@ -10,7 +10,10 @@ mod settling;
 mod snapshots;
 
 pub use answering::receipt_for;
-pub use call_rows::{AdmittedCall, CallEvent, CallRow, NumberedAdmission, PushFault, Snapshot};
+pub use call_rows::{
+    AdmittedCall, AnsweredCall, AskedCall, CallEvent, CallRow, NumberedAdmission, PushFault,
+    Snapshot,
+};
 pub use cores::{Core, OpeningFault};
 pub use decision_record::{Entry, EntryEvent, Receipt, Record, ReloadedCommands};
 pub use rulings::{

@@ -24,7 +24,7 @@ use std::sync::Arc;
 
 impl Core {
     /// Replies to a registration of this endpoint, as `register` does, into a taker. Here as in the
-    /// five after it, what is asked is lent, and no reply is made but what the taker makes of the
+    /// six after it, what is asked is lent, and no reply is made but what the taker makes of the
     /// ruling: for whoever answers many.
     pub fn register_into<S: ReplyTaker>(&mut self, endpoint: &Endpoint, taker: &mut S)
         ensures reply { RepliesInto S.has self.old (Events.Registering endpoint.now) taker.new
@@ -64,6 +64,21 @@ impl Core {
             units,
         };
         self.reply_planned(None, event, taker);
+    }
+
+    /// Replies to an endpoint's answer to a call, as `incoming` does, into a taker.
+    pub fn incoming_into<S: ReplyTaker>(
+        &mut self,
+        id: &Name,
+        call: u32,
+        units: Units,
+        taker: &mut S,
+    )
+        ensures reply { RepliesInto S.has self.old (Events.Answering id.now call units) taker.new
+            self.new }
+        ensures same { S.sequence taker.new ≡ S.sequence taker.old }
+    {
+        self.reply_planned(None, &LentEvent::Incoming { id, call, units }, taker);
     }
 
     /// Replies to a change of a call's bandwidth, as `change` does, into a taker.
@@ -140,6 +155,10 @@ impl Core {
                 self.reply_planned(planned, event, &mut kept);
                 kept.reply()
             }
+            Event::Incoming { id, call, units } => {
+                self.incoming_into(&id, call, units, &mut kept);
+                kept.reply()
+            }
             Event::Change { id, call, units } => {
                 self.change_into(&id, call, units, &mut kept);
                 kept.reply()
@@ -178,7 +197,10 @@ impl Core {
                 }
                 None => self.reply_planned(None, asked, taker),
             },
-            LentEvent::Unregister { .. } | LentEvent::Change { .. } | LentEvent::Release { .. } => {
+            LentEvent::Unregister { .. }
+            | LentEvent::Incoming { .. }
+            | LentEvent::Change { .. }
+            | LentEvent::Release { .. } => {
                 self.reply_planned(None, asked, taker);
             }
             LentEvent::Reload(_) => unreachable!(),

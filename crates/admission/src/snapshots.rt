@@ -10,9 +10,10 @@ use std::alloc::{AllocError, Global};
 
 impl Core {
     /// The rows of the record and the registered endpoints, on which another configuration can be
-    /// tried: a row for each admission that was routed, for each bandwidth change that was granted
-    /// and for each release, in the order of the record. A call of number 0, which no request can
-    /// have, has none. `AllocError` comes only if memory runs out: no row of a record is refused.
+    /// tried: a row for each admission that was routed, for each answer that opened a call or was
+    /// refused for a limit, for each bandwidth change that was granted and for each release, in the
+    /// order of the record. A call of number 0, which no request can have, has none. `AllocError`
+    /// comes only if memory runs out: no row of a record is refused.
     pub fn snapshot(&self, alloc: Global) -> Result<Snapshot, AllocError>
         ensures { IfOk result (λ snapshot. snapshot ≡ record {
           rows = rows_of self.now.opening self.now.entries;

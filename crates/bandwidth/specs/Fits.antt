@@ -33,7 +33,7 @@ tries_of_kind commands kind sum call =
       over = overs.Zone kind zone;
     }) (zones_touched call)
 
--- the sum of all calls to remote zones
+-- the sum of all calls marked as remote
 abbrev pub remote_try : List Command → List OpenCall → OpenCall → Try
 remote_try commands others call = record {
   sum = remote_of others + call.units;

@@ -136,6 +136,6 @@ UsesPassAt at between step old new =
     ≡ (if bytes_eq at zone then Some (use_after between step (use_at old zone))
     else use_found old zone)
 
--- the sum of the calls to remote zones after the step of a call
+-- the sum of the calls marked as remote after the step of a call
 abbrev pub remote_after : OpenCall → Step → ℕ → ℕ
 remote_after call step remote = if call.remote then sum_after step remote else remote

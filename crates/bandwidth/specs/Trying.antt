@@ -84,7 +84,7 @@ abbrev pub over_between : List Command → List OpenCall → OpenCall → Option
 over_between commands others call =
     if is_interzone call then over_in commands Interzone others call else None
 
--- the sum of all calls to remote zones, if the call is marked as one of them
+-- the sum of all calls marked as remote, if the call is one of them
 abbrev pub over_remotely : List Command → List OpenCall → OpenCall → Option Over
 over_remotely commands others call =
     if call.remote

@@ -24,7 +24,7 @@ impl OpenCalls {
     /// first above its limit. An open call of its number is not counted beside it, and asking for
     /// no more than that call has always fits. The sums are tried in this order: the bandwidth of
     /// the call, the total, and if the call is between two zones the interzone sum, each for the
-    /// zones that the call touches, the source first; then the sum of all calls to remote zones, if
+    /// zones that the call touches, the source first; then the sum of all calls marked remote, if
     /// the call is marked as one of them. A sum that is equal to its limit fits. Takes no memory,
     /// and reads no call but the open one of that number.
     pub fn fits(&self, tables: &Tables, call: &OpenCall) -> Result<(), Over>
@@ -106,7 +106,7 @@ impl OpenCalls {
         self.over_remotely(tables, call, held)
     }
 
-    /// The same of the sum of all calls to remote zones, if the call is marked as one of them.
+    /// The same of the sum of all calls marked as remote, if the call is one of them.
     fn over_remotely(
         &self,
         tables: &Tables,
@@ -128,7 +128,7 @@ impl OpenCalls {
         }
     }
 
-    /// The sum of all calls to remote zones with the call in the place of the one that is held.
+    /// The sum of all calls marked as remote with the call in the place of the one that is held.
     fn remote_beside(&self, call: &OpenCall, held: Option<&OpenCall>) -> u64
         requires held { option_copied held ≡ call_of self.now.calls call.now.number }
         ensures { result
@@ -163,7 +163,7 @@ fn over_interzone<'a>(call: &OpenCall, zones: &TriedZones<'a>) -> Option<&'a Nam
     }
 }
 
-/// What the call that is held counts in the sum of all calls to remote zones.
+/// What the call that is held counts in the sum of all calls marked as remote.
 fn part_in_remote(held: Option<&OpenCall>) -> u64
     ensures { result ≡ part_found (λ call. call.remote) (option_copied held.entry) }
 {

@@ -6,8 +6,9 @@ ghost use Rattle.bandwidth.specs.Sums.{zones_in};
 
 use gk_terms::{Name, Units};
 
-/// A call that was admitted and not yet released. The numbers stand before the names, so that a
-/// request that changes or closes a call usually finds them and the owner in one cache line.
+/// A call that was admitted, or answered if it comes from another gatekeeper, and not yet released.
+/// The numbers stand before the names, so that a request that changes or closes a call usually
+/// finds them and the owner in one cache line.
 #[derive(Clone, Copy, Debug, PartialEq, Eq)]
 pub struct OpenCall {
     /// The number by which the call's requests name it, 1 to 4294967295. No two open calls share
@@ -15,14 +16,18 @@ pub struct OpenCall {
     pub number: u32,
     /// The bandwidth of the call, in units of 100 bit/s, 0 to 4294967295.
     pub units: Units,
-    /// Whether the target zone was another gatekeeper's when the call was admitted.
+    /// Whether it is a call to or from another gatekeeper: its target zone was a remote one when it
+    /// was admitted, or it has no source.
     pub remote: bool,
-    /// The ID of the endpoint that was admitted.
+    /// The ID of the endpoint that was admitted, or that answers a call from another gatekeeper.
     pub owner: Name,
-    /// The zone of that endpoint, the caller's.
-    pub source: Name,
-    /// The zone to which the call was routed.
+    /// The zone of that endpoint, the caller's; nothing for a call that comes from a zone of another
+    /// gatekeeper.
+    pub source: Option<Name>,
+    /// The zone to which the call was routed, or that of the endpoint that answers it.
     pub target: Name,
+    /// The ID of the gateway or terminal to which the call was admitted, if it was to one.
+    pub answerer: Option<Name>,
 }
 
 /// The zones that a call touches, the source first, each once.
@@ -39,12 +44,18 @@ impl OpenCall {
         ensures once { IfSome result.second (λ second.
             bytes_eq result.first.now second.now ≡ false) }
     {
-        ZonesTouched {
-            first: &self.source,
-            second: if self.source == self.target {
-                None
-            } else {
-                Some(&self.target)
+        match &self.source {
+            Some(source) => ZonesTouched {
+                first: source,
+                second: if *source == self.target {
+                    None
+                } else {
+                    Some(&self.target)
+                },
+            },
+            None => ZonesTouched {
+                first: &self.target,
+                second: None,
             },
         }
     }
@@ -53,7 +64,10 @@ impl OpenCall {
     pub fn is_interzone(&self) -> bool
         ensures { result ≡ is_interzone self.now }
     {
-        self.source != self.target
+        match &self.source {
+            Some(source) => *source != self.target,
+            None => true,
+        }
     }
 
     /// Whether the call touches the zone.

@@ -20,7 +20,7 @@ use std::marker::Model;
 
 /// The open calls in order of number, and how many there may be. `calls` has each call under its
 /// number. `sums` has what they add up to: how many calls each owner has, how many touch each zone
-/// with their total and their interzone sum, and the sum of those to zones of other gatekeepers.
+/// with their total and their interzone sum, and the sum of those to and from other gatekeepers.
 /// Each is changed with the calls and stays equal to what they add up to, so that no request goes
 /// over them; the entry of an owner or a zone without calls may stay until its place is needed.
 /// There are at most `most` calls, each of 32 bits of bandwidth, so no sum wraps. A contract sees
@@ -102,8 +102,8 @@ impl OpenCalls {
         self.used(zone).interzone
     }
 
-    /// The bandwidth of the open calls whose target was a zone of another gatekeeper when they were
-    /// admitted, in units of 100 bit/s.
+    /// The bandwidth of the open calls to and from other gatekeepers, in units of 100 bit/s: those
+    /// whose target was a remote zone when they were admitted, and those without a source.
     pub fn remote(&self) -> u64
         ensures value { result ≡ remote_of self.now.calls }
         ensures small { result + 2 ^ 32 ≤ 2 ^ 64 }

@@ -15,7 +15,7 @@ pub enum Over {
         /// The name of the zone.
         zone: Name,
     },
-    /// The sum of all calls to zones of other gatekeepers.
+    /// The sum of all calls to and from other gatekeepers.
     Remote,
 }
 

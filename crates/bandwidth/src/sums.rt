@@ -1,5 +1,5 @@
 //! The running sums: the calls of each owner, the bandwidth in each zone, and that of all calls to
-//! remote zones.
+//! and from other gatekeepers.
 
 ghost use Rattle.std.specs.Prelude.{◌≡◌, ◌<◌, ◌≤◌, [], true, None, nat_lt, IsOk, OnOk};
 ghost use Rattle.std.specs.HashMap.{spare};
@@ -23,7 +23,7 @@ pub struct Sums {
     /// the next call. Such entries go when the map would otherwise have to grow, so that the names
     /// of zones that have gone do not pile up.
     pub zones: HashMap<Name, ZoneUse>,
-    /// The sum of the calls to zones of other gatekeepers, in units of 100 bit/s.
+    /// The sum of the calls to and from other gatekeepers, in units of 100 bit/s.
     pub remote: u64,
 }
 

@@ -1,5 +1,5 @@
 -- A worked row of the sums, computed on the definitions alone.
-use Rattle.std.specs.Prelude.{◌≡◌, ℕ, List, [], false, codes}
+use Rattle.std.specs.Prelude.{◌≡◌, ℕ, List, [], Some, None, false, codes}
 use Rattle.bandwidth.specs.declared.open_call.OpenCall.{OpenCall}
 use Rattle.bandwidth.specs.Calls.{with_call, without_call}
 use Rattle.bandwidth.specs.Use.{total_of, interzone_of}
@@ -9,10 +9,11 @@ abbrev pub large_call : ℕ → OpenCall
 large_call number = record {
   number = number;
   owner = codes "t";
-  source = codes "c";
+  source = Some (codes "c");
   target = codes "c";
   remote = false;
   units = 4294967295;
+  answerer = None;
 }
 
 -- three such calls, opened one after another

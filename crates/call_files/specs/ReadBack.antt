@@ -11,7 +11,7 @@ use Rattle.rulings.specs.declared.routes.Route.TheVariants.{To, Refused}
 use Rattle.call_rows.specs.Pushing.{MayFollow}
 use Rattle.call_rows.specs.Rows.{RowParts, is_row}
 use Rattle.call_rows.specs.declared.rows.CallEvent.{CallEvent}
-use Rattle.call_rows.specs.declared.rows.CallEvent.TheVariants.{Admitted, Changed, Released}
+use Rattle.call_rows.specs.declared.rows.CallEvent.TheVariants.{Admitted, Answered, Changed, Released}
 use Rattle.call_files.specs.Calls.{SaysRows, calls_text}
 
 -- ---- what the types of a row keep
@@ -33,6 +33,7 @@ IsRoute (Refused refusal) = ⊤
 abbrev pub IsEvent : CallEvent → Type 0
 IsEvent (Admitted a) =
     (a.call < 2 ^ 32) × IsName a.zone × IsDialled a.digits × (a.units < 2 ^ 32) × IsRoute a.route
+IsEvent (Answered a) = (a.call < 2 ^ 32) × IsName a.zone × (a.units < 2 ^ 32) × IsRoute a.route
 IsEvent (Changed call units) = (call < 2 ^ 32) × (units < 2 ^ 32)
 IsEvent (Released call) = call < 2 ^ 32
 

@@ -13,7 +13,7 @@ use Rattle.rulings.specs.Routes.{route_text}
 use Rattle.rulings.specs.declared.routes.Route.{Route}
 use Rattle.call_rows.specs.Rows.{RowParts, is_row}
 use Rattle.call_rows.specs.declared.rows.CallEvent.{CallEvent}
-use Rattle.call_rows.specs.declared.rows.CallEvent.TheVariants.{Admitted, Changed, Released}
+use Rattle.call_rows.specs.declared.rows.CallEvent.TheVariants.{Admitted, Answered, Changed, Released}
 use Rattle.call_files.specs.RouteTexts.{route_of}
 use Rattle.call_files.specs.declared.faults.CallsFaultKind.{CallsFaultKind}
 use Rattle.call_files.specs.declared.faults.CallsFaultKind.TheVariants.{BadRow, BadField}
@@ -32,6 +32,9 @@ granted_word false = codes "no"
 abbrev pub fields_from : ℕ → CallEvent → List (List ℕ)
 fields_from number (Admitted a) =
     decimal number ∷ codes "ARQ" ∷ decimal a.call ∷ a.zone ∷ a.digits ∷ decimal a.units
+    ∷ granted_word a.granted ∷ route_text a.route ∷ []
+fields_from number (Answered a) =
+    decimal number ∷ codes "ANS" ∷ decimal a.call ∷ a.zone ∷ [] ∷ decimal a.units
     ∷ granted_word a.granted ∷ route_text a.route ∷ []
 fields_from number (Changed call units) =
     decimal number ∷ codes "BRQ" ∷ decimal call ∷ [] ∷ [] ∷ decimal units ∷ [] ∷ [] ∷ []
@@ -90,6 +93,21 @@ admitted_in fields =
       route = route;
     }))
 
+-- the answer to a call has no digits
+abbrev pub answered_in : List (List ℕ) → Result CallEvent CallsFaultKind
+answered_in fields =
+    counted_at fields 2 >>= λ call. zone_in fields >>= λ zone.
+    if is_empty_at fields 4
+    then (units_in fields >>= λ units. granted_in fields >>= λ granted. route_in fields >>= λ route.
+    Ok (Answered (record {
+      call = call;
+      zone = zone;
+      units = units;
+      granted = granted;
+      route = route;
+    })))
+    else Err BadField
+
 -- a change has no zone, digits, answer or route
 abbrev pub changed_in : List (List ℕ) → Result CallEvent CallsFaultKind
 changed_in fields =
@@ -109,9 +127,10 @@ abbrev pub event_in : List (List ℕ) → Result CallEvent CallsFaultKind
 event_in fields =
     if is_text_at fields 1 (codes "ARQ") then admitted_in fields
     else (if is_text_at fields 1 (codes "BRQ") then changed_in fields
-    else (if is_text_at fields 1 (codes "DRQ") then released_in fields else Err BadField))
+    else (if is_text_at fields 1 (codes "DRQ") then released_in fields
+    else (if is_text_at fields 1 (codes "ANS") then answered_in fields else Err BadField)))
 
--- a row that may be one: a granted admission has a destination
+-- a row that may be one: a granted admission has a destination, and an answer an endpoint
 abbrev pub row_with : ℕ → CallEvent → Result RowParts CallsFaultKind
 row_with number event =
     if is_row (record { number = number; event = event })

@@ -12,13 +12,14 @@ pub enum CallsFaultKind {
     /// The record has not eight fields, or one that is not UTF-8.
     #[error("BadRow")]
     BadRow,
-    /// A field is not what such a row has there, or a granted admission has no destination.
+    /// A field is not what such a row has there, a granted admission has no destination, or an
+    /// answer has neither a gateway nor a terminal as its route.
     #[error("BadField")]
     BadField,
     /// The number is not greater than that of the row before.
     #[error("OutOfOrder")]
     OutOfOrder,
-    /// An admission was granted for a call that is open.
+    /// An admission, or an answer, was granted for a call that is open.
     #[error("CallOpen")]
     CallOpen,
     /// A call that is not open was changed or released.

@@ -8,7 +8,7 @@ ghost use Rattle.call_files.specs.Rows as Spec;
 
 use crate::faults::CallsFaultKind;
 use crate::route_texts::read_route;
-use call_rows::{AdmittedCall, CallEvent, CallRow};
+use call_rows::{AdmittedCall, AnsweredCall, CallEvent, CallRow};
 use csv::ByteRecord;
 use gk_terms::{Dialled, Name, Units, read_number};
 use rulings::{Destination, Route};
@@ -108,7 +108,7 @@ fn counted_at(fields: &ByteRecord, place: usize) -> Result<u32, CallsFaultKind>
     read_number(text_at(fields, place), 1, u32::MAX).map_err(|_| CallsFaultKind::BadField)
 }
 
-/// What the row says: an admission, a change or a release.
+/// What the row says: an admission, the answer to a call, a change or a release.
 fn event_in(fields: &ByteRecord) -> Result<CallEvent, CallsFaultKind>
     ensures { result ≡ Spec.event_in (fields_of fields.now) }
 {
@@ -120,6 +120,9 @@ fn event_in(fields: &ByteRecord) -> Result<CallEvent, CallsFaultKind>
     }
     if is_at(fields, 1, b"DRQ") {
         return released_in(fields);
+    }
+    if is_at(fields, 1, b"ANS") {
+        return answered_in(fields);
     }
     Err(CallsFaultKind::BadField)
 }
@@ -138,6 +141,27 @@ fn admitted_in(fields: &ByteRecord) -> Result<CallEvent, CallsFaultKind>
         call,
         zone,
         digits,
+        units,
+        granted,
+        route,
+    }))
+}
+
+/// The answer to a call, which has no digits.
+fn answered_in(fields: &ByteRecord) -> Result<CallEvent, CallsFaultKind>
+    ensures { result ≡ Spec.answered_in (fields_of fields.now) }
+{
+    let call = counted_at(fields, 2)?;
+    let zone = zone_in(fields)?;
+    if !is_empty_at(fields, 4) {
+        return Err(CallsFaultKind::BadField);
+    }
+    let units = units_in(fields)?;
+    let granted = granted_in(fields)?;
+    let route = route_in(fields)?;
+    Ok(CallEvent::Answered(AnsweredCall {
+        call,
+        zone,
         units,
         granted,
         route,
@@ -176,7 +200,7 @@ fn released_in(fields: &ByteRecord) -> Result<CallEvent, CallsFaultKind>
     Ok(CallEvent::Released { call })
 }
 
-/// The zone of the caller.
+/// The zone of the endpoint that asked.
 fn zone_in(fields: &ByteRecord) -> Result<Name, CallsFaultKind>
     ensures { result ≡ Spec.zone_in (fields_of fields.now) }
 {
@@ -214,7 +238,7 @@ fn granted_in(fields: &ByteRecord) -> Result<bool, CallsFaultKind>
     Err(CallsFaultKind::BadField)
 }
 
-/// Where the digits led.
+/// Where the digits led, or which endpoint answered.
 fn route_in(fields: &ByteRecord) -> Result<Route, CallsFaultKind>
     ensures { result ≡ Spec.route_in (fields_of fields.now) }
 {

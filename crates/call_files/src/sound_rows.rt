@@ -5,7 +5,7 @@ ghost use Rattle.call_rows.specs.declared.rows.CallEvent.TheVariants as events;
 ghost use Rattle.gk_terms.specs.Name.{IsName};
 ghost use Rattle.call_files.specs.ReadBack.{IsAddress, IsDestination, IsEvent, IsRoute, IsRow};
 
-use call_rows::{AdmittedCall, CallEvent, CallRow};
+use call_rows::{AdmittedCall, AnsweredCall, CallEvent, CallRow};
 use gk_terms::{Address, Name};
 use rulings::{Destination, Route};
 
@@ -23,6 +23,7 @@ fn event_is_sound(event: &CallEvent)
 {
     match event {
         CallEvent::Admitted(asked) => admission_is_sound(asked),
+        CallEvent::Answered(asked) => answer_is_sound(asked),
         CallEvent::Changed { call, units } => {
             let (_call, _units) = (*call, units.value());
         }
@@ -39,6 +40,15 @@ fn admission_is_sound(asked: &AdmittedCall)
     let (_call, _units) = (asked.call, asked.units.value());
     let _zone = asked.zone.as_bytes();
     let _digits = asked.digits.as_bytes();
+    route_is_sound(&asked.route);
+}
+
+/// The parts of an answer.
+fn answer_is_sound(asked: &AnsweredCall)
+    ensures { IsEvent (events.Answered asked.now) }
+{
+    let (_call, _units) = (asked.call, asked.units.value());
+    let _zone = asked.zone.as_bytes();
     route_is_sound(&asked.route);
 }
 

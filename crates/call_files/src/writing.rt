@@ -16,7 +16,7 @@ use crate::route_texts::show_route;
 use crate::row_source::RowSource;
 use crate::row_writer::{RowWriter, WriteRowsFault};
 use crate::sound_rows::row_is_sound;
-use call_rows::{AdmittedCall, CallEvent, CallRow, Snapshot};
+use call_rows::{AdmittedCall, AnsweredCall, CallEvent, CallRow, Snapshot};
 use gk_lines::{LineBuffer, Sink};
 use gk_terms::Units;
 use itoa::Buffer;
@@ -123,6 +123,7 @@ fn write_row<W: Sink>(
     let number = row.number();
     match row.event() {
         CallEvent::Admitted(asked) => write_admitted(rows, number, asked, writer),
+        CallEvent::Answered(asked) => write_answered(rows, number, asked, writer),
         CallEvent::Changed { call, units } => write_changed(rows, number, *call, *units, writer),
         CallEvent::Released { call } => write_released(rows, number, *call, writer),
     }
@@ -155,6 +156,40 @@ fn write_admitted<W: Sink>(
         call_text.format(asked.call).as_bytes(),
         zone.as_bytes(),
         digits.as_bytes(),
+        units_text.format(asked.units.value()).as_bytes(),
+        granted_word(asked.granted),
+        route_text.as_bytes(),
+    ];
+    rows.row(&fields, writer)
+}
+
+/// Writes the row of the answer to a call.
+fn write_answered<W: Sink>(
+    rows: &mut RowWriter,
+    number: u32,
+    asked: &AnsweredCall,
+    writer: &mut W,
+) -> Result<(), WriteRowsFault>
+    ensures added { OnOk result (AppendsUpTo (W.contents writer.old) (W.contents writer.new)
+        (rows.old ++ row_text default_writer (fields_from number (events.Answered asked.now)))
+        rows.new) }
+    ensures front { OnErr result (AppendsFront (W.contents writer.old) (W.contents writer.new)
+        (rows.old ++ row_text default_writer (fields_from number (events.Answered asked.now)))) }
+    ensures noted { NotesIf is_write_fault (W.has_failed writer.old) (W.has_failed writer.new)
+        result }
+{
+    let mut number_text = Buffer::new();
+    let mut call_text = Buffer::new();
+    let mut units_text = Buffer::new();
+    let mut route_text = LineBuffer::new();
+    show_route(&mut route_text, &asked.route);
+    let zone = asked.zone;
+    let fields: [&[u8]; 8] = [
+        number_text.format(number).as_bytes(),
+        b"ANS",
+        call_text.format(asked.call).as_bytes(),
+        zone.as_bytes(),
+        b"",
         units_text.format(asked.units.value()).as_bytes(),
         granted_word(asked.granted),
         route_text.as_bytes(),

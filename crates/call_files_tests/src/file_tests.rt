@@ -22,6 +22,14 @@ const OTHER_ROWS: &[u8] = b"1,ARQ,4294967295,\"a,b\",#*,0,yes,\"TERM \"\"t\"\" 0
 4,ARQ,1,z,1,5,no,no-gateway\n\
 4294967295,ARQ,4294967295,z,1,5,no,no-default\n";
 
+/// Answers to calls from other gatekeepers, beside an admission.
+const ANSWERED_ROWS: &[u8] = b"5,ANS,2001,gk-b,,1280,yes,GW gb1 10.0.2.1:1720\n\
+6,ANS,2002,gk-a,,1281,no,TERM ta 10.0.1.1:1720\n\
+7,ARQ,1001,gk-a,4085551234,640,yes,GW gb1 10.0.2.1:1720\n\
+11,DRQ,2001,,,,,\n\
+12,ANS,4294967295,\"a,b\",,0,yes,\"TERM \"\"t\"\" 0.0.0.0:1\"\n\
+13,BRQ,4294967295,,,4294967295,,\n";
+
 /// A call file of these rows; an empty one if memory runs out, which is no call file.
 fn file_of(alloc: Global, rows: &[u8]) -> Vec<u8> {
     let mut file = Vec::new(alloc);
@@ -45,7 +53,7 @@ fn is_written_back(alloc: Global, rows: &[u8]) -> bool {
 
 #[test]
 fn writes_back_what_it_read(rt: HostRuntime) {
-    for rows in [b"".as_slice(), ROWS, OTHER_ROWS] {
+    for rows in [b"".as_slice(), ROWS, OTHER_ROWS, ANSWERED_ROWS] {
         assert!(rt; is_written_back(rt.alloc(), rows));
     }
 }
@@ -81,6 +89,11 @@ fn tells_the_first_fault(rt: HostRuntime) {
         ),
         (
             b"5,ARQ,1,gk-a,9,1,yes,TERM t 1.1.1.1:1\n6,ARQ,1,gk-a,9,1,yes,TERM t 1.1.1.1:1\n",
+            2,
+            CallsFaultKind::CallOpen,
+        ),
+        (
+            b"5,ANS,1,gk-a,,1,yes,TERM t 1.1.1.1:1\n6,ANS,1,gk-a,,1,yes,TERM t 1.1.1.1:1\n",
             2,
             CallsFaultKind::CallOpen,
         ),

@@ -1,12 +1,11 @@
 -- Admissions in few bytes, and those that stand whole.
-use Rattle.std.proofs.Common.{◌≡◌, ℕ, ◌+◌, ◌≤◌, ◌-◌, List, [], ◌∷◌, ◌++◌, length, map, length-append, slice_get, refl, sym, ap, subst, ◌∙◌, arith}
-use Rattle.std.specs.Prelude.{Option, Some, None, IsSome, option_map}
+use Rattle.std.proofs.Common.{◌≡◌, ℕ, List, [], ◌∷◌, ◌++◌, length, length-append, slice_get, refl, sym, ap, subst, ◌∙◌, arith}
+use Rattle.std.specs.Prelude.{Option, Some, None, IsSome}
 use Rattle.std.specs.Option.{option_and_then}
 use Rattle.std.specs.List.{cons_option}
-use Rattle.std.proofs.lemmas.Option.{none-some}
 use Rattle.call_rows.specs.declared.rows.NumberedAdmission.{NumberedAdmission}
 use Rattle.call_rows.specs.declared.kept_admission.KeptAdmission.{KeptAdmission}
-use Rattle.call_rows.specs.declared.kept_admission.KeptAdmission.TheVariants.{Granted, OverLimit, Refused, Aside}
+use Rattle.call_rows.specs.declared.kept_admission.KeptAdmission.TheVariants.{Granted, OverLimit, Refused, Answered, Aside}
 use Rattle.call_rows.specs.AdmissionList.{AdmissionListParts}
 use Rattle.call_rows.specs.KeptAdmission.{AreHeld, admission_meant, admissions_told}
 use Rattle.call_rows.proofs.ToldLemmas.{TellsAlso, all_told, item_in_front_if, next_is, one_more, told_at}
@@ -29,6 +28,7 @@ still_meant : (aside more : List NumberedAdmission)
 still_meant aside more (Granted kind address asked name) a h = h
 still_meant aside more (OverLimit kind address asked name) a h = h
 still_meant aside more (Refused refusal asked) a h = h
+still_meant aside more (Answered granted kind address asked name) a h = h
 still_meant aside more (Aside place) a h = item_in_front_if aside more place a h
 
 -- ---- one more

@@ -1,13 +1,13 @@
 -- What a snapshot holds, with one row more.
-use Rattle.std.proofs.Common.{◌≡◌, ◌≤◌, ◌<◌, ◌+◌, ◌-◌, ◌++◌, ◌==◌, ℕ, Bool, true, false, List, [], ◌∷◌, Option, Some, None, length, map, refl, ap, sym, subst, ◌∙◌, cond, inl, inr, arith}
-use Rattle.std.specs.Prelude.{nat_eq, option_map, slice_get, is_some, is_err, nat_le, IfOk, OnOk, Result, Ok, Err, if◌then◌else◌, ◌⊎◌, ◌&&◌}
+use Rattle.std.proofs.Common.{◌≡◌, ◌+◌, ◌-◌, ◌++◌, ◌==◌, ℕ, true, false, List, [], ◌∷◌, Option, Some, None, length, map, refl, ap, sym, subst, ◌∙◌, cond, inl, inr, arith}
+use Rattle.std.specs.Prelude.{nat_eq, option_map, slice_get, is_some, is_err, nat_le, IfOk, OnOk, Result, Ok, Err, if◌then◌else◌, ◌⊎◌}
 use Rattle.std.specs.List.{cons_option, list_all}
 use Rattle.std.specs.Map.{lookup}
 use Rattle.std.proofs.lemmas.Bool.{and_parts, cases_Bool, eqb-true}
 use Rattle.std.proofs.lemmas.List.{append-nil, map-append}
 use Rattle.std.proofs.lemmas.Option.{none-some, same_Some, slice_get-map}
 use Rattle.call_rows.specs.declared.open_at.OpenAt.{OpenAt}
-use Rattle.call_rows.specs.declared.rows.AdmittedCall.{AdmittedCall}
+use Rattle.call_rows.specs.declared.rows.AskedCall.{AskedCall}
 use Rattle.call_rows.specs.declared.rows.CallEvent.TheVariants as events
 use Rattle.call_rows.specs.declared.rows.NumberedAdmission.{NumberedAdmission}
 use Rattle.call_rows.specs.declared.steps.Step.{Step}
@@ -16,11 +16,12 @@ use Rattle.call_rows.specs.Moves.{Move, move_in, move_of, moved, moves_of}
 use Rattle.call_rows.specs.OpenCalls.{Open, open_of, opens_after, opens_of, with_units, without}
 use Rattle.registry.specs.Endpoint.{EndpointParts}
 use Rattle.call_rows.specs.declared.snapshots.PushFault.TheVariants as faults
-use Rattle.call_rows.specs.Pushing.{MayFollow, last_number, moving_fault, number_in, opening_fault, push_fault}
-use Rattle.call_rows.specs.Rows.{RowParts, SnapshotParts, admission_in, is_row}
+use Rattle.call_rows.specs.Pushing.{event_fault, last_number, moving_fault, number_in, opening_fault, push_fault}
+use Rattle.call_rows.specs.Rows.{RowParts, SnapshotParts, admission_in, is_row, said_by}
 use Rattle.call_rows.specs.SnapshotIndex.{IsKept, are_different, call_asked, open_at, row_by, row_told, rows_told}
 use Rattle.call_rows.proofs.OpenLemmas.{AreDifferent, different_from, different_to, different_with, different_without, moves_more, open_with, open_without_other, open_without_same, opens_more, seen_from, with_as_many, without_one_less}
 use Rattle.call_rows.proofs.RowLemmas.{admissions_more, may_follow_more, seen_all}
+use Rattle.call_rows.proofs.SaidLemmas.{admission_said, fault_said, move_said, opens_said}
 use Rattle.call_rows.proofs.ToldLemmas.{TellsAlso, all_told, as_many, next_is, one_more, still_made}
 
 -- ---- what is held of these rows
@@ -306,7 +307,7 @@ module _ (admissions : List NumberedAdmission) (steps : List Step)
 -- ---- an admission
 module _ (admissions : List NumberedAdmission) (steps : List Step)
     (calls : List (ℕ × OpenAt)) (rows : List RowParts)
-    (keeps : IsKept admissions steps calls rows) (number : ℕ) (a : AdmittedCall) where
+    (keeps : IsKept admissions steps calls rows) (number : ℕ) (a : AskedCall) where
   in_front : (admission : NumberedAdmission) (place call : ℕ)
       → call_asked admissions place ≡ Some call
       → call_asked (admissions ++ admission ∷ []) place ≡ Some call
@@ -314,11 +315,11 @@ module _ (admissions : List NumberedAdmission) (steps : List Step)
       still_made (λ (x : NumberedAdmission). x.asked.call) admissions (admission ∷ []) place call h
 
   admission_next : (units : ℕ)
-      → push_fault rows (record { number = number; event = events.Admitted a }) ≡ None
-      → is_row (record { number = number; event = events.Admitted a }) ≡ true
+      → push_fault rows (record { number = number; event = said_by a }) ≡ None
+      → is_row (record { number = number; event = said_by a }) ≡ true
       → (if a.granted then a.units else 0) ≡ units
       → IsNext admissions (admissions ++ record { number = number; asked = a } ∷ []) rows
-      (record { number = number; event = events.Admitted a }) (record {
+      (record { number = number; event = said_by a }) (record {
         number = number;
         admission = length admissions;
         gained = units;
@@ -335,7 +336,7 @@ module _ (admissions : List NumberedAdmission) (steps : List Step)
       } in
       let admission : NumberedAdmission = record { number = number; asked = a } in
       record {
-        grown = refl;
+        grown = ap (λ o. admissions ++ cons_option o []) (sym (admission_said a number));
         told = ap (option_map (row_by step))
             (next_is admissions admission (length admissions) refl);
         sound = sound;
@@ -348,24 +349,25 @@ module _ (admissions : List NumberedAdmission) (steps : List Step)
               admission = seen_from 0 rows;
               gained = n;
               lost = 0;
-            } in m) (sym used);
+            } in m) (sym used)
+            ∙ sym (move_said a (seen_from 0 rows) (opens_of rows));
       }
 
   pub refusal_kept :
       a.granted ≡ false
-      → push_fault rows (record { number = number; event = events.Admitted a }) ≡ None
-      → is_row (record { number = number; event = events.Admitted a }) ≡ true
+      → push_fault rows (record { number = number; event = said_by a }) ≡ None
+      → is_row (record { number = number; event = said_by a }) ≡ true
       → Holds (admissions ++ record { number = number; asked = a } ∷ []) (steps ++ record {
         number = number;
         admission = length admissions;
         gained = 0;
         lost = 0;
         kind = kinds.Admitted;
-      } ∷ []) calls (rows ++ record { number = number; event = events.Admitted a } ∷ [])
+      } ∷ []) calls (rows ++ record { number = number; event = said_by a } ∷ [])
   refusal_kept refused follows sound =
       let admission : NumberedAdmission = record { number = number; asked = a } in
       next_kept admissions (admissions ++ admission ∷ []) steps calls calls rows
-      (record { number = number; event = events.Admitted a })
+      (record { number = number; event = said_by a })
       (record {
         number = number;
         admission = length admissions;
@@ -374,6 +376,8 @@ module _ (admissions : List NumberedAdmission) (steps : List Step)
         kind = kinds.Admitted;
       })
       keeps (admission_next 0 follows sound (ap (λ g. if g then a.units else 0) refused))
+      (subst (λ os. IsIndex (admissions ++ admission ∷ []) calls os)
+      (sym (opens_said a (seen_from 0 rows) (opens_of rows)))
       (subst (λ g. IsIndex (admissions ++ admission ∷ []) calls
       (if g then record { call = a.call; units = a.units; admission = seen_from 0 rows }
       ∷ opens_of rows else opens_of rows)) (sym refused) (record {
@@ -381,7 +385,7 @@ module _ (admissions : List NumberedAdmission) (steps : List Step)
         asked = λ call at h. in_front admission at.admission call (keeps.asked call at h);
         different = different_from (opens_of rows) keeps.different;
         as_many = keeps.as_many;
-      }))
+      })))
 
   module _ (new : List (ℕ × OpenAt)) (free : open_of a.call (opens_of rows) ≡ None)
       (updates : (other : ℕ)
@@ -443,19 +447,19 @@ module _ (admissions : List NumberedAdmission) (steps : List Step)
 
     pub grant_kept :
         a.granted ≡ true
-        → push_fault rows (record { number = number; event = events.Admitted a }) ≡ None
-        → is_row (record { number = number; event = events.Admitted a }) ≡ true
+        → push_fault rows (record { number = number; event = said_by a }) ≡ None
+        → is_row (record { number = number; event = said_by a }) ≡ true
         → Holds (admissions ++ record { number = number; asked = a } ∷ []) (steps ++ record {
           number = number;
           admission = length admissions;
           gained = a.units;
           lost = 0;
           kind = kinds.Admitted;
-        } ∷ []) new (rows ++ record { number = number; event = events.Admitted a } ∷ [])
+        } ∷ []) new (rows ++ record { number = number; event = said_by a } ∷ [])
     grant_kept granted follows sound =
         let admission : NumberedAdmission = record { number = number; asked = a } in
         next_kept admissions (admissions ++ admission ∷ []) steps calls new rows
-        (record { number = number; event = events.Admitted a })
+        (record { number = number; event = said_by a })
         (record {
           number = number;
           admission = length admissions;
@@ -464,9 +468,11 @@ module _ (admissions : List NumberedAdmission) (steps : List Step)
           kind = kinds.Admitted;
         })
         keeps (admission_next a.units follows sound (ap (λ g. if g then a.units else 0) granted))
+        (subst (λ os. IsIndex (admissions ++ admission ∷ []) new os)
+        (sym (opens_said a (seen_from 0 rows) (opens_of rows)))
         (subst (λ g. IsIndex (admissions ++ admission ∷ []) new
         (if g then record { call = a.call; units = a.units; admission = seen_from 0 rows }
-        ∷ opens_of rows else opens_of rows)) (sym granted) granted_index)
+        ∷ opens_of rows else opens_of rows)) (sym granted) granted_index))
 
 -- ---- what a view of the fields says
 -- what is held of the rows of the view
@@ -516,16 +522,17 @@ no_moving_fault call opens at h = by (open_of call opens) h
     by (Some o) h = refl
 
 -- an admission without a fault
-pub no_refusal_fault : (a : AdmittedCall) (opens : List Open) → a.granted ≡ false
-    → (if a.granted then opening_fault a.call opens else None) ≡ None
+pub no_refusal_fault : (a : AskedCall) (opens : List Open) → a.granted ≡ false
+    → event_fault opens (said_by a) ≡ None
 no_refusal_fault a opens refused =
-    ap (λ g. if g then opening_fault a.call opens else None) refused
+    fault_said a opens ∙ ap (λ g. if g then opening_fault a.call opens else None) refused
 
-pub no_opening_fault : (a : AdmittedCall) (opens : List Open) → a.granted ≡ true
+pub no_opening_fault : (a : AskedCall) (opens : List Open) → a.granted ≡ true
     → open_of a.call opens ≡ None → nat_le 50000 (length opens) ≡ false
-    → (if a.granted then opening_fault a.call opens else None) ≡ None
+    → event_fault opens (said_by a) ≡ None
 no_opening_fault a opens granted free few =
-    ap (λ g. if g then opening_fault a.call opens else None) granted
+    fault_said a opens
+    ∙ ap (λ g. if g then opening_fault a.call opens else None) granted
     ∙ ap (λ (o : Option Open). if is_some o then Some faults.CallOpen
     else (if nat_le 50000 (length opens) then Some faults.TooMany else None)) free
     ∙ ap (λ b. if b then Some faults.TooMany else None) few

@@ -4,3 +4,4 @@ mod RowLemmas
 mod KeptLemmas
 mod HeldLemmas
 pub mod MoveLemmas
+pub mod SaidLemmas

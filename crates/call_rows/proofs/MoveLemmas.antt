@@ -1,10 +1,10 @@
 -- What each row changes of the units in use, and that no move takes more than there is.
-use Rattle.std.proofs.Common.{◌≡◌, ◌≤◌, ◌+◌, ◌-◌, ◌==◌, ℕ, Bool, true, false, List, [], ◌∷◌, Option, Some, None, refl, ap, ◌∙◌, sym, subst, arith, cond}
+use Rattle.std.proofs.Common.{◌≡◌, ◌≤◌, ◌+◌, ◌-◌, ◌==◌, ℕ, Bool, true, false, List, [], ◌∷◌, Some, refl, sym, subst, arith}
 use Rattle.std.specs.Prelude.{if◌then◌else◌}
 use Rattle.call_rows.specs.declared.rows.CallEvent.{CallEvent}
 use Rattle.call_rows.specs.declared.rows.CallEvent.TheVariants as said
-use Rattle.call_rows.specs.Moves.{IsSound, gain, loss, move_of, moved, moves_from, moves_of}
-use Rattle.call_rows.specs.OpenCalls.{Open, open_of, opens_after, seen_after, use_of, with_units, without}
+use Rattle.call_rows.specs.Moves.{IsSound, admitted_move, gain, loss, move_of, moved, moves_from, moves_of}
+use Rattle.call_rows.specs.OpenCalls.{Open, open_of, opened_if, opens_after, seen_after, use_of, with_units, without}
 use Rattle.call_rows.specs.Rows.{RowParts}
 
 -- ---- what one row changes
@@ -57,26 +57,33 @@ release_step touches call (o ∷ os) = by (o.call == call) (release_step touches
         ends false = omega arith
     by false rest = omega (arith, rest)
 
+admitted_step : (touches : ℕ → Bool) (granted : Bool) (o : Open) (opens : List Open)
+    → use_of touches (opened_if granted o opens)
+    + loss touches (admitted_move o.admission granted o.units)
+    ≡ use_of touches opens + gain touches (admitted_move o.admission granted o.units)
+admitted_step touches true o opens = ends (touches o.admission)
+  where
+    ends : (t : Bool) → ((if t then o.units else 0) + use_of touches opens)
+        + (if t then 0 else 0) ≡ use_of touches opens + (if t then o.units else 0)
+    ends true = omega arith
+    ends false = omega arith
+admitted_step touches false o opens = refl
+
 pub row_step : (touches : ℕ → Bool) (seen : ℕ) (opens : List Open) (event : CallEvent)
     → use_of touches (opens_after seen event opens) + loss touches (move_of seen opens event)
     ≡ use_of touches opens + gain touches (move_of seen opens event)
-row_step touches seen opens (said.Admitted a) = by a.granted (touches seen)
-  where
-    by : (g t : Bool)
-        → use_of touches (if g then record { call = a.call; units = a.units; admission = seen }
-        ∷ opens else opens) + (if touches seen then 0 else 0)
-        ≡ use_of touches opens + (if touches seen then (if g then a.units else 0) else 0)
-    by true t = ends (touches seen)
-      where
-        ends : (t : Bool) → ((if t then a.units else 0) + use_of touches opens)
-            + (if t then 0 else 0) ≡ use_of touches opens + (if t then a.units else 0)
-        ends true = omega arith
-        ends false = omega arith
-    by false t = ends (touches seen)
-      where
-        ends : (t : Bool) → use_of touches opens + (if t then 0 else 0)
-            ≡ use_of touches opens + (if t then 0 else 0)
-        ends t = refl
+row_step touches seen opens (said.Admitted a) =
+    admitted_step touches a.granted (record {
+      call = a.call;
+      units = a.units;
+      admission = seen;
+    }) opens
+row_step touches seen opens (said.Answered a) =
+    admitted_step touches a.granted (record {
+      call = a.call;
+      units = a.units;
+      admission = seen;
+    }) opens
 row_step touches seen opens (said.Changed call units) = change_step touches call units opens
 row_step touches seen opens (said.Released call) = release_step touches call opens
 

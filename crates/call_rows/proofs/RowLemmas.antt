@@ -1,13 +1,13 @@
 -- How many admissions and moves rows have, and rows that may follow others.
-use Rattle.std.proofs.Common.{◌≡◌, ◌≤◌, ◌<◌, ◌+◌, ◌++◌, ℕ, Bool, true, false, suc, List, [], ◌∷◌, Option, Some, None, length, refl, ap, sym, subst, ◌∙◌, append_assoc, length-append, arith}
-use Rattle.std.specs.Prelude.{nat_le, if◌then◌else◌}
-use Rattle.std.specs.List.{cons_option, filter_map}
+use Rattle.std.proofs.Common.{◌≡◌, ◌≤◌, ◌<◌, ◌+◌, ◌++◌, ℕ, true, false, suc, List, [], ◌∷◌, Option, Some, None, length, refl, ap, sym, subst, append_assoc, length-append, arith}
+use Rattle.std.specs.Prelude.{nat_le}
+use Rattle.std.specs.List.{cons_option}
 use Rattle.std.specs.Prelude.{◌⊎◌}
 use Rattle.std.proofs.Common.{inl, inr, tests}
 use Rattle.std.proofs.lemmas.Bool.{cases_Bool}
 use Rattle.std.proofs.lemmas.List.{append-nil}
 use Rattle.call_rows.specs.declared.rows.CallEvent.{CallEvent}
-use Rattle.call_rows.specs.declared.rows.CallEvent.TheVariants.{Admitted, Changed, Released}
+use Rattle.call_rows.specs.declared.rows.CallEvent.TheVariants.{Admitted, Answered, Changed, Released}
 use Rattle.call_rows.specs.declared.rows.NumberedAdmission.{NumberedAdmission}
 use Rattle.call_rows.specs.Moves.{moves_from}
 use Rattle.call_rows.specs.OpenCalls.{Open, opens_after, opens_of, seen_after}
@@ -46,6 +46,7 @@ seen_is seen (r ∷ rs) = by r.event (seen_is (seen_after seen r.event) rs)
         → seen_from (seen_after seen e) rs
         ≡ seen + length (cons_option (admission_by r.number e) (admissions_of rs))
     by (Admitted a) rest = omega (arith, rest)
+    by (Answered a) rest = omega (arith, rest)
     by (Changed call units) rest = rest
     by (Released call) rest = rest
 

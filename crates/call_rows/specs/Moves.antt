@@ -1,7 +1,7 @@
 -- What each row changes of the bandwidth in use, and of which admission.
 use Rattle.std.specs.Prelude.{ℕ, ◌≤◌, ◌+◌, ◌-◌, Bool, List, [], ◌∷◌, Option, Some, None, if◌then◌else◌, ⊤}
 use Rattle.call_rows.specs.declared.rows.CallEvent.{CallEvent}
-use Rattle.call_rows.specs.declared.rows.CallEvent.TheVariants.{Admitted, Changed, Released}
+use Rattle.call_rows.specs.declared.rows.CallEvent.TheVariants.{Admitted, Answered, Changed, Released}
 use Rattle.call_rows.specs.declared.steps.Step.{Step}
 use Rattle.call_rows.specs.Rows.{RowParts}
 use Rattle.call_rows.specs.OpenCalls.{Open, open_of, opens_after, seen_after}
@@ -25,9 +25,14 @@ abbrev pub moved : ℕ → Option Open → Move
 moved units None = no_move
 moved units (Some o) = record { admission = o.admission; gained = units; lost = o.units }
 
+-- the units of an admission, if it was granted
+abbrev pub admitted_move : ℕ → (granted : Bool) → ℕ → Move
+admitted_move seen granted units =
+    record { admission = seen; gained = if granted then units else 0; lost = 0 }
+
 abbrev pub move_of : ℕ → List Open → CallEvent → Move
-move_of seen opens (Admitted a) =
-    record { admission = seen; gained = if a.granted then a.units else 0; lost = 0 }
+move_of seen opens (Admitted a) = admitted_move seen a.granted a.units
+move_of seen opens (Answered a) = admitted_move seen a.granted a.units
 move_of seen opens (Changed call units) = moved units (open_of call opens)
 move_of seen opens (Released call) = moved 0 (open_of call opens)
 

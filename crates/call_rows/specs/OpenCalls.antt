@@ -1,7 +1,7 @@
 -- What is open along the rows of a record.
 use Rattle.std.specs.Prelude.{ℕ, ◌+◌, ◌==◌, Bool, List, [], ◌∷◌, Option, Some, None, if◌then◌else◌}
 use Rattle.call_rows.specs.declared.rows.CallEvent.{CallEvent}
-use Rattle.call_rows.specs.declared.rows.CallEvent.TheVariants.{Admitted, Changed, Released}
+use Rattle.call_rows.specs.declared.rows.CallEvent.TheVariants.{Admitted, Answered, Changed, Released}
 use Rattle.call_rows.specs.Rows.{RowParts}
 
 -- an open call: its number, its units now, and which admission of the rows it is, from 0
@@ -26,18 +26,23 @@ abbrev pub without : ℕ → List Open → List Open
 without call [] = []
 without call (o ∷ os) = if o.call == call then os else o ∷ without call os
 
--- the open calls after a row, if this many admissions came before it: a granted admission is one
--- more
+-- the open calls after an admission, if this many came before it: a granted one is one more
+abbrev pub opened_if : (granted : Bool) → Open → List Open → List Open
+opened_if granted o opens = if granted then o ∷ opens else opens
+
+-- the open calls after a row
 abbrev pub opens_after : ℕ → CallEvent → List Open → List Open
 opens_after seen (Admitted a) opens =
-    if a.granted then record { call = a.call; units = a.units; admission = seen } ∷ opens
-    else opens
+    opened_if a.granted (record { call = a.call; units = a.units; admission = seen }) opens
+opens_after seen (Answered a) opens =
+    opened_if a.granted (record { call = a.call; units = a.units; admission = seen }) opens
 opens_after seen (Changed call units) opens = with_units call units opens
 opens_after seen (Released call) opens = without call opens
 
 -- how many admissions came before the next row
 abbrev pub seen_after : ℕ → CallEvent → ℕ
 seen_after seen (Admitted a) = seen + 1
+seen_after seen (Answered a) = seen + 1
 seen_after seen (Changed call units) = seen
 seen_after seen (Released call) = seen
 

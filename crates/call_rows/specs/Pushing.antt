@@ -2,7 +2,7 @@
 -- comes of a row that is added.
 use Rattle.std.specs.Prelude.{◌≡◌, ◌⊎◌, ℕ, ◌-◌, Bool, List, [], ◌∷◌, ◌++◌, length, slice_get, Option, Some, None, Result, MatchResult, nat_le, if◌then◌else◌, is_some, ⊤}
 use Rattle.call_rows.specs.declared.rows.CallEvent.{CallEvent}
-use Rattle.call_rows.specs.declared.rows.CallEvent.TheVariants.{Admitted, Changed, Released}
+use Rattle.call_rows.specs.declared.rows.CallEvent.TheVariants.{Admitted, Answered, Changed, Released}
 use Rattle.call_rows.specs.declared.snapshots.PushFault.{PushFault}
 use Rattle.call_rows.specs.declared.snapshots.PushFault.TheVariants as faults
 use Rattle.call_rows.specs.Rows.{RowParts, SnapshotParts}
@@ -38,6 +38,7 @@ moving_fault call opens = if is_open call opens then None else Some faults.NoCal
 
 abbrev pub event_fault : List Open → CallEvent → Option PushFault
 event_fault opens (Admitted a) = if a.granted then opening_fault a.call opens else None
+event_fault opens (Answered a) = if a.granted then opening_fault a.call opens else None
 event_fault opens (Changed call units) = moving_fault call opens
 event_fault opens (Released call) = moving_fault call opens
 

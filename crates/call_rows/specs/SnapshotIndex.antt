@@ -2,7 +2,7 @@
 use Rattle.std.specs.Prelude.{◌≡◌, ℕ, true, Bool, List, length, map, filter_map, slice_get, nat_eq, Option, Some, None, option_map, is_none, if◌then◌else◌, ◌&&◌, [], ◌∷◌}
 use Rattle.std.specs.List.{list_all}
 use Rattle.std.specs.Map.{lookup}
-use Rattle.call_rows.specs.declared.rows.AdmittedCall.{AdmittedCall}
+use Rattle.call_rows.specs.declared.rows.AskedCall.{AskedCall}
 use Rattle.call_rows.specs.declared.rows.NumberedAdmission.{NumberedAdmission}
 use Rattle.call_rows.specs.declared.rows.CallEvent.{CallEvent}
 use Rattle.call_rows.specs.declared.rows.CallEvent.TheVariants as events
@@ -10,10 +10,10 @@ use Rattle.call_rows.specs.declared.open_at.OpenAt.{OpenAt}
 use Rattle.call_rows.specs.declared.steps.Step.{Step}
 use Rattle.call_rows.specs.declared.steps.StepKind.{StepKind}
 use Rattle.call_rows.specs.declared.steps.StepKind.TheVariants.{Admitted, Changed, Released}
-use Rattle.call_rows.specs.Moves.{Move, move_in, moves_of}
+use Rattle.call_rows.specs.Moves.{move_in, moves_of}
 use Rattle.call_rows.specs.OpenCalls.{Open, open_of, opens_of}
 use Rattle.call_rows.specs.Pushing.{MayFollow}
-use Rattle.call_rows.specs.Rows.{RowParts, admissions_of, is_row}
+use Rattle.call_rows.specs.Rows.{RowParts, admissions_of, is_row, said_by}
 
 -- what the index has of an open call
 abbrev pub open_at : Open → OpenAt
@@ -21,8 +21,8 @@ open_at o = record { admission = o.admission; units = o.units }
 
 -- ---- rows from steps
 -- what a step says, by its kind, of the call of an admission
-abbrev pub event_by : StepKind → (units : ℕ) → AdmittedCall → CallEvent
-event_by Admitted units a = events.Admitted a
+abbrev pub event_by : StepKind → (units : ℕ) → AskedCall → CallEvent
+event_by Admitted units a = said_by a
 event_by Changed units a = events.Changed a.call units
 event_by Released units a = events.Released a.call
 

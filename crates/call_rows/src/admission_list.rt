@@ -1,6 +1,6 @@
 //! The admissions of a snapshot.
 
-ghost use Rattle.std.specs.Prelude.{◌≡◌, ◌+◌, if◌then◌else◌, ◌↔◌, true, Some, ◌<◌, ◌≤◌, ◌^◌, ◌++◌, ◌∷◌, [], IsSome, length, slice_get, OnOk, option_map};
+ghost use Rattle.std.specs.Prelude.{◌≡◌, ◌+◌, if◌then◌else◌, ◌↔◌, true, Some, ◌<◌, ◌≤◌, ◌^◌, ◌++◌, ◌∷◌, [], IsSome, length, slice_get, OnOk, option_map, option_and_then};
 ghost use Rattle.std.specs.List.{cons_option};
 ghost use Rattle.std.specs.Option.{option_copied};
 ghost use Rattle.rulings.specs.Lent.{route_meant};
@@ -79,7 +79,7 @@ impl AdmissionList {
         }
     }
 
-    /// The zone of the caller of the admission at this place, from 0.
+    /// The zone of the endpoint that asked for the admission at this place, from 0.
     pub fn zone(&self, place: usize) -> Option<Name>
         ensures { result ≡ option_map (λ a. a.asked.zone) (slice_get self.now.items place) }
     {
@@ -89,9 +89,9 @@ impl AdmissionList {
         }
     }
 
-    /// What was dialled for the admission at this place, from 0.
+    /// What was dialled for the admission at this place, from 0; none of an answer.
     pub fn digits(&self, place: usize) -> Option<Dialled>
-        ensures { result ≡ option_map (λ a. a.asked.digits) (slice_get self.now.items place) }
+        ensures { result ≡ option_and_then (λ a. a.asked.digits) (slice_get self.now.items place) }
     {
         match kept_at(&self.kept, place) {
             Some(held) => held.kept().digits(&self.aside),

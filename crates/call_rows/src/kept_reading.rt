@@ -1,12 +1,12 @@
 //! What admissions in few bytes say.
 
-ghost use Rattle.std.specs.Prelude.{◌≡◌, slice_get, option_map};
+ghost use Rattle.std.specs.Prelude.{◌≡◌, slice_get, option_map, option_and_then};
 ghost use Rattle.std.specs.Option.{option_copied};
 ghost use Rattle.call_rows.specs.KeptAdmission as Spec;
 
 use crate::held::WholeAdmission;
-use crate::kept_admission::{KeptAdmission, ShortAsked};
-use crate::rows::{AdmittedCall, NumberedAdmission};
+use crate::kept_admission::{KeptAdmission, ShortAnswer, ShortAsked};
+use crate::rows::{AskedCall, NumberedAdmission};
 use gk_terms::{Dialled, Name};
 use rulings::Route;
 
@@ -37,6 +37,16 @@ impl KeptAdmission {
             KeptAdmission::Refused { refusal, asked } => {
                 Some(asked.admission(false, &Route::Refused(*refusal)))
             }
+            KeptAdmission::Answered {
+                granted,
+                kind,
+                address,
+                asked,
+                name,
+            } => {
+                let route = Route::To(kind.destination(&name.name(), *address));
+                Some(asked.admission(*granted, &route))
+            }
             KeptAdmission::Aside { place } => whole(aside, *place),
         }
     }
@@ -51,6 +61,7 @@ impl KeptAdmission {
                 Some(asked.call)
             }
             KeptAdmission::Refused { asked, .. } => Some(asked.call),
+            KeptAdmission::Answered { asked, .. } => Some(asked.call),
             KeptAdmission::Aside { place } => match whole_at(aside, *place as usize) {
                 Some(held) => Some(held.admission().asked.call),
                 None => None,
@@ -60,7 +71,7 @@ impl KeptAdmission {
 }
 
 impl KeptAdmission {
-    /// The zone of its caller, likewise.
+    /// The zone of the endpoint that asked, likewise.
     pub fn zone(&self, aside: &[WholeAdmission]) -> Option<Name>
         ensures { result
             ≡ option_map (λ a. a.asked.zone) (Spec.admission_meant aside.now self.now) }
@@ -70,6 +81,7 @@ impl KeptAdmission {
                 Some(asked.zone.name())
             }
             KeptAdmission::Refused { asked, .. } => Some(asked.zone.name()),
+            KeptAdmission::Answered { asked, .. } => Some(asked.zone.name()),
             KeptAdmission::Aside { place } => match whole_at(aside, *place as usize) {
                 Some(held) => Some(held.admission().asked.zone),
                 None => None,
@@ -77,18 +89,19 @@ impl KeptAdmission {
         }
     }
 
-    /// What was dialled, likewise.
+    /// What was dialled, likewise; none if it is an answer.
     pub fn digits(&self, aside: &[WholeAdmission]) -> Option<Dialled>
         ensures { result
-            ≡ option_map (λ a. a.asked.digits) (Spec.admission_meant aside.now self.now) }
+            ≡ option_and_then (λ a. a.asked.digits) (Spec.admission_meant aside.now self.now) }
     {
         match self {
             KeptAdmission::Granted { asked, .. } | KeptAdmission::OverLimit { asked, .. } => {
                 Some(asked.digits.digits())
             }
             KeptAdmission::Refused { asked, .. } => Some(asked.digits.digits()),
+            KeptAdmission::Answered { .. } => None,
             KeptAdmission::Aside { place } => match whole_at(aside, *place as usize) {
-                Some(held) => Some(held.admission().asked.digits),
+                Some(held) => held.admission().asked.digits,
                 None => None,
             },
         }
@@ -102,10 +115,29 @@ impl ShortAsked {
     {
         NumberedAdmission {
             number: self.number,
-            asked: AdmittedCall {
+            asked: AskedCall {
                 call: self.call,
                 zone: self.zone.name(),
-                digits: self.digits.digits(),
+                digits: Some(self.digits.digits()),
+                units: self.units,
+                granted,
+                route: *route,
+            },
+        }
+    }
+}
+
+impl ShortAnswer {
+    /// The answer that asked this, by what came of it.
+    pub fn admission(&self, granted: bool, route: &Route) -> NumberedAdmission
+        ensures { result ≡ Spec.answer_meant self.now granted route.now }
+    {
+        NumberedAdmission {
+            number: self.number,
+            asked: AskedCall {
+                call: self.call,
+                zone: self.zone.name(),
+                digits: None,
                 units: self.units,
                 granted,
                 route: *route,

@@ -32,6 +32,12 @@ impl KeptAdmission {
                 name,
                 ..
             } => leads_to(route, *kind, name, address),
+            KeptAdmission::Answered {
+                kind,
+                address,
+                name,
+                ..
+            } => leads_to(route, *kind, name, address),
             KeptAdmission::Refused { refusal, .. } => is_refused(route, *refusal),
             KeptAdmission::Aside { place } => match whole_at(aside, *place as usize) {
                 Some(held) => is_route(route, &held.admission().asked.route),

@@ -1,6 +1,6 @@
-//! What a record says of calls, row by row: the admissions that were routed, the bandwidth changes
-//! that were granted, and the releases; and a snapshot of them, from which a candidate
-//! configuration is tried.
+//! What a record says of calls, row by row: the admissions that were routed, the answers to calls
+//! from the zones of other gatekeepers, the bandwidth changes that were granted, and the releases;
+//! and a snapshot of them, from which a candidate configuration is tried.
 #![tactic(auto)]
 
 mod admission_list;
@@ -15,6 +15,6 @@ pub mod snapshots;
 pub mod steps;
 mod telling;
 
-pub use rows::{AdmittedCall, CallEvent, CallRow, NumberedAdmission};
+pub use rows::{AdmittedCall, AnsweredCall, AskedCall, CallEvent, CallRow, NumberedAdmission};
 pub use snapshots::{PushFault, Snapshot};
 pub use steps::Step;

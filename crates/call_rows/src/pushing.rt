@@ -4,10 +4,10 @@ ghost use Rattle.std.specs.Prelude.{◌≡◌, ◌<◌, true, false, length, nat
 ghost use Rattle.call_rows.specs.declared.rows.CallEvent.TheVariants as events;
 ghost use Rattle.call_rows.specs.OpenCalls.{opens_of};
 ghost use Rattle.call_rows.specs.Pushing.{Pushes, PushesBy, event_fault, last_number};
-ghost use Rattle.call_rows.specs.Rows.{is_row};
+ghost use Rattle.call_rows.specs.Rows.{is_row, said_by};
 
 use crate::open_at::OpenAt;
-use crate::rows::{AdmittedCall, CallEvent, CallRow, NumberedAdmission};
+use crate::rows::{AskedCall, CallEvent, CallRow, NumberedAdmission};
 use crate::snapshots::{PushFault, Snapshot};
 use crate::steps::Step;
 use gk_terms::Units;
@@ -21,9 +21,10 @@ const MOST_OPEN: usize = 50_000;
 impl Snapshot {
     /// Adds a row after the others. It is refused as `TooMany`, if there are 1,000,000 rows; as
     /// `OutOfOrder`, if its number is not greater than that of the last one; as `CallOpen` and then
-    /// as `TooMany`, if it is a granted admission and a call of its number is open, or 50,000 calls
-    /// are; and as `NoCall`, if it is a change or a release and no call of its number is open.
-    /// `NoMemory` comes only if none of these does. After an error nothing has changed.
+    /// as `TooMany`, if it is a granted admission, or a granted answer, and a call of its number is
+    /// open, or 50,000 calls are; and as `NoCall`, if it is a change or a release and no call of
+    /// its number is open. `NoMemory` comes only if none of these does. After an error nothing has
+    /// changed.
     pub fn push(&mut self, row: &CallRow) -> Result<(), PushFault>
         ensures { Pushes self.old row.now result self.new }
     {
@@ -34,14 +35,20 @@ impl Snapshot {
         if number <= self.last_number() {
             return Err(PushFault::OutOfOrder);
         }
-        match row.event() {
-            CallEvent::Admitted(call) => {
-                if call.granted {
-                    self.push_granted(number, call)
-                } else {
-                    self.push_refused(number, call)
-                }
-            }
+        self.push_event(number, row.event())
+    }
+
+    /// Adds the row of this number, which says this.
+    fn push_event(&mut self, number: u32, event: &CallEvent) -> Result<(), PushFault>
+        requires room { length self.old.rows < 1000000 }
+        requires later { last_number self.old.rows < number }
+        requires sound { is_row (record { number = number; event = event.now }) ≡ true }
+        ensures { PushesBy (event_fault (opens_of self.old.rows) event.now) self.old
+            (record { number = number; event = event.now }) result self.new }
+    {
+        match event {
+            CallEvent::Admitted(call) => self.push_admission(number, &call.asked()),
+            CallEvent::Answered(call) => self.push_admission(number, &call.asked()),
             CallEvent::Changed { call, units } => self.push_change(number, *call, *units),
             CallEvent::Released { call } => self.push_release(number, *call),
         }
@@ -54,18 +61,31 @@ impl Snapshot {
         self.calls.len() >= MOST_OPEN
     }
 
-    /// Adds the row of an admission that was granted.
-    fn push_granted(&mut self, number: u32, call: &AdmittedCall) -> Result<(), PushFault>
+    /// Adds the row of an admission.
+    fn push_admission(&mut self, number: u32, asked: &AskedCall) -> Result<(), PushFault>
         requires room { length self.old.rows < 1000000 }
         requires later { last_number self.old.rows < number }
-        requires sound { is_row (record { number = number; event = events.Admitted call.now })
-            ≡ true }
-        requires granted { call.now.granted ≡ true }
-        ensures { PushesBy (event_fault (opens_of self.old.rows) (events.Admitted call.now))
-            self.old (record { number = number; event = events.Admitted call.now }) result
-            self.new }
+        requires sound { is_row (record { number = number; event = said_by asked.now }) ≡ true }
+        ensures { PushesBy (event_fault (opens_of self.old.rows) (said_by asked.now))
+            self.old (record { number = number; event = said_by asked.now }) result self.new }
     {
-        if self.calls.contains_key(&call.call) {
+        if asked.granted {
+            self.push_granted(number, asked)
+        } else {
+            self.push_refused(number, asked)
+        }
+    }
+
+    /// Adds the row of an admission that was granted.
+    fn push_granted(&mut self, number: u32, asked: &AskedCall) -> Result<(), PushFault>
+        requires room { length self.old.rows < 1000000 }
+        requires later { last_number self.old.rows < number }
+        requires sound { is_row (record { number = number; event = said_by asked.now }) ≡ true }
+        requires granted { asked.now.granted ≡ true }
+        ensures { PushesBy (event_fault (opens_of self.old.rows) (said_by asked.now))
+            self.old (record { number = number; event = said_by asked.now }) result self.new }
+    {
+        if self.calls.contains_key(&asked.call) {
             return Err(PushFault::CallOpen);
         }
         if self.is_full() {
@@ -78,17 +98,17 @@ impl Snapshot {
             return Err(PushFault::NoMemory);
         }
         let admission = self.admissions.len() as u32;
-        let units = call.units.value();
+        let units = asked.units.value();
         if self
             .calls
-            .insert(call.call, OpenAt { admission, units })
+            .insert(asked.call, OpenAt { admission, units })
             .is_err()
         {
             return Err(PushFault::NoMemory);
         }
         self.admissions.push(&NumberedAdmission {
             number,
-            asked: *call,
+            asked: *asked,
         });
         self.steps
             .push_reserved(Step::admitted(number, admission, units));
@@ -96,15 +116,13 @@ impl Snapshot {
     }
 
     /// Adds the row of an admission that was refused.
-    fn push_refused(&mut self, number: u32, call: &AdmittedCall) -> Result<(), PushFault>
+    fn push_refused(&mut self, number: u32, asked: &AskedCall) -> Result<(), PushFault>
         requires room { length self.old.rows < 1000000 }
         requires later { last_number self.old.rows < number }
-        requires sound { is_row (record { number = number; event = events.Admitted call.now })
-            ≡ true }
-        requires refused { call.now.granted ≡ false }
-        ensures { PushesBy (event_fault (opens_of self.old.rows) (events.Admitted call.now))
-            self.old (record { number = number; event = events.Admitted call.now }) result
-            self.new }
+        requires sound { is_row (record { number = number; event = said_by asked.now }) ≡ true }
+        requires refused { asked.now.granted ≡ false }
+        ensures { PushesBy (event_fault (opens_of self.old.rows) (said_by asked.now))
+            self.old (record { number = number; event = said_by asked.now }) result self.new }
     {
         if self.steps.reserve(1).is_err() {
             return Err(PushFault::NoMemory);
@@ -115,7 +133,7 @@ impl Snapshot {
         let admission = self.admissions.len() as u32;
         self.admissions.push(&NumberedAdmission {
             number,
-            asked: *call,
+            asked: *asked,
         });
         self.steps
             .push_reserved(Step::admitted(number, admission, 0));

@@ -1,6 +1,6 @@
 //! A snapshot of a record: its rows, and the endpoints that were registered after it.
 
-ghost use Rattle.std.specs.Prelude.{◌≡◌, ◌↔◌, ◌≤◌, [], true, length, map, slice_get, option_map, Some};
+ghost use Rattle.std.specs.Prelude.{◌≡◌, ◌↔◌, ◌≤◌, [], true, length, map, slice_get, option_map, option_and_then, Some};
 ghost use Rattle.std.specs.Option.{option_copied};
 ghost use Rattle.rulings.specs.Lent.{route_meant};
 ghost use Rattle.call_rows.specs.Moves.{move_in, moves_of};
@@ -123,7 +123,8 @@ impl Snapshot {
         }
     }
 
-    /// How many admissions there are among the rows: at most 1,000,000.
+    /// How many admissions there are among the rows, of calls that were dialled and of answers: at
+    /// most 1,000,000.
     pub fn admission_count(&self) -> usize
         ensures value { result ≡ length (admissions_of self.now.rows) }
         ensures few { result ≤ 1000000 }
@@ -138,7 +139,8 @@ impl Snapshot {
         self.admissions.get(place)
     }
 
-    /// The zone of the caller of the admission at this place among the admissions, from 0.
+    /// The zone of the endpoint that asked for the admission at this place among the admissions,
+    /// from 0.
     pub fn zone(&self, place: usize) -> Option<Name>
         ensures { result
             ≡ option_map (λ a. a.asked.zone) (slice_get (admissions_of self.now.rows) place) }
@@ -146,10 +148,11 @@ impl Snapshot {
         self.admissions.zone(place)
     }
 
-    /// What was dialled for the admission at this place among the admissions, from 0.
+    /// What was dialled for the admission at this place among the admissions, from 0; none of an
+    /// answer.
     pub fn digits(&self, place: usize) -> Option<Dialled>
-        ensures { result
-            ≡ option_map (λ a. a.asked.digits) (slice_get (admissions_of self.now.rows) place) }
+        ensures { result ≡ option_and_then (λ a. a.asked.digits)
+            (slice_get (admissions_of self.now.rows) place) }
     {
         self.admissions.digits(place)
     }

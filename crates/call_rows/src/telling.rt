@@ -26,7 +26,7 @@ fn admitted(admissions: &AdmissionList, step: &Step) -> Option<CallRow>
     ensures { result ≡ option_and_then if_row (row_told admissions.now.items step.now) }
 {
     match &admissions.get(step.admission() as usize) {
-        Some(found) => CallRow::new(step.number(), CallEvent::Admitted(found.asked)),
+        Some(found) => CallRow::new(step.number(), found.asked.event()),
         None => None,
     }
 }

@@ -79,7 +79,7 @@ fn limit_of_zone(
     Ok(Command::BandwidthZone { kind, zone, size })
 }
 
-/// `SIZE`, the limit of all calls to remote zones together.
+/// `SIZE`, the limit of all calls to and from other gatekeepers together.
 fn remote_limit(words: &mut Words<'_>) -> Result<Command, FaultKind>
     ensures { result ≡ remote_limit_at (words_of words.old) }
 {

@@ -159,7 +159,7 @@ fn zone_limit(line: &mut LineBuffer, kind: LimitKind, zone: &KeptName, size: Kbp
     line.number(size.value());
 }
 
-/// Makes it the line of the limit of all calls to remote zones together.
+/// Makes it the line of the limit of all calls to and from other gatekeepers together.
 fn remote_limit(line: &mut LineBuffer, size: Kbps)
     ensures { line.new ≡ line_of_words (codes "bandwidth" ∷ codes "remote" ∷ decimal size ∷ []) }
 {

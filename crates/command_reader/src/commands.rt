@@ -64,7 +64,7 @@ pub enum Command {
         zone: KeptName,
         size: Kbps,
     },
-    /// `bandwidth remote SIZE`: the limit of all calls to remote zones together.
+    /// `bandwidth remote SIZE`: the limit of all calls to and from other gatekeepers together.
     BandwidthRemote {
         size: Kbps,
     },

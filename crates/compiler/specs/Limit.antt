@@ -45,7 +45,7 @@ zone_size kind zone (BandwidthZone said named size) =
     if same_kind said kind && bytes_eq named zone then Some size else None
 zone_size kind zone (BandwidthRemote size) = None
 
--- the size that a command gives all calls to remote zones together
+-- the size that a command gives all calls to and from other gatekeepers together
 abbrev pub remote_size : Command → Option ℕ
 remote_size (ZoneLocal name domain address) = None
 remote_size (ZoneRemote name domain address cost priority) = None
@@ -79,6 +79,6 @@ limits_of commands zone = record {
   interzone = limit_of commands Interzone zone;
 }
 
--- the limit of all calls to remote zones together
+-- the limit of all calls to and from other gatekeepers together
 abbrev pub remote_limit_of : List Command → Option ℕ
 remote_limit_of commands = option_map units_of_kbps (last_in (filter_map remote_size commands))

@@ -133,7 +133,7 @@ pub(crate) fn limits_at(
         .unwrap_or(NO_LIMITS)
 }
 
-/// The limit of all calls to remote zones together: the last command counts.
+/// The limit of all calls to and from other gatekeepers together: the last command counts.
 pub(crate) fn remote_limit_in(commands: &[Command]) -> Option<u64>
     ensures { result ≡ remote_limit_of commands.now }
 {
@@ -146,7 +146,7 @@ pub(crate) fn remote_limit_in(commands: &[Command]) -> Option<u64>
     limit
 }
 
-/// The size that a command gives all calls to remote zones together.
+/// The size that a command gives all calls to and from other gatekeepers together.
 fn remote_size(command: &Command) -> Option<Kbps>
     ensures { result ≡ remote_size command.now }
 {

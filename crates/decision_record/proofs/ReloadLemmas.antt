@@ -7,13 +7,16 @@ use Rattle.command_reader.specs.declared.commands.Command.{Command}
 use Rattle.registry.specs.Endpoint.{EndpointParts}
 use Rattle.rulings.specs.Events.{put_in_force}
 use Rattle.decision_record.specs.History.{PlainEntry, in_force_after, in_force_of}
-use Rattle.decision_record.specs.Slots.{entry_meant, brief_entry, register_entry}
+use Rattle.decision_record.specs.Slots.{entry_meant, answer_by, brief_entry, register_entry}
 use Rattle.pieces.specs.Pieces.{PiecesParts}
 use Rattle.decision_record.specs.Reloads.{ReloadsParts}
 use Rattle.decision_record.specs.RecordIndex.{entries_told, IsStored, IsLastReload}
 use Rattle.decision_record.specs.declared.entries.WholeEntry.{WholeEntry}
 use Rattle.decision_record.specs.declared.slot_parts.ShortReply.{ShortReply}
 use Rattle.decision_record.specs.declared.slot_parts.ShortReply.TheVariants as short_reply
+use Rattle.decision_record.specs.declared.slots.AnswerOutcome.{AnswerOutcome}
+use Rattle.decision_record.specs.declared.slots.AnswerOutcome.TheVariants as outcome
+use Rattle.decision_record.specs.declared.slots.AnswerSlot.{AnswerSlot}
 use Rattle.decision_record.specs.declared.slots.BriefSlot.{BriefSlot}
 use Rattle.decision_record.specs.declared.slots.BriefSlot.TheVariants as brief
 use Rattle.decision_record.specs.declared.slots.WideSlot.TheVariants as wide
@@ -65,6 +68,7 @@ no_registration replied place e h =
 
 brief_puts_none : (b : BriefSlot) (e : PlainEntry) → brief_entry [] b ≡ Some e
     → put_in_force e.event ≡ None
+brief_puts_none (brief.RefusedAnswer id call units) e h = puts_as _ e h refl
 brief_puts_none (brief.Change id call units) e h = puts_as _ e h refl
 brief_puts_none (brief.RefusedChange id call units cause) e h = puts_as _ e h refl
 brief_puts_none (brief.Release id call) e h = puts_as _ e h refl
@@ -73,11 +77,19 @@ brief_puts_none (brief.RefusedUnregistration id reason) e h = puts_as _ e h refl
 brief_puts_none (brief.RefusedRegistration place reason) e h =
     no_registration (short_reply.Refused reason) place e h
 
+answer_puts_none : (a : AnswerSlot) (came : AnswerOutcome) (e : PlainEntry)
+    → Some (answer_by a came) ≡ Some e → put_in_force e.event ≡ None
+answer_puts_none a (outcome.Opened kind address) e h = puts_as _ e h refl
+answer_puts_none a (outcome.Repeated kind units address) e h = puts_as _ e h refl
+answer_puts_none a (outcome.Over kind over address) e h = puts_as _ e h refl
+answer_puts_none a outcome.CallOpen e h = puts_as _ e h refl
+
 pub slot_puts_none : (s : Slot) (e : PlainEntry) → entry_meant [] [] [] s ≡ Some e
     → put_in_force e.event ≡ None
 slot_puts_none (slot.Admitted a) e h = puts_as _ e h refl
 slot_puts_none (slot.OverLimit a over) e h = puts_as _ e h refl
 slot_puts_none (slot.Refused a) e h = puts_as _ e h refl
+slot_puts_none (slot.Answer a) e h = answer_puts_none a a.outcome e h
 slot_puts_none (slot.Brief b) e h = brief_puts_none b e h
 slot_puts_none (slot.Wide (wide.OtherLimit a over)) e h = puts_as _ e h refl
 slot_puts_none (slot.Wide (wide.OverChange id call units over)) e h = puts_as _ e h refl

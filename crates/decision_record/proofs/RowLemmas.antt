@@ -46,6 +46,7 @@ nothing_of_registered replied (Some endpoint) = refl
 pub brief_alone : (registrations : List EndpointParts) (b : BriefSlot)
     → option_and_then call_event (brief_entry registrations b)
     ≡ option_and_then call_event (brief_entry [] b)
+brief_alone registrations (brief.RefusedAnswer id call units) = refl
 brief_alone registrations (brief.Change id call units) = refl
 brief_alone registrations (brief.RefusedChange id call units cause) = refl
 brief_alone registrations (brief.Release id call) = refl

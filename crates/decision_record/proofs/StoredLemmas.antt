@@ -24,6 +24,7 @@ use Rattle.decision_record.proofs.ToldLemmas.{TellsAlso, still_made, next_is, on
 -- ---- what a slot means stays if there are more entries, endpoints and reloads
 still_brief : (endpoints others : List EndpointParts) (b : BriefSlot) (e : PlainEntry)
     → brief_entry endpoints b ≡ Some e → brief_entry (endpoints ++ others) b ≡ Some e
+still_brief endpoints others (brief.RefusedAnswer id call units) e h = h
 still_brief endpoints others (brief.Change id call units) e h = h
 still_brief endpoints others (brief.RefusedChange id call units cause) e h = h
 still_brief endpoints others (brief.Release id call) e h = h
@@ -47,6 +48,7 @@ still_meant : (aside more : List PlainEntry) (endpoints others : List EndpointPa
 still_meant aside more endpoints others reloads further (slot.Admitted a) e h = h
 still_meant aside more endpoints others reloads further (slot.OverLimit a over) e h = h
 still_meant aside more endpoints others reloads further (slot.Refused a) e h = h
+still_meant aside more endpoints others reloads further (slot.Answer a) e h = h
 still_meant aside more endpoints others reloads further (slot.Brief b) e h =
     still_brief endpoints others b e h
 still_meant aside more endpoints others reloads further (slot.Wide w) e h = h

@@ -6,7 +6,7 @@ use Rattle.command_reader.specs.Configuration.{Configuration}
 use Rattle.rulings.specs.State.{State}
 use Rattle.rulings.specs.Events.{PlainEvent, Registering, Reloading, plain, kind_of, id_of, call_number_of, put_in_force}
 use Rattle.rulings.specs.Ruling.{ruling_of}
-use Rattle.rulings.specs.Step.{step, no_memory_reply_of}
+use Rattle.rulings.specs.Step.{step, opens_call, no_memory_reply_of}
 use Rattle.rulings.specs.Ruling.{Ruling}
 use Rattle.rulings.specs.declared.replies.Reply.{Reply}
 use Rattle.rulings.specs.declared.routes.Route.{Route}
@@ -24,6 +24,8 @@ pub record PlainEntry : Type 0 where
   pub reply : Reply
   pub zone : Option (List ℕ)
   pub route : Option Route
+  -- whether it opened a call
+  pub opened : Bool
 
 -- what the record has of a reload: its commands, with the count of the lines that were passed over;
 -- or the lines of the commands alone
@@ -48,13 +50,23 @@ event_in (in_entry.Reload commands) = Reloading (commands_reloaded commands)
 
 -- the values of an entry
 abbrev pub plain_entry : Entry → PlainEntry
-plain_entry e =
-    record { event = event_in e.event; reply = e.reply; zone = e.zone; route = e.route }
+plain_entry e = record {
+  event = event_in e.event;
+  reply = e.reply;
+  zone = e.zone;
+  route = e.route;
+  opened = e.opened;
+}
 
 -- what is recorded of an event on which this was ruled
 abbrev pub entry_by : PlainEvent → Ruling → PlainEntry
-entry_by event ruling =
-    record { event = event; reply = ruling.verdict; zone = ruling.zone; route = ruling.route }
+entry_by event ruling = record {
+  event = event;
+  reply = ruling.verdict;
+  zone = ruling.zone;
+  route = ruling.route;
+  opened = opens_call ruling.effect;
+}
 
 -- what is recorded of an event
 abbrev pub entry_of : State → PlainEvent → PlainEntry

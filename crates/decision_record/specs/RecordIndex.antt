@@ -12,8 +12,13 @@ use Rattle.decision_record.specs.declared.slots.Slot.{Slot}
 
 -- the values of an entry that stands whole
 abbrev pub plain_whole : WholeEntry → PlainEntry
-plain_whole e =
-    record { event = plain e.event; reply = e.reply; zone = e.zone; route = e.route }
+plain_whole e = record {
+  event = plain e.event;
+  reply = e.reply;
+  zone = e.zone;
+  route = e.route;
+  opened = e.opened;
+}
 
 -- what a slot means beside the entries that stand whole, the endpoints that asked to be registered
 -- and the reloads

@@ -11,7 +11,7 @@ use Rattle.rulings.specs.declared.replies.Reply.{Reply}
 use Rattle.rulings.specs.declared.replies.Reply.TheVariants as replies
 use Rattle.rulings.specs.declared.routes.Route.{Route}
 use Rattle.rulings.specs.State.{State}
-use Rattle.rulings.specs.Events.{PlainEvent, Registering, Unregistering, Admitting, Changing, Releasing, Reloading}
+use Rattle.rulings.specs.Events.{PlainEvent, Registering, Unregistering, Admitting, Answering, Changing, Releasing, Reloading}
 use Rattle.rulings.specs.Step.{is_granted, step}
 use Rattle.decision_record.specs.History.{PlainEntry}
 
@@ -58,26 +58,73 @@ routed_event call digits units (Some granted) (Some source) (Some route) =
       route = route;
     }))
 
+-- ---- answers
+-- whether an answer to a call that was not open was granted: one that was refused for a limit was
+-- not; nothing of an answer that was refused for another cause, or that opened no call
+abbrev pub answered_refusal : AdmitRefusal → Option Bool
+answered_refusal admit.CallerNotRegistered = None
+answered_refusal admit.CallOpen = None
+answered_refusal (admit.NoRoute refusal) = None
+answered_refusal (admit.OverLimit over) = Some false
+answered_refusal admit.CallsFull = None
+answered_refusal admit.RecordFull = None
+answered_refusal admit.NoMemory = None
+
+abbrev pub answered_verdict : Reply → (opened : Bool) → Option Bool
+answered_verdict (replies.Registered id zone) opened = None
+answered_verdict (replies.RegisterRefused id reason) opened = None
+answered_verdict (replies.Unregistered id) opened = None
+answered_verdict (replies.UnregisterRefused id reason) opened = None
+answered_verdict (replies.Admitted call destination units) opened =
+    if opened then Some true else None
+answered_verdict (replies.AdmitRefused call reason) opened = answered_refusal reason
+answered_verdict (replies.Changed call units) opened = None
+answered_verdict (replies.ChangeRefused call reason) opened = None
+answered_verdict (replies.Released call) opened = None
+answered_verdict (replies.ReleaseRefused call reason) opened = None
+answered_verdict (replies.Reloaded version) opened = None
+answered_verdict (replies.ReloadRefused reason) opened = None
+
+-- what was asked and what came of it, with the zone of the endpoint and the route that the entry
+-- has
+abbrev pub answered_event
+    : (call units : ℕ) → Option Bool → (target : Option (List ℕ)) → Option Route → Option CallEvent
+answered_event call units None target route = None
+answered_event call units (Some granted) None route = None
+answered_event call units (Some granted) (Some target) None = None
+answered_event call units (Some granted) (Some target) (Some route) =
+    Some (rows.Answered (record {
+      call = call;
+      zone = target;
+      units = units;
+      granted = granted;
+      route = route;
+    }))
+
 -- ---- entries
 -- this, if the reply is a grant
 abbrev pub if_granted : Reply → CallEvent → Option CallEvent
 if_granted replied event = if is_granted replied then Some event else None
 
--- what is said of a call by an event, its reply, and the zone and the route beside them: that an
--- admission was routed, that a bandwidth change was granted, or that a call was released
-abbrev pub event_said : PlainEvent → Reply → Option (List ℕ) → Option Route → Option CallEvent
-event_said (Registering endpoint) replied source route = None
-event_said (Unregistering id) replied source route = None
-event_said (Admitting id call digits units) replied source route =
-    routed_event call digits units (routed_verdict replied) source route
-event_said (Changing id call units) replied source route =
+-- what is said of a call by an event, its reply, the zone and the route beside them, and whether it
+-- opened a call: that an admission was routed, that an answer opened a call or was refused for a
+-- limit, that a bandwidth change was granted, or that a call was released
+abbrev pub event_said
+    : PlainEvent → Reply → Option (List ℕ) → Option Route → (opened : Bool) → Option CallEvent
+event_said (Registering endpoint) replied place route opened = None
+event_said (Unregistering id) replied place route opened = None
+event_said (Admitting id call digits units) replied place route opened =
+    routed_event call digits units (routed_verdict replied) place route
+event_said (Answering id call units) replied place route opened =
+    answered_event call units (answered_verdict replied opened) place route
+event_said (Changing id call units) replied place route opened =
     if_granted replied (rows.Changed call units)
-event_said (Releasing id call) replied source route = if_granted replied (rows.Released call)
-event_said (Reloading commands) replied source route = None
+event_said (Releasing id call) replied place route opened = if_granted replied (rows.Released call)
+event_said (Reloading commands) replied place route opened = None
 
 -- the same by an entry
 abbrev pub call_event : PlainEntry → Option CallEvent
-call_event e = event_said e.event e.reply e.zone e.route
+call_event e = event_said e.event e.reply e.zone e.route e.opened
 
 -- a row, if it is one
 abbrev pub if_row : RowParts → Option RowParts

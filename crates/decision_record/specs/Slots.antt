@@ -1,11 +1,13 @@
 -- Entries in few bytes: what each means.
-use Rattle.std.specs.Prelude.{ℕ, List, slice_get, Option, Some, None}
+use Rattle.std.specs.Prelude.{ℕ, Bool, true, false, List, slice_get, Option, Some, None}
 use Rattle.std.specs.Option.{option_map}
 use Rattle.bandwidth.specs.declared.over.Over.{Over}
 use Rattle.bandwidth.specs.declared.over.Over.TheVariants as over
 use Rattle.gk_terms.specs.Address.{AddressParts}
 use Rattle.registry.specs.Endpoint.{EndpointParts}
-use Rattle.rulings.specs.Events.{PlainEvent, Registering, Admitting, Changing, Releasing, Unregistering}
+use Rattle.rulings.specs.Events.{PlainEvent, Registering, Admitting, Answering, Changing, Releasing, Unregistering}
+use Rattle.rulings.specs.Lent.{destination_meant}
+use Rattle.rulings.specs.declared.lent_routes.DestinationKind.{DestinationKind}
 use Rattle.decision_record.specs.History.{PlainEntry}
 use Rattle.decision_record.specs.declared.slot_parts.Asked.{Asked}
 use Rattle.rulings.specs.declared.replies.AdmitRefusal.{AdmitRefusal}
@@ -32,6 +34,9 @@ use Rattle.decision_record.specs.declared.slot_parts.Unchanged.{Unchanged}
 use Rattle.decision_record.specs.declared.slot_parts.Unchanged.TheVariants as unchanged
 use Rattle.decision_record.specs.declared.slots.RoutedAdmission.{RoutedAdmission}
 use Rattle.decision_record.specs.declared.slots.RefusedAdmission.{RefusedAdmission}
+use Rattle.decision_record.specs.declared.slots.AnswerOutcome.{AnswerOutcome}
+use Rattle.decision_record.specs.declared.slots.AnswerOutcome.TheVariants as outcome
+use Rattle.decision_record.specs.declared.slots.AnswerSlot.{AnswerSlot}
 use Rattle.decision_record.specs.declared.slots.BriefSlot.{BriefSlot}
 use Rattle.decision_record.specs.declared.slots.BriefSlot.TheVariants as brief
 use Rattle.decision_record.specs.declared.slots.WideSlot.{WideSlot}
@@ -101,6 +106,7 @@ abbrev pub slot_lent : LentSlot → Slot
 slot_lent (lent.Admitted a) = slot.Admitted a.now
 slot_lent (lent.OverLimit a over) = slot.OverLimit a.now over
 slot_lent (lent.Refused a) = slot.Refused a.now
+slot_lent (lent.Answer a) = slot.Answer a.now
 slot_lent (lent.Brief b) = slot.Brief b.now
 slot_lent (lent.Wide w) = slot.Wide w.now
 slot_lent (lent.Registered place) = slot.Registered place
@@ -109,38 +115,76 @@ slot_lent (lent.Reload place) = slot.Reload place
 
 -- ---- entries
 -- of an admission
-abbrev pub admission_entry : Asked → Reply → Option (List ℕ) → Option Route → PlainEntry
-admission_entry asked replied zone route = record {
+abbrev pub admission_entry
+    : Asked → Reply → Option (List ℕ) → Option Route → (opened : Bool) → PlainEntry
+admission_entry asked replied zone route opened = record {
   event = Admitting asked.id asked.call asked.digits asked.units;
   reply = replied;
   zone = zone;
   route = route;
+  opened = opened;
 }
 
 -- of one that leads to a destination
-abbrev pub routed_entry : RoutedAdmission → Reply → PlainEntry
-routed_entry a replied =
+abbrev pub routed_entry : RoutedAdmission → Reply → (opened : Bool) → PlainEntry
+routed_entry a replied opened =
     admission_entry a.asked replied (Some a.zone) (Some (route.To (routed_destination_meant a)))
+    opened
 
 -- and is granted
 abbrev pub admitted_entry : RoutedAdmission → PlainEntry
 admitted_entry a =
-    routed_entry a (reply.Admitted a.asked.call (routed_destination_meant a) a.asked.units)
+    routed_entry a (reply.Admitted a.asked.call (routed_destination_meant a) a.asked.units) true
 
 -- or is refused since this sum would be above its limit
 abbrev pub over_entry : RoutedAdmission → Over → PlainEntry
-over_entry a over = routed_entry a (reply.AdmitRefused a.asked.call (admit.OverLimit over))
+over_entry a over =
+    routed_entry a (reply.AdmitRefused a.asked.call (admit.OverLimit over)) false
 
 -- of one that leads to none
 abbrev pub refused_entry : RefusedAdmission → PlainEntry
 refused_entry a =
     admission_entry a.asked (reply.AdmitRefused a.asked.call (unrouted_reason_meant a.cause))
-    (unrouted_zone_meant a.cause) (unrouted_route_meant a.cause)
+    (unrouted_zone_meant a.cause) (unrouted_route_meant a.cause) false
+
+-- of an answer to a call by a registered endpoint
+abbrev pub answer_entry : AnswerSlot → Reply → Option Route → (opened : Bool) → PlainEntry
+answer_entry a replied route opened = record {
+  event = Answering a.id a.call a.units;
+  reply = replied;
+  zone = Some a.zone;
+  route = route;
+  opened = opened;
+}
+
+-- to which the call leads: that endpoint is the destination
+abbrev pub called_meant : AnswerSlot → DestinationKind → AddressParts → Destination
+called_meant a kind address = destination_meant kind a.id address
+
+abbrev pub called_entry : AnswerSlot → Reply → Destination → (opened : Bool) → PlainEntry
+called_entry a replied destination opened =
+    answer_entry a replied (Some (route.To destination)) opened
+
+-- by what came of it
+abbrev pub answer_by : AnswerSlot → AnswerOutcome → PlainEntry
+answer_by a (outcome.Opened kind address) =
+    called_entry a (reply.Admitted a.call (called_meant a kind address) a.units)
+    (called_meant a kind address) true
+answer_by a (outcome.Repeated kind units address) =
+    called_entry a (reply.Admitted a.call (called_meant a kind address) units)
+    (called_meant a kind address) false
+answer_by a (outcome.Over kind over address) =
+    called_entry a (reply.AdmitRefused a.call (admit.OverLimit (over_meant over a.zone)))
+    (called_meant a kind address) false
+answer_by a outcome.CallOpen = answer_entry a (reply.AdmitRefused a.call admit.CallOpen) None false
+
+abbrev pub entry_of_answer : AnswerSlot → PlainEntry
+entry_of_answer a = answer_by a a.outcome
 
 -- of another event
 abbrev pub other_entry : PlainEvent → Reply → PlainEntry
 other_entry event replied =
-    record { event = event; reply = replied; zone = None; route = None }
+    record { event = event; reply = replied; zone = None; route = None; opened = false }
 
 -- of a registration: the names in the reply are those of the endpoint that asked
 abbrev pub register_entry : ShortReply → EndpointParts → PlainEntry
@@ -149,6 +193,9 @@ register_entry replied endpoint =
 
 -- of a slot that is no admission; these are the endpoints that asked to be registered
 abbrev pub brief_entry : List EndpointParts → BriefSlot → Option PlainEntry
+brief_entry registrations (brief.RefusedAnswer id call units) =
+    Some
+    (other_entry (Answering id call units) (reply.AdmitRefused call admit.CallerNotRegistered))
 brief_entry registrations (brief.Change id call units) =
     Some (other_entry (Changing id call units) (reply.Changed call units))
 brief_entry registrations (brief.RefusedChange id call units cause) =
@@ -177,6 +224,7 @@ entry_meant aside registrations reloads (slot.Admitted a) = Some (admitted_entry
 entry_meant aside registrations reloads (slot.OverLimit a over) =
     Some (over_entry a (over_meant over a.zone))
 entry_meant aside registrations reloads (slot.Refused a) = Some (refused_entry a)
+entry_meant aside registrations reloads (slot.Answer a) = Some (entry_of_answer a)
 entry_meant aside registrations reloads (slot.Brief b) = brief_entry registrations b
 entry_meant aside registrations reloads (slot.Wide w) = Some (wide_entry w)
 entry_meant aside registrations reloads (slot.Registered place) =

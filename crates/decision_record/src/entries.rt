@@ -63,10 +63,15 @@ pub struct Entry<'a> {
     pub event: EntryEvent<'a>,
     /// What was replied.
     pub reply: Reply,
-    /// Of an admission: the zone of the caller, if it was registered.
+    /// Of an admission: the zone of the caller, if it was registered. Of an answer to a call: that
+    /// of the endpoint, if it was.
     pub zone: Option<Name>,
-    /// Of an admission: where the digits lead, if that was looked for.
+    /// Of an admission: where the digits lead, if that was looked for. Of an answer to a call: the
+    /// endpoint itself, unless it was refused for the call or for the endpoint.
     pub route: Option<Route>,
+    /// Whether it opened a call: that of a granted admission did, and so did that of a granted
+    /// answer, but for one to a call that was open already.
+    pub opened: bool,
 }
 
 impl Entry<'_> {
@@ -101,6 +106,7 @@ pub struct WholeEntry {
     pub reply: Reply,
     pub zone: Option<Name>,
     pub route: Option<Route>,
+    pub opened: bool,
 }
 
 impl WholeEntry {
@@ -113,12 +119,14 @@ impl WholeEntry {
             reply,
             zone,
             route,
+            opened,
         } = self;
         Entry {
             event: EntryEvent::Asked(Cow::Borrowed(event)),
             reply: *reply,
             zone: *zone,
             route: *route,
+            opened: *opened,
         }
     }
 }

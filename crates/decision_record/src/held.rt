@@ -2,7 +2,7 @@
 
 ghost use Rattle.std.specs.Prelude.{◌≡◌};
 
-use crate::slots::{BriefSlot, RefusedAdmission, RoutedAdmission, WideSlot};
+use crate::slots::{AnswerSlot, BriefSlot, RefusedAdmission, RoutedAdmission, WideSlot};
 use std::marker::Model;
 use std::mem::size_of;
 
@@ -10,6 +10,8 @@ use std::mem::size_of;
 const _: () = prove!(size_of::<HeldRouted>() == 92);
 
 const _: () = prove!(size_of::<HeldRefused>() == 68);
+
+const _: () = prove!(size_of::<HeldAnswer>() == 60);
 
 const _: () = prove!(size_of::<HeldBrief>() == 30);
 
@@ -81,6 +83,38 @@ impl HeldRefused {
         ensures { result.now ≡ self.now }
     {
         &self.admission
+    }
+}
+
+/// The same of an answer to a call.
+#[derive(Clone, Copy)]
+pub struct HeldAnswer {
+    answer: AnswerSlot,
+}
+
+impl Model for HeldAnswer {
+    ghost use Rattle.decision_record.specs.declared.slots.AnswerSlot.{AnswerSlot};
+
+    ghost Value = { AnswerSlot };
+
+    ghost view = { λ h. h.answer };
+
+    ghost inverse = { λ item. record { answer = item } };
+}
+
+impl HeldAnswer {
+    /// This answer.
+    pub fn of(answer: &AnswerSlot) -> HeldAnswer
+        ensures { result ≡ answer.now }
+    {
+        HeldAnswer { answer: *answer }
+    }
+
+    /// The answer.
+    pub fn answer(&self) -> &AnswerSlot
+        ensures { result.now ≡ self.now }
+    {
+        &self.answer
     }
 }
 

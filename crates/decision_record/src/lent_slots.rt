@@ -1,7 +1,7 @@
 //! Entries in few bytes, lent from where they stand.
 
 use crate::slot_parts::ShortOver;
-use crate::slots::{BriefSlot, RefusedAdmission, RoutedAdmission, WideSlot};
+use crate::slots::{AnswerSlot, BriefSlot, RefusedAdmission, RoutedAdmission, WideSlot};
 
 /// A slot of a record that is looked at where it stands, since a copy of it takes some 100 bytes.
 /// Its kinds are those of `Slot`.
@@ -10,14 +10,17 @@ pub enum LentSlot<'a> {
     /// A granted admission.
     Admitted(&'a RoutedAdmission),
     /// An admission that was refused for a limit of the caller's zone, or for that of all calls to
-    /// zones of other gatekeepers.
+    /// and from other gatekeepers.
     OverLimit {
         admission: &'a RoutedAdmission,
         over: ShortOver,
     },
     /// An admission that leads to no destination.
     Refused(&'a RefusedAdmission),
-    /// A change, a release, an unregistration, or a refused registration.
+    /// An answer of a registered endpoint to a call.
+    Answer(&'a AnswerSlot),
+    /// A change, a release, an unregistration, a refused registration, or the answer of an endpoint
+    /// that is not registered.
     Brief(&'a BriefSlot),
     /// A refusal for a limit that takes more bytes.
     Wide(&'a WideSlot),

@@ -1,6 +1,7 @@
 //! The record of decisions: what was asked, and what was replied.
 #![tactic(auto)]
 
+mod answers;
 mod entries;
 mod held;
 mod known_lines;

@@ -1,7 +1,7 @@
 //! What was ruled on an event, put into few bytes.
 
 ghost use Rattle.std.specs.Prelude.{◌≡◌, ◌≢◌, [], Some, None, IfSome, IfNone};
-ghost use Rattle.rulings.specs.Events.{event_meant, Registering, Unregistering, Admitting, Changing, Releasing};
+ghost use Rattle.rulings.specs.Events.{event_meant, Registering, Unregistering, Admitting, Answering, Changing, Releasing};
 ghost use Rattle.rulings.specs.declared.replies.Reply.TheVariants as Reply;
 ghost use Rattle.decision_record.specs.History.{entry_by};
 ghost use Rattle.rulings.specs.Lent.{destination_meant, ruling_meant};
@@ -11,7 +11,9 @@ use crate::number_bytes::NumberBytes;
 use crate::slot_parts::{
     Asked, NamedOver, ShortDestination, ShortOver, ShortReply, Unchanged, Unrouted,
 };
-use crate::slots::{BriefSlot, RefusedAdmission, RoutedAdmission, Slot, WideSlot};
+use crate::slots::{
+    AnswerOutcome, AnswerSlot, BriefSlot, RefusedAdmission, RoutedAdmission, Slot, WideSlot,
+};
 use bandwidth::Over;
 use gk_terms::{Dialled, Name, Units};
 use registry::Endpoint;
@@ -35,6 +37,7 @@ impl Slot {
                 digits,
                 units,
             } => admission(id, *call, digits, *units, ruling),
+            LentEvent::Incoming { id, call, units } => answer(id, *call, *units, ruling),
             LentEvent::Change { id, call, units } => change(id, *call, *units, ruling),
             LentEvent::Release { id, call } => release(id, *call, ruling),
         }
@@ -269,6 +272,91 @@ fn admission(
     }
 }
 
+/// The slot of an answer to a call.
+#[inline(never)]
+fn answer(id: &Name, call: u32, units: Units, ruling: &LentRuling<'_>) -> Option<Slot>
+    ensures { IfSome result (λ slot. Spec.entry_meant [] [] [] slot
+        ≡ Some (entry_by (Answering id.now call units) (ruling_meant ruling.now))) }
+{
+    match ruling {
+        LentRuling::Answering {
+            call: number,
+            owner,
+            zone,
+            units: given,
+            kind,
+            address,
+        } if *number == call && *given == units && **owner == *id => Some(Slot::Answer(
+            AnswerSlot {
+                call,
+                units,
+                id: ShortName::of(id)?,
+                zone: ShortName::of(zone)?,
+                outcome: AnswerOutcome::Opened {
+                    kind: *kind,
+                    address: *address,
+                },
+            },
+        )),
+        LentRuling::Repeated {
+            call: number,
+            zone,
+            units: held,
+            kind,
+            name,
+            address,
+        } if *number == call && **name == *id => Some(Slot::Answer(AnswerSlot {
+            call,
+            units,
+            id: ShortName::of(id)?,
+            zone: ShortName::of(zone)?,
+            outcome: AnswerOutcome::Repeated {
+                kind: *kind,
+                units: NumberBytes::of(held.value()),
+                address: *address,
+            },
+        })),
+        LentRuling::OverLimit {
+            call: number,
+            source,
+            kind,
+            name,
+            address,
+            over,
+        } if *number == call && **name == *id => {
+            let zone = ShortName::of(source)?;
+            Some(Slot::Answer(AnswerSlot {
+                call,
+                units,
+                id: ShortName::of(id)?,
+                zone,
+                outcome: AnswerOutcome::Over {
+                    kind: *kind,
+                    over: short_over(over, &zone)?,
+                    address: *address,
+                },
+            }))
+        }
+        LentRuling::CallOpen {
+            call: number,
+            source,
+        } if *number == call => Some(Slot::Answer(AnswerSlot {
+            call,
+            units,
+            id: ShortName::of(id)?,
+            zone: ShortName::of(source)?,
+            outcome: AnswerOutcome::CallOpen,
+        })),
+        LentRuling::CallerNotRegistered { call: number } if *number == call => {
+            let id = ShortName::of(id)?;
+            let call = NumberBytes::of(call);
+            let units = NumberBytes::of(units.value());
+            Some(Slot::Brief(BriefSlot::RefusedAnswer { id, call, units }))
+        }
+        _ => None,
+    }
+}
+
 impl ShortDestination {
     /// The destination of this kind and of this name, except for the address.
     fn of(kind: DestinationKind, name: ShortName) -> ShortDestination
@@ -284,7 +372,7 @@ impl ShortDestination {
 }
 
 /// What would be above its limit, in few bytes if it is a sum of the caller's zone or that of all
-/// calls to zones of other gatekeepers.
+/// calls to and from other gatekeepers.
 fn short_over(over: &Over, zone: &ShortName) -> Option<ShortOver>
     ensures { IfSome result (λ short. Spec.over_meant short zone.now ≡ over.now) }
 {

@@ -127,9 +127,10 @@ impl Record {
     }
 
     #[tactic(auto, using(crate::proofs::RowLemmas::made_of_found))]
-    /// What the entry of this number says of a call, as a row: that an admission was routed, that a
-    /// bandwidth change was granted, or that a call was released. None of any other entry, nor of a
-    /// call of number 0, which no request can have.
+    /// What the entry of this number says of a call, as a row: that an admission was routed, that
+    /// an answer opened a call or was refused for a limit, that a bandwidth change was granted, or
+    /// that a call was released. None of any other entry, nor of a call of number 0, which no
+    /// request can have.
     pub fn row(&self, number: u32) -> Option<CallRow>
         ensures { result ≡ option_and_then (entry_row number)
             (entry_of_number self.now.entries number) }

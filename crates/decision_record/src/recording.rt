@@ -90,6 +90,7 @@ impl Record {
             reply: told.reply,
             zone: told.zone,
             route: told.route,
+            opened: told.opened,
         });
         self.kept -= 1;
     }

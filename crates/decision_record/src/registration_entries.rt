@@ -34,6 +34,7 @@ impl ShortReply {
             reply: self.reply(endpoint.id(), endpoint.zone()),
             zone: None,
             route: None,
+            opened: false,
         }
     }
 }

@@ -123,6 +123,7 @@ impl PastReload {
             reply: self.reply,
             zone: None,
             route: None,
+            opened: false,
         }
     }
 }
@@ -137,6 +138,7 @@ impl LastReload {
             reply: self.reply,
             zone: None,
             route: None,
+            opened: false,
         }
     }
 

@@ -8,31 +8,35 @@ ghost use Rattle.decision_record.specs.History.{plain_entry};
 ghost use Rattle.decision_record.specs.Rows as Spec;
 
 use crate::entries::{Entry, EntryEvent};
-use call_rows::{AdmittedCall, CallEvent, CallRow};
+use call_rows::{AdmittedCall, AnsweredCall, CallEvent, CallRow};
 use gk_terms::{Dialled, Name, Units};
 use rulings::{AdmitRefusal, Event, Reply, Route};
 
 impl Entry<'_> {
-    /// What the entry says of a call: that an admission was routed, that a bandwidth change was
-    /// granted, or that a call was released.
+    /// What the entry says of a call: that an admission was routed, that an answer opened a call or
+    /// was refused for a limit, that a bandwidth change was granted, or that a call was released.
     pub(crate) fn call_event(&self) -> Option<CallEvent>
         ensures { result ≡ Spec.call_event (plain_entry self.now) }
     {
         match &self.event {
-            EntryEvent::Asked(event) => event_said(event, &self.reply, &self.zone, &self.route),
+            EntryEvent::Asked(event) => {
+                event_said(event, &self.reply, &self.zone, &self.route, self.opened)
+            }
             EntryEvent::Registration(_) | EntryEvent::Reload(_) => None,
         }
     }
 }
 
-/// What an event with its reply says of a call, with the zone and the route beside them.
+/// What an event with its reply says of a call, with the zone and the route beside them, and
+/// whether it opened a call.
 fn event_said(
     event: &Event,
     reply: &Reply,
     zone: &Option<Name>,
     route: &Option<Route>,
+    opened: bool,
 ) -> Option<CallEvent>
-    ensures { result ≡ Spec.event_said (plain event.now) reply.now zone.now route.now }
+    ensures { result ≡ Spec.event_said (plain event.now) reply.now zone.now route.now opened }
 {
     match event {
         Event::Admit {
@@ -41,6 +45,9 @@ fn event_said(
             units,
             ..
         } => routed(*call, digits, *units, routed_verdict(reply), zone, route),
+        Event::Incoming { call, units, .. } => {
+            answered(*call, *units, answered_verdict(reply, opened), zone, route)
+        }
         Event::Change { call, units, .. } => changed(*call, *units, reply),
         Event::Release { call, .. } => released(*call, reply),
         Event::Register(_) | Event::Unregister { .. } | Event::Reload(_) => None,
@@ -90,6 +97,54 @@ fn routed(
                 call,
                 zone: *zone,
                 digits: *digits,
+                units,
+                granted,
+                route: *route,
+            })),
+        },
+    }
+}
+
+/// Whether an answer to a call that was not open was granted; none of an answer that was refused
+/// for another cause than a limit, or that opened no call.
+fn answered_verdict(reply: &Reply, opened: bool) -> Option<bool>
+    ensures { result ≡ Spec.answered_verdict reply.now opened }
+{
+    match reply {
+        Reply::Admitted { .. } if opened => Some(true),
+        Reply::AdmitRefused { reason, .. } => answered_refusal(reason),
+        _ => None,
+    }
+}
+
+/// That it was not, if the answer was refused for a limit.
+fn answered_refusal(reason: &AdmitRefusal) -> Option<bool>
+    ensures { result ≡ Spec.answered_refusal reason.now }
+{
+    match reason {
+        AdmitRefusal::OverLimit(_) => Some(false),
+        _ => None,
+    }
+}
+
+/// That a call was answered, with the zone of the endpoint and its route.
+fn answered(
+    call: u32,
+    units: Units,
+    verdict: Option<bool>,
+    zone: &Option<Name>,
+    route: &Option<Route>,
+) -> Option<CallEvent>
+    ensures { result ≡ Spec.answered_event call units verdict zone.now route.now }
+{
+    let granted = verdict?;
+    match zone {
+        None => None,
+        Some(zone) => match route {
+            None => None,
+            Some(route) => Some(CallEvent::Answered(AnsweredCall {
+                call,
+                zone: *zone,
                 units,
                 granted,
                 route: *route,

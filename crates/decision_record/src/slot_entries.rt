@@ -1,7 +1,7 @@
 //! What entries in few bytes mean.
 
 ghost use Rattle.std.specs.Prelude.{◌≡◌, map, slice_get, option_map};
-ghost use Rattle.rulings.specs.Events.{plain, Unregistering, Changing, Releasing};
+ghost use Rattle.rulings.specs.Events.{plain, Unregistering, Answering, Changing, Releasing};
 ghost use Rattle.decision_record.specs.History.{plain_entry};
 ghost use Rattle.decision_record.specs.RecordIndex.{slot_meant, plain_whole};
 ghost use Rattle.decision_record.specs.Slots as Spec;
@@ -46,7 +46,7 @@ impl ShortDestination {
 
 impl ShortOver {
     /// The sum that would be above its limit, of a call from this zone.
-    fn of_zone(&self, zone: &ShortName) -> Over
+    pub fn of_zone(&self, zone: &ShortName) -> Over
         ensures { result ≡ Spec.over_meant self.now zone.now }
     {
         match self {
@@ -138,6 +138,7 @@ impl LentSlot<'_> {
                 Some(admission.over(&over.of_zone(&admission.zone)))
             }
             LentSlot::Refused(admission) => Some(admission.entry()),
+            LentSlot::Answer(answer) => Some(answer.entry()),
             LentSlot::Brief(brief) => brief.entry(registrations),
             LentSlot::Wide(wide) => Some(wide.entry()),
             LentSlot::Registered { place } => {
@@ -166,7 +167,7 @@ impl RoutedAdmission {
             destination: self.destination(),
             units: self.asked.units,
         };
-        self.entry(reply)
+        self.entry(reply, true)
     }
 
     /// The entry if it was refused since this sum would be above its limit.
@@ -177,15 +178,21 @@ impl RoutedAdmission {
             call: self.asked.call,
             reason: AdmitRefusal::OverLimit(*over),
         };
-        self.entry(reply)
+        self.entry(reply, false)
     }
 
     /// The entry with this reply.
-    fn entry(&self, reply: Reply) -> Entry<'static>
-        ensures { plain_entry result ≡ Spec.routed_entry self.now reply }
+    fn entry(&self, reply: Reply, opened: bool) -> Entry<'static>
+        ensures { plain_entry result ≡ Spec.routed_entry self.now reply opened }
     {
         let route = Route::To(self.destination());
-        admission(&self.asked, reply, Some(self.zone.name()), Some(route))
+        admission(
+            &self.asked,
+            reply,
+            Some(self.zone.name()),
+            Some(route),
+            opened,
+        )
     }
 }
 
@@ -198,7 +205,13 @@ impl RefusedAdmission {
             call: self.asked.call,
             reason: self.cause.reason(),
         };
-        admission(&self.asked, reply, self.cause.zone(), self.cause.route())
+        admission(
+            &self.asked,
+            reply,
+            self.cause.zone(),
+            self.cause.route(),
+            false,
+        )
     }
 }
 
@@ -229,6 +242,9 @@ impl BriefSlot {
             BriefSlot::RefusedRegistration { place, reason } => {
                 let replied = ShortReply::Refused { reason: *reason };
                 registration_at(registrations, place.index(), &replied)
+            }
+            BriefSlot::RefusedAnswer { id, call, units } => {
+                Some(stranger_answer(id, call.number(), Units::new(units.number())))
             }
         }
     }
@@ -268,8 +284,9 @@ fn admission(
     reply: Reply,
     zone: Option<Name>,
     route: Option<Route>,
+    opened: bool,
 ) -> Entry<'static>
-    ensures { plain_entry result ≡ Spec.admission_entry asked.now reply zone route }
+    ensures { plain_entry result ≡ Spec.admission_entry asked.now reply zone route opened }
 {
     let event = Event::Admit {
         id: asked.id.name(),
@@ -282,6 +299,7 @@ fn admission(
         reply,
         zone,
         route,
+        opened,
     }
 }
 
@@ -309,6 +327,20 @@ fn unchanged(id: &ShortName, call: u32, units: Units, reason: ChangeRefusal) -> 
         units,
     };
     other(event, Reply::ChangeRefused { call, reason })
+}
+
+/// The entry of an answer that is refused since the endpoint is not registered.
+fn stranger_answer(id: &ShortName, call: u32, units: Units) -> Entry<'static>
+    ensures { plain_entry result ≡ Spec.other_entry (Answering id.now call units)
+        (Reply.AdmitRefused call AdmitRefusal.CallerNotRegistered) }
+{
+    let event = Event::Incoming {
+        id: id.name(),
+        call,
+        units,
+    };
+    let reason = AdmitRefusal::CallerNotRegistered;
+    other(event, Reply::AdmitRefused { call, reason })
 }
 
 /// The entry of a granted release.
@@ -345,7 +377,7 @@ fn not_unregistered(id: &ShortName, reason: UnregisterRefusal) -> Entry<'static>
     other(event, reply)
 }
 
-/// The entry of an event that is not an admission.
+/// The entry of an event that is not an admission, nor the answer of a registered endpoint.
 fn other(event: Event, reply: Reply) -> Entry<'static>
     ensures { plain_entry result ≡ Spec.other_entry (plain event) reply }
 {
@@ -354,5 +386,6 @@ fn other(event: Event, reply: Reply) -> Entry<'static>
         reply,
         zone: None,
         route: None,
+        opened: false,
     }
 }

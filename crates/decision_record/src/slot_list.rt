@@ -8,12 +8,12 @@ ghost use Rattle.decision_record.specs.SlotList.{over_slot, place_meant};
 ghost use Rattle.decision_record.specs.Slots.{slot_lent};
 ghost use Rattle.decision_record.specs.declared.slots.Slot.TheVariants as slots;
 
-use crate::held::{HeldBrief, HeldRefused, HeldRouted, HeldWide};
+use crate::held::{HeldAnswer, HeldBrief, HeldRefused, HeldRouted, HeldWide};
 use crate::lent_slots::LentSlot;
 use crate::number_bytes::NumberBytes;
 use crate::slot_parts::ShortOver;
 use crate::slot_places::{SlotPlace, slot_at};
-use crate::slots::{BriefSlot, RefusedAdmission, RoutedAdmission, Slot, WideSlot};
+use crate::slots::{AnswerSlot, BriefSlot, RefusedAdmission, RoutedAdmission, Slot, WideSlot};
 use pieces::{PIECE_ITEMS, Pieces};
 use std::alloc::{AllocError, Global};
 use std::marker::Model;
@@ -25,10 +25,11 @@ use std::mem::size_of;
 /// `places` has a place of 5 bytes for each slot. That of a granted registration, of a reload or of
 /// an entry that stands whole is the slot itself; any other says where it stands: in `routed` if it
 /// is that of an admission that leads to a destination, and the place tells the verdict; in
-/// `refused` if the admission leads to none; in `brief` if it is that of a granted change or
-/// release, of an unregistration, of a change that is refused for its call, or of a refused
-/// registration; and in `wide` if it is that of a change over a limit, or of an admission over the
-/// limit of a zone that is not the caller's. Each of the five lists has room for `room` further
+/// `refused` if the admission leads to none; in `answers` if it is that of an answer to a call; in
+/// `brief` if it is that of a granted change or release, of an unregistration, of a change that is
+/// refused for its call, of a refused registration, or of the answer of an endpoint that is not
+/// registered; and in `wide` if it is that of a change over a limit, or of an admission over the
+/// limit of a zone that is not the caller's. Each of the six lists has room for `room` further
 /// items, since it is not known of which kind the next slots are.
 #[derive(Drop)]
 pub struct SlotList {
@@ -37,6 +38,7 @@ pub struct SlotList {
     refused: Pieces<HeldRefused>,
     brief: Pieces<HeldBrief>,
     wide: Pieces<HeldWide>,
+    answers: Pieces<HeldAnswer>,
     room: usize,
 }
 
@@ -48,12 +50,12 @@ impl Model for SlotList {
     ghost Value = { PiecesParts Slot };
 
     ghost view = { λ l. record {
-      items = slots_told l.places l.routed l.refused l.brief l.wide;
+      items = slots_told l.places l.routed l.refused l.brief l.wide l.answers;
       room = l.room;
     } };
 
-    ghost invariant = { λ l. AreHeld l.places l.routed l.refused l.brief l.wide
-        (slots_told l.places l.routed l.refused l.brief l.wide) l.room };
+    ghost invariant = { λ l. AreHeld l.places l.routed l.refused l.brief l.wide l.answers
+        (slots_told l.places l.routed l.refused l.brief l.wide l.answers) l.room };
 }
 
 impl SlotList {
@@ -67,6 +69,7 @@ impl SlotList {
             refused: Pieces::new(alloc),
             brief: Pieces::new(alloc),
             wide: Pieces::new(alloc),
+            answers: Pieces::new(alloc),
             room: 0,
         }
     }
@@ -97,6 +100,7 @@ impl SlotList {
             &self.refused,
             &self.brief,
             &self.wide,
+            &self.answers,
             place,
         )
     }
@@ -119,6 +123,7 @@ impl SlotList {
             &mut self.refused,
             &mut self.brief,
             &mut self.wide,
+            &mut self.answers,
             ahead,
         )?;
         self.room = ahead;
@@ -138,6 +143,7 @@ impl SlotList {
             Slot::Admitted(admission) => self.push_admitted(admission),
             Slot::OverLimit { admission, over } => self.push_over(admission, over),
             Slot::Refused(admission) => self.push_refused(admission),
+            Slot::Answer(answer) => self.push_answer(answer),
             Slot::Brief(brief) => self.push_brief(brief),
             Slot::Wide(wide) => self.push_wide(wide),
             Slot::Registered { place } => {
@@ -200,6 +206,21 @@ impl SlotList {
         self.room -= 1;
     }
 
+    /// Puts the slot of an answer to a call at the end.
+    fn push_answer(&mut self, answer: &AnswerSlot)
+        requires room { 1 ≤ self.old.room }
+        requires few { length self.old.items < 2 ^ 32 }
+        ensures { self.new ≡ record {
+          items = self.old.items ++ slots.Answer answer.now ∷ [];
+          room = self.old.room - 1;
+        } }
+    {
+        let place = NumberBytes::of(self.answers.len() as u32);
+        self.answers.push(HeldAnswer::of(answer));
+        self.places.push(SlotPlace::Answer { place });
+        self.room -= 1;
+    }
+
     /// Puts a brief slot at the end.
     fn push_brief(&mut self, brief: &BriefSlot)
         requires room { 1 ≤ self.old.room }
@@ -235,9 +256,9 @@ impl SlotList {
     /// Puts the slot at the end that has this place alone.
     fn push_place(&mut self, place: SlotPlace)
         requires room { 1 ≤ self.old.room }
-        requires meant { IsSome (place_meant [] [] [] [] place) }
+        requires meant { IsSome (place_meant [] [] [] [] [] place) }
         ensures { self.new ≡ record {
-          items = self.old.items ++ cons_option (place_meant [] [] [] [] place) [];
+          items = self.old.items ++ cons_option (place_meant [] [] [] [] [] place) [];
           room = self.old.room - 1;
         } }
     {
@@ -246,7 +267,7 @@ impl SlotList {
     }
 }
 
-/// Makes room in each of the five lists for this many further items. If memory runs out, they hold
+/// Makes room in each of the six lists for this many further items. If memory runs out, they hold
 /// what they did.
 #[cold]
 #[inline(never)]
@@ -256,22 +277,27 @@ fn reserve_each(
     refused: &mut Pieces<HeldRefused>,
     brief: &mut Pieces<HeldBrief>,
     wide: &mut Pieces<HeldWide>,
+    answers: &mut Pieces<HeldAnswer>,
     places: usize,
 ) -> Result<(), AllocError>
     requires { (places ≤ slot_places.old.room + PIECE_ITEMS)
         × (places ≤ routed.old.room + PIECE_ITEMS) × (places ≤ refused.old.room + PIECE_ITEMS)
-        × (places ≤ brief.old.room + PIECE_ITEMS) × (places ≤ wide.old.room + PIECE_ITEMS) }
+        × (places ≤ brief.old.room + PIECE_ITEMS) × (places ≤ wide.old.room + PIECE_ITEMS)
+        × (places ≤ answers.old.room + PIECE_ITEMS) }
     ensures slot_places { IsRoomier slot_places.old slot_places.new }
     ensures routed { IsRoomier routed.old routed.new }
     ensures refused { IsRoomier refused.old refused.new }
     ensures brief { IsRoomier brief.old brief.new }
     ensures wide { IsRoomier wide.old wide.new }
+    ensures answers { IsRoomier answers.old answers.new }
     ensures ok { OnOk result ((places ≤ slot_places.new.room) × (places ≤ routed.new.room)
-        × (places ≤ refused.new.room) × (places ≤ brief.new.room) × (places ≤ wide.new.room)) }
+        × (places ≤ refused.new.room) × (places ≤ brief.new.room) × (places ≤ wide.new.room)
+        × (places ≤ answers.new.room)) }
 {
     slot_places.reserve(places)?;
     routed.reserve(places)?;
     refused.reserve(places)?;
     brief.reserve(places)?;
-    wide.reserve(places)
+    wide.reserve(places)?;
+    answers.reserve(places)
 }

@@ -18,7 +18,7 @@ pub enum ShortDestination {
 pub enum ShortOver {
     /// One of the caller's zone.
     OwnZone { kind: LimitKind },
-    /// That of all calls to zones of other gatekeepers.
+    /// That of all calls to and from other gatekeepers.
     Remote,
 }
 
@@ -27,7 +27,7 @@ pub enum ShortOver {
 pub enum NamedOver {
     /// One of this zone.
     Zone { kind: LimitKind, zone: ShortName },
-    /// That of all calls to zones of other gatekeepers.
+    /// That of all calls to and from other gatekeepers.
     Remote,
 }
 

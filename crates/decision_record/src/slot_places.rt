@@ -6,7 +6,7 @@ ghost use Rattle.decision_record.specs.SlotList.{over_slot, over_place, place_me
 ghost use Rattle.decision_record.specs.Slots.{slot_lent};
 ghost use Rattle.decision_record.specs.declared.slots.Slot.TheVariants as slots;
 
-use crate::held::{HeldBrief, HeldRefused, HeldRouted, HeldWide};
+use crate::held::{HeldAnswer, HeldBrief, HeldRefused, HeldRouted, HeldWide};
 use crate::lent_slots::LentSlot;
 use crate::number_bytes::NumberBytes;
 use crate::slot_parts::ShortOver;
@@ -25,7 +25,7 @@ pub enum SlotPlace {
     OverSession { place: NumberBytes },
     OverTotal { place: NumberBytes },
     OverInterzone { place: NumberBytes },
-    /// In the same list, above the limit of all calls to zones of other gatekeepers.
+    /// In the same list, above the limit of all calls to and from other gatekeepers.
     OverRemote { place: NumberBytes },
     /// In the list of admissions without a destination.
     Refused { place: NumberBytes },
@@ -33,6 +33,8 @@ pub enum SlotPlace {
     Brief { place: NumberBytes },
     /// In that of slots with the name of the zone of a limit.
     Wide { place: NumberBytes },
+    /// In that of answers to calls.
+    Answer { place: NumberBytes },
     /// It is that of a granted registration, whose endpoint has this place among the registrations.
     Registered { place: NumberBytes },
     /// It is that of an entry that stands whole at this place.
@@ -65,9 +67,10 @@ impl SlotPlace {
         refused: &'a Pieces<HeldRefused>,
         brief: &'a Pieces<HeldBrief>,
         wide: &'a Pieces<HeldWide>,
+        answers: &'a Pieces<HeldAnswer>,
     ) -> Option<LentSlot<'a>>
         ensures { option_map slot_lent result ≡ place_meant routed.now.items refused.now.items
-            brief.now.items wide.now.items self.now }
+            brief.now.items wide.now.items answers.now.items self.now }
     {
         match self {
             SlotPlace::Admitted { place } => admitted_at(routed, place.index()),
@@ -89,6 +92,7 @@ impl SlotPlace {
             SlotPlace::Refused { place } => refused_at(refused, place.index()),
             SlotPlace::Brief { place } => brief_at(brief, place.index()),
             SlotPlace::Wide { place } => wide_at(wide, place.index()),
+            SlotPlace::Answer { place } => answer_at(answers, place.index()),
             SlotPlace::Registered { place } => Some(LentSlot::Registered {
                 place: place.number(),
             }),
@@ -109,15 +113,17 @@ pub fn slot_at<'a>(
     refused: &'a Pieces<HeldRefused>,
     brief: &'a Pieces<HeldBrief>,
     wide: &'a Pieces<HeldWide>,
+    answers: &'a Pieces<HeldAnswer>,
     place: usize,
 ) -> Option<LentSlot<'a>>
     ensures { option_map slot_lent result ≡ option_and_then
-        (place_meant routed.now.items refused.now.items brief.now.items wide.now.items)
+        (place_meant routed.now.items refused.now.items brief.now.items wide.now.items
+        answers.now.items)
         (slice_get slot_places.now.items place) }
 {
     match slot_places.get(place) {
         None => None,
-        Some(at) => at.slot(routed, refused, brief, wide),
+        Some(at) => at.slot(routed, refused, brief, wide, answers),
     }
 }
 
@@ -158,6 +164,17 @@ fn refused_at(refused: &Pieces<HeldRefused>, place: usize) -> Option<LentSlot<'_
     match refused.get(place) {
         None => None,
         Some(held) => Some(LentSlot::Refused(held.admission())),
+    }
+}
+
+/// The slot of the answer to a call at this place.
+fn answer_at(answers: &Pieces<HeldAnswer>, place: usize) -> Option<LentSlot<'_>>
+    ensures { option_map slot_lent result
+        ≡ option_map slots.Answer (slice_get answers.now.items place) }
+{
+    match answers.get(place) {
+        None => None,
+        Some(held) => Some(LentSlot::Answer(held.answer())),
     }
 }
 

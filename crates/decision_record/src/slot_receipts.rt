@@ -3,6 +3,7 @@
 
 ghost use Rattle.std.specs.Prelude.{◌≡◌, ◌↔◌, true, slice_get, option_map, Some, None};
 ghost use Rattle.rulings.specs.Events.{Unregistering, Changing, Releasing};
+ghost use Rattle.rulings.specs.declared.replies.AdmitRefusal.TheVariants as AdmitRefusal;
 ghost use Rattle.rulings.specs.declared.replies.Reply.TheVariants as Reply;
 ghost use Rattle.decision_record.specs.History.{receipt_of};
 ghost use Rattle.decision_record.specs.RecordIndex.{slot_meant};
@@ -13,7 +14,8 @@ use crate::lent_slots::LentSlot;
 use crate::reloads::Reloads;
 use crate::slot_parts::{Asked, ShortOver, ShortReply, Unchanged};
 use crate::slot_replies::{
-    is_changed, is_not_unregistered, is_released, is_unchanged, is_unregistered,
+    is_changed, is_not_unregistered, is_refused_stranger, is_released, is_unchanged,
+    is_unregistered,
 };
 use crate::slots::{BriefSlot, RefusedAdmission, RoutedAdmission};
 use gk_terms::{Name, Units};
@@ -41,6 +43,7 @@ impl LentSlot<'_> {
             LentSlot::Admitted(admission) => admission.has_receipt_granted(receipt),
             LentSlot::OverLimit { admission, over } => admission.has_receipt_over(over, receipt),
             LentSlot::Refused(admission) => admission.has_receipt(receipt),
+            LentSlot::Answer(answer) => answer.has_receipt(receipt),
             LentSlot::Brief(brief) => brief.has_receipt(registrations, receipt),
             LentSlot::Registered { place } => has_registration(
                 registrations,
@@ -117,7 +120,7 @@ impl Asked {
 impl Receipt {
     /// Whether it is that of an event of this kind, asked by the endpoint of this ID, about this
     /// call or none.
-    fn is_of(&self, kind: EventKind, id: &ShortName, call: Option<u32>) -> bool
+    pub(crate) fn is_of(&self, kind: EventKind, id: &ShortName, call: Option<u32>) -> bool
         ensures { (result ≡ true) ↔ ((self.now.kind ≡ kind) × (self.now.id ≡ Some id.now)
             × (self.now.call ≡ call)) }
     {
@@ -178,6 +181,9 @@ impl BriefSlot {
                 let replied = ShortReply::Refused { reason: *reason };
                 has_registration(registrations, place.index(), &replied, receipt)
             }
+            BriefSlot::RefusedAnswer { id, call, .. } => {
+                has_stranger_answer(id, call.number(), receipt)
+            }
         }
     }
 }
@@ -204,6 +210,20 @@ fn has_refused_change(id: &ShortName, call: u32, cause: &Unchanged, receipt: &Re
 {
     receipt.is_of(EventKind::BandwidthChange, id, Some(call))
         && is_unchanged(call, cause, &receipt.reply)
+}
+
+/// Whether the receipt is that of an answer to this call, whatever was asked for, that is refused
+/// since the endpoint is not registered.
+fn has_stranger_answer(id: &ShortName, call: u32, receipt: &Receipt) -> bool
+    ensures { (result ≡ true) ↔ (receipt.now ≡ record {
+      number = receipt.now.number;
+      kind = EventKind.Incoming;
+      id = Some id.now;
+      call = Some call;
+      reply = Reply.AdmitRefused call AdmitRefusal.CallerNotRegistered;
+    }) }
+{
+    receipt.is_of(EventKind::Incoming, id, Some(call)) && is_refused_stranger(call, &receipt.reply)
 }
 
 /// Whether the receipt is that of a granted release.

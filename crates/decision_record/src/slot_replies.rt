@@ -112,7 +112,7 @@ fn is_zone(name: &ShortName, address: &Address, destination: &Destination) -> bo
 impl ShortOver {
     /// Whether an admission is refused for this reason, if this sum of a call from this zone would
     /// be above its limit.
-    fn is_reason(&self, zone: &ShortName, reason: &AdmitRefusal) -> bool
+    pub fn is_reason(&self, zone: &ShortName, reason: &AdmitRefusal) -> bool
         ensures { (result ≡ true) ↔ (reason.now
             ≡ AdmitRefusal.OverLimit (Spec.over_meant self.now zone.now)) }
     {
@@ -206,6 +206,21 @@ impl Unchanged {
                 _ => false,
             },
         }
+    }
+}
+
+/// Whether it is replied that an answer to the call is refused since the endpoint is not
+/// registered.
+pub fn is_refused_stranger(call: u32, reply: &Reply) -> bool
+    ensures { (result ≡ true)
+        ↔ (reply.now ≡ Reply.AdmitRefused call AdmitRefusal.CallerNotRegistered) }
+{
+    match reply {
+        Reply::AdmitRefused {
+            call: refused,
+            reason: AdmitRefusal::CallerNotRegistered,
+        } => *refused == call,
+        _ => false,
     }
 }
 

@@ -35,6 +35,7 @@ impl LentSlot<'_> {
             LentSlot::Admitted(admission) => Some(admission.call_event(true)),
             LentSlot::OverLimit { admission, .. } => Some(admission.call_event(false)),
             LentSlot::Refused(admission) => admission.call_event(),
+            LentSlot::Answer(answer) => answer.call_event(),
             LentSlot::Brief(brief) => brief.call_event(),
             LentSlot::Wide(wide) => wide.call_event(),
             LentSlot::Registered { .. } => None,
@@ -101,7 +102,8 @@ impl BriefSlot {
             BriefSlot::RefusedChange { .. }
             | BriefSlot::Unregistration { .. }
             | BriefSlot::RefusedUnregistration { .. }
-            | BriefSlot::RefusedRegistration { .. } => None,
+            | BriefSlot::RefusedRegistration { .. }
+            | BriefSlot::RefusedAnswer { .. } => None,
         }
     }
 }

@@ -8,7 +8,7 @@ use crate::slot_parts::{
     Asked, NamedOver, ShortDestination, ShortOver, ShortReply, Unchanged, Unrouted,
 };
 use gk_terms::{Address, Units};
-use rulings::{RegisterRefusal, UnregisterRefusal};
+use rulings::{DestinationKind, RegisterRefusal, UnregisterRefusal};
 use short_texts::ShortName;
 
 /// An admission that leads to a destination, but for the verdict.
@@ -29,8 +29,47 @@ pub struct RefusedAdmission {
     pub cause: Unrouted,
 }
 
-/// An entry of a change, a release, an unregistration or a refused registration, in at most 30
-/// bytes. Bandwidth is in units of 100 bit/s.
+/// An answer to a call by a registered endpoint, in 60 bytes.
+#[derive(Clone, Copy)]
+pub struct AnswerSlot {
+    pub call: u32,
+    /// The bandwidth that was asked, in units of 100 bit/s.
+    pub units: Units,
+    /// The ID of the endpoint.
+    pub id: ShortName,
+    /// Its zone.
+    pub zone: ShortName,
+    pub outcome: AnswerOutcome,
+}
+
+/// What came of an answer, with the endpoint as a destination, if the call leads to it. Bandwidth
+/// is in units of 100 bit/s.
+#[derive(Clone, Copy)]
+pub enum AnswerOutcome {
+    /// The call was opened.
+    Opened {
+        kind: DestinationKind,
+        address: Address,
+    },
+    /// The call was open with this bandwidth, and had been admitted to the endpoint.
+    Repeated {
+        kind: DestinationKind,
+        units: NumberBytes,
+        address: Address,
+    },
+    /// It was refused for this limit.
+    Over {
+        kind: DestinationKind,
+        over: ShortOver,
+        address: Address,
+    },
+    /// It was refused, since a call of the number was open that had not been admitted to the
+    /// endpoint.
+    CallOpen,
+}
+
+/// An entry of a change, a release, an unregistration, a refused registration or an answer of an
+/// endpoint that is not registered, in at most 30 bytes. Bandwidth is in units of 100 bit/s.
 #[derive(Clone, Copy)]
 pub enum BriefSlot {
     /// A granted bandwidth change.
@@ -66,6 +105,12 @@ pub enum BriefSlot {
         place: NumberBytes,
         reason: RegisterRefusal,
     },
+    /// An answer to a call that is refused since the endpoint is not registered.
+    RefusedAnswer {
+        id: ShortName,
+        call: NumberBytes,
+        units: NumberBytes,
+    },
 }
 
 /// A refusal for a limit that takes more bytes, since the limit may have to be named with its zone.
@@ -85,23 +130,26 @@ pub enum WideSlot {
     },
 }
 
-/// An entry in few bytes, if the names in it are short: of an admission, of a change, of a granted
-/// release, of an unregistration; or the place of a registration's endpoint in the list of
-/// registrations, that of a reload among the reloads, or that of any other entry in the list of
-/// whole entries.
+/// An entry in few bytes, if the names in it are short: of an admission, of an answer to a call, of
+/// a change, of a granted release, of an unregistration; or the place of a registration's endpoint
+/// in the list of registrations, that of a reload among the reloads, or that of any other entry in
+/// the list of whole entries.
 #[derive(Clone, Copy)]
 pub enum Slot {
     /// A granted admission.
     Admitted(RoutedAdmission),
     /// An admission that was refused for a limit of the caller's zone, or for that of all calls to
-    /// zones of other gatekeepers.
+    /// and from other gatekeepers.
     OverLimit {
         admission: RoutedAdmission,
         over: ShortOver,
     },
     /// An admission that leads to no destination.
     Refused(RefusedAdmission),
-    /// A change, a release, an unregistration, or a refused registration.
+    /// An answer of a registered endpoint to a call.
+    Answer(AnswerSlot),
+    /// A change, a release, an unregistration, a refused registration, or the answer of an endpoint
+    /// that is not registered.
     Brief(BriefSlot),
     /// A refusal for a limit, of an admission or a change, that takes more bytes.
     Wide(WideSlot),

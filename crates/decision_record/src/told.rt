@@ -13,10 +13,13 @@ use rulings::{LentRuling, Reply, Route};
 pub struct Told {
     /// The reply.
     pub reply: Reply,
-    /// The zone of the caller, if it asked to be admitted and is registered.
+    /// The zone of the endpoint, if it asked to be admitted to a call or to answer one, and is
+    /// registered.
     pub zone: Option<Name>,
-    /// Where the digits lead, if that was looked for.
+    /// Where the call leads, if that was looked for.
     pub route: Option<Route>,
+    /// Whether a call is opened.
+    pub opened: bool,
 }
 
 impl Told {
@@ -30,6 +33,7 @@ impl Told {
             reply: ruling.verdict(),
             zone: ruling.zone(),
             route: ruling.route(),
+            opened: ruling.opens_call(),
         }
     }
 }

@@ -6,13 +6,13 @@ use Rattle.command_reader.specs.declared.faults.LineFault.{LineFault}
 use Rattle.command_reader.specs.declared.faults.FaultKind.TheVariants as fault_kind
 use Rattle.command_reader.specs.Configuration.{Configuration}
 use Rattle.command_reader.specs.Reading.{reading_in, MayRead}
-use Rattle.rulings.specs.Events.{PlainEvent, Registering, Unregistering, Admitting, Changing, Releasing, Reloading}
+use Rattle.rulings.specs.Events.{PlainEvent, Registering, Unregistering, Admitting, Answering, Changing, Releasing, Reloading}
 use Rattle.rulings.specs.declared.replies.Reply.{Reply as CoreReply}
 use Rattle.call_rows.specs.Rows.{SnapshotParts}
 use Rattle.trial_run.specs.Report.{report_of}
 use Rattle.trial_run.specs.ReportText.{report_text}
 use Rattle.gk_protocol.specs.declared.requests.Request.{Request}
-use Rattle.gk_protocol.specs.declared.requests.Request.TheVariants.{Register, Unregister, Admit, Change, Release, Reload, Try}
+use Rattle.gk_protocol.specs.declared.requests.Request.TheVariants.{Register, Unregister, Admit, Incoming, Change, Release, Reload, Try}
 use Rattle.gk_protocol.specs.declared.answers.Answer.{Answer}
 use Rattle.gk_protocol.specs.declared.answers.Answer.TheVariants.{Reply, Misconfigured, Tried, TryRefused}
 use Rattle.gk_protocol.specs.declared.answers.TrialRefusal.{TrialRefusal}
@@ -120,6 +120,8 @@ module _ {S : Type 0} (MayReply : S → PlainEvent → CoreReply → S → Type 
       Replies MayReply old sequence (Unregistering id) answer new
   MayAnswer old (Admit sequence id call digits units) answer new =
       Replies MayReply old sequence (Admitting id call digits units) answer new
+  MayAnswer old (Incoming sequence id call units) answer new =
+      Replies MayReply old sequence (Answering id call units) answer new
   MayAnswer old (Change sequence id call units) answer new =
       Replies MayReply old sequence (Changing id call units) answer new
   MayAnswer old (Release sequence id call) answer new =

@@ -12,7 +12,7 @@ use Rattle.gk_protocol.specs.declared.answers.TrialRefusal.TheVariants as trial
 use Rattle.gk_protocol.specs.declared.request_faults.RequestFault.{RequestFault}
 use Rattle.gk_protocol.specs.declared.request_faults.RequestFault.TheVariants as fault
 use Rattle.gk_protocol.specs.declared.requests.Request.{Request}
-use Rattle.gk_protocol.specs.declared.requests.Request.TheVariants.{Unregister, Admit, Change, Release, Reload, Try}
+use Rattle.gk_protocol.specs.declared.requests.Request.TheVariants.{Unregister, Admit, Incoming, Change, Release, Reload, Try}
 use Rattle.gk_protocol.specs.Asking.{Asking, Whole, Owns}
 use Rattle.gk_protocol.specs.RequestFields.{sequence_number_of, asked_call_of, asked_units_of, owned_count_of, asked_workers_of, field_at}
 use Rattle.gk_protocol.specs.Registrations.{register_at}
@@ -33,6 +33,15 @@ admit_at words = do
   digits ← field_at dialled_of fault.BadDigits call.1
   units ← field_at asked_units_of fault.BadNumber digits.1
   nothing_more fault.Extra (Admit sequence.0 id.0 call.0 digits.0 units.0) units.1
+
+-- ---- ANS seq id call units
+abbrev pub incoming_at : List (List ℕ) → Result Request RequestFault
+incoming_at words = do
+  sequence ← field_at sequence_number_of fault.BadSequence words
+  id ← field_at name_of fault.BadName sequence.1
+  call ← field_at asked_call_of fault.BadNumber id.1
+  units ← field_at asked_units_of fault.BadNumber call.1
+  nothing_more fault.Extra (Incoming sequence.0 id.0 call.0 units.0) units.1
 
 -- ---- BRQ seq id call units
 abbrev pub change_at : List (List ℕ) → Result Request RequestFault
@@ -92,8 +101,9 @@ abbrev pub other_request_at : List ℕ → List (List ℕ) → Result Request Re
 other_request_at word words =
     if bytes_eq word (codes "URQ") then unregister_at words
     else (if bytes_eq word (codes "ARQ") then admit_at words
+    else (if bytes_eq word (codes "ANS") then incoming_at words
     else (if bytes_eq word (codes "BRQ") then change_at words
-    else (if bytes_eq word (codes "DRQ") then release_at words else Err fault.UnknownWord)))
+    else (if bytes_eq word (codes "DRQ") then release_at words else Err fault.UnknownWord))))
 
 -- what is asked by a line of another first word than RRQ
 abbrev pub other_asking_at : List ℕ → List (List ℕ) → Result (Option Asking) RequestFault

@@ -1,4 +1,5 @@
-//! Requests about calls: admissions, `ARQ`, bandwidth changes, `BRQ`, and releases, `DRQ`.
+//! Requests about calls: admissions, `ARQ`, answers, `ANS`, bandwidth changes, `BRQ`, and releases,
+//! `DRQ`.
 
 ghost use Rattle.std.specs.Prelude.{None};
 ghost use Rattle.gk_terms.specs.Text.{words_of};
@@ -30,9 +31,12 @@ fn admission(words: &mut Words<'_>) -> Result<(u32, Name, u32, Dialled, Units), 
     Ok((sequence, id, call, digits, units))
 }
 
-/// Reads `BRQ seq id call units`, after its first word: its fields, or its first fault.
-fn change_of_call(words: &mut Words<'_>) -> Result<(u32, Name, u32, Units), RequestFault>
-    ensures { Reads (Spec.change_at (words_of words.old))
+/// Reads `ANS seq id call units` or `BRQ seq id call units`, after its first word: its fields, or its
+/// first fault.
+fn bandwidth_of_call(words: &mut Words<'_>) -> Result<(u32, Name, u32, Units), RequestFault>
+    ensures incoming { Reads (Spec.incoming_at (words_of words.old))
+        (λ c. Request.Incoming c.0 c.1 c.2 c.3) result }
+    ensures change { Reads (Spec.change_at (words_of words.old))
         (λ c. Request.Change c.0 c.1 c.2 c.3) result }
 {
     let sequence = sequence_field(words)?;
@@ -77,6 +81,28 @@ pub(crate) fn admit<A: Answerer>(
     Ok(Heard::Answered)
 }
 
+/// Answers `ANS`, after its first word, or gives back its first fault.
+#[inline(never)]
+pub(crate) fn incoming<A: Answerer>(
+    alloc: Global,
+    words: &mut Words<'_>,
+    answerer: &mut A,
+    reply: &mut ReplyLine,
+) -> Result<Heard, RequestFault>
+    ensures { HearsRequest A.may_answer answerer.old (Spec.incoming_at (words_of words.old)) None
+        result reply.new.text answerer.new }
+{
+    let (sequence, id, call, units) = bandwidth_of_call(words)?;
+    let request = Request::Incoming {
+        sequence,
+        id,
+        call,
+        units,
+    };
+    answerer.answer_into(alloc, request, reply);
+    Ok(Heard::Answered)
+}
+
 /// Answers `BRQ`, after its first word, or gives back its first fault.
 #[inline(never)]
 pub(crate) fn change<A: Answerer>(
@@ -88,7 +114,7 @@ pub(crate) fn change<A: Answerer>(
     ensures { HearsRequest A.may_answer answerer.old (Spec.change_at (words_of words.old)) None
         result reply.new.text answerer.new }
 {
-    let (sequence, id, call, units) = change_of_call(words)?;
+    let (sequence, id, call, units) = bandwidth_of_call(words)?;
     let request = Request::Change {
         sequence,
         id,

@@ -162,6 +162,22 @@ fn show_verdict(line: &mut LineBuffer, sequence: u32, ruling: &LentRuling<'_>)
             address,
             ..
         } => admitted(line, sequence, *call, *kind, name, address, *units),
+        LentRuling::Answering {
+            call,
+            owner,
+            units,
+            kind,
+            address,
+            ..
+        } => admitted(line, sequence, *call, *kind, owner, address, *units),
+        LentRuling::Repeated {
+            call,
+            units,
+            kind,
+            name,
+            address,
+            ..
+        } => admitted(line, sequence, *call, *kind, name, address, *units),
         LentRuling::CallerNotRegistered { call } => {
             admit_refused(line, sequence, *call, &AdmitRefusal::CallerNotRegistered);
         }

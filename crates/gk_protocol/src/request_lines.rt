@@ -8,7 +8,7 @@ ghost use Rattle.gk_protocol.specs.LineOwners.{asking_with};
 ghost use Rattle.gk_protocol.specs.Requests as Spec;
 
 use crate::answerer::Answerer;
-use crate::call_requests::{admit, change, release};
+use crate::call_requests::{admit, change, incoming, release};
 use crate::line_owners::LineOwner;
 use crate::registrations::{register, unregister};
 use crate::reply_lines::ReplyLine;
@@ -67,6 +67,7 @@ pub fn hear<A: Answerer>(
         b"TRY" => owns(trial(words)),
         b"URQ" => unregister(alloc, words, answerer, reply),
         b"ARQ" => admit(alloc, words, answerer, reply),
+        b"ANS" => incoming(alloc, words, answerer, reply),
         b"BRQ" => change(alloc, words, answerer, reply),
         b"DRQ" => release(alloc, words, answerer, reply),
         _ => Err(RequestFault::UnknownWord),

@@ -34,6 +34,18 @@ pub enum Request {
         /// The bandwidth that the call asks for, in units of 100 bit/s.
         units: Units,
     },
+    /// `ANS`, of this project: H.225.0's admission request of an endpoint that is called and asks
+    /// whether it may answer (its `answerCall` is true).
+    Incoming {
+        /// The sequence number, 1 to 65535, which the reply repeats.
+        sequence: u32,
+        /// The ID of the endpoint that asks.
+        id: Name,
+        /// The number of the call, 1 to 4294967295.
+        call: u32,
+        /// The bandwidth that it asks for, in units of 100 bit/s.
+        units: Units,
+    },
     /// `BRQ`, H.225.0's bandwidth request: another bandwidth for an open call.
     Change {
         /// The sequence number, 1 to 65535, which the reply repeats.

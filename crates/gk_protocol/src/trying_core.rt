@@ -72,6 +72,16 @@ impl<R: Threads + Wait> Answerer for TryingCore<'_, R> {
                 };
                 replied(&mut self.core, sequence, event)
             }
+            Request::Incoming {
+                sequence,
+                id,
+                call,
+                units,
+            } => replied(
+                &mut self.core,
+                sequence,
+                Event::Incoming { id, call, units },
+            ),
             Request::Change {
                 sequence,
                 id,
@@ -112,6 +122,15 @@ impl<R: Threads + Wait> Answerer for TryingCore<'_, R> {
             } => {
                 reply.repeat(*sequence);
                 self.core.admit_into(id, *call, digits, *units, reply);
+            }
+            Request::Incoming {
+                sequence,
+                id,
+                call,
+                units,
+            } => {
+                reply.repeat(*sequence);
+                self.core.incoming_into(id, *call, *units, reply);
             }
             Request::Change {
                 sequence,

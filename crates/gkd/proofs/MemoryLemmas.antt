@@ -22,9 +22,9 @@ use Rattle.rulings.specs.declared.replies.Reply.{Reply}
 use Rattle.rulings.specs.declared.replies.Reply.TheVariants.{RegisterRefused, Unregistered, UnregisterRefused, AdmitRefused, ChangeRefused, ReloadRefused}
 use Rattle.rulings.specs.declared.rulings.Effect.TheVariants.{Nothing, Remove}
 use Rattle.rulings.specs.State.{State}
-use Rattle.rulings.specs.Events.{PlainEvent, Registering, Unregistering, Admitting, Changing, Releasing, Reloading}
-use Rattle.rulings.specs.Routing.{target_for, route_of}
-use Rattle.rulings.specs.Ruling.{Ruling, register_refusal, registration_unless, admitted_call, admission_unless, admission_to, admission_ruling, call_open_ruling, change_unless, change_ruling, unrouted, ruling_of}
+use Rattle.rulings.specs.Events.{PlainEvent, Registering, Unregistering, Admitting, Answering, Changing, Releasing, Reloading}
+use Rattle.rulings.specs.Routing.{destination_of, target_for, route_of}
+use Rattle.rulings.specs.Ruling.{Ruling, register_refusal, registration_unless, admitted_call, admission_unless, admission_to, admission_ruling, answered_call, answering_ruling, answering_to, call_open_ruling, repeated_answer, change_unless, change_ruling, unrouted, ruling_of}
 use Rattle.rulings.specs.Step.{count_refusal, outcome_of, step, no_memory_reply_of}
 
 -- what holds of both
@@ -60,7 +60,7 @@ to_apart : (s : State) (caller : EndpointParts) (call units : ℕ) (target : Tar
     → AdmitRefused call admit.NoMemory ≢ (admission_to s caller call units target route).verdict
 to_apart s caller call units target (Refused refusal) h = cc
 to_apart s caller call units target (To destination) h =
-    let admitted : OpenCall = admitted_call caller call units target in
+    let admitted : OpenCall = admitted_call caller call units target destination in
     unless_apart caller.zone destination admitted (over_of s.commands s.calls admitted) h
 
 admit_apart : (s : State) (call : ℕ) (digits : List ℕ) (units : ℕ) (caller : Option EndpointParts)
@@ -72,6 +72,21 @@ admit_apart s call digits units (Some caller) h =
     either P _ _ _ taken
     (to_apart s caller call units (target_for s.commands s.endpoints digits)
     (route_of s.commands s.endpoints caller.zone digits)) h
+
+answer_to_apart : (s : State) (e : EndpointParts) (call units : ℕ) (held : Option OpenCall)
+    → AdmitRefused call admit.NoMemory ≢ (answering_to s e call units held).verdict
+answer_to_apart s e call units None h =
+    let answered : OpenCall = answered_call e call units in
+    unless_apart e.zone (destination_of e.kind e) answered (over_of s.commands s.calls answered) h
+answer_to_apart s e call units (Some held) h =
+    let P : Ruling → Type 0 = λ r. AdmitRefused call admit.NoMemory ≢ r.verdict in
+    let repeated : P (repeated_answer e call held.units) = λ i. cc in
+    let taken : P (call_open_ruling e call) = λ i. cc in either P _ _ _ repeated taken h
+
+answer_apart : (s : State) (call units : ℕ) (e : Option EndpointParts)
+    → AdmitRefused call admit.NoMemory ≢ (answering_ruling s call units e).verdict
+answer_apart s call units None h = cc
+answer_apart s call units (Some e) h = answer_to_apart s e call units (call_of s.calls call) h
 
 change_unless_apart : (id : List ℕ) (call units : ℕ) (over : Option Over) → ChangeRefused call
     change.NoMemory ≢ (change_unless id call units over).verdict
@@ -135,6 +150,14 @@ lasts s (Admitting id call digits units) =
     step_apart s (Admitting id call digits units) (AdmitRefused call admit.NoMemory)
     (either P _ _ _ calls (either P _ _ _ records none))
     (admit_apart s call digits units (endpoint_of s.endpoints id))
+lasts s (Answering id call units) =
+    let P : Option Reply → Type 0 = λ refusal. Some (AdmitRefused call admit.NoMemory) ≢ refusal in
+    let calls : P (Some (AdmitRefused call admit.CallsFull)) = λ h. cc in
+    let records : P (Some (AdmitRefused call admit.RecordFull)) = λ h. cc in
+    let none : P None = λ h. cc in
+    step_apart s (Answering id call units) (AdmitRefused call admit.NoMemory)
+    (either P _ _ _ calls (either P _ _ _ records none))
+    (answer_apart s call units (endpoint_of s.endpoints id))
 lasts s (Changing id call units) =
     let P : Option Reply → Type 0 = λ refusal. Some (ChangeRefused call change.NoMemory) ≢ refusal
     in

@@ -7,14 +7,14 @@ use Rattle.command_reader.specs.Configuration.{Configuration}
 use Rattle.command_reader.specs.Reading.{reading_in}
 use Rattle.gk_terms.specs.Text.{lines_of}
 use Rattle.rulings.specs.declared.limits.Limits.{Limits}
-use Rattle.rulings.specs.Events.{PlainEvent, Registering, Unregistering, Admitting, Changing, Releasing, Reloading}
+use Rattle.rulings.specs.Events.{PlainEvent, Registering, Unregistering, Admitting, Answering, Changing, Releasing, Reloading}
 use Rattle.rulings.specs.Step.{step, no_memory_reply_of}
 use Rattle.decision_record.specs.History.{CoreParts, MayReply, state_of, with_entry, core_after}
 use Rattle.rulings.specs.declared.replies.Reply.{Reply as CoreReply}
 use Rattle.admission.proofs.CoreLemmas.{answers_as_the_machine}
 use Rattle.gk_protocol.specs.declared.request_faults.RequestFault.{RequestFault}
 use Rattle.gk_protocol.specs.declared.requests.Request.{Request}
-use Rattle.gk_protocol.specs.declared.requests.Request.TheVariants.{Register, Unregister, Admit, Change, Release, Reload, Try}
+use Rattle.gk_protocol.specs.declared.requests.Request.TheVariants.{Register, Unregister, Admit, Incoming, Change, Release, Reload, Try}
 use Rattle.gk_protocol.specs.declared.answers.Answer.{Answer}
 use Rattle.gk_protocol.specs.declared.answers.Answer.TheVariants.{Reply, Tried, TryRefused}
 use Rattle.gk_protocol.specs.declared.answers.TrialRefusal.TheVariants as trial
@@ -77,6 +77,8 @@ answered core (Ok (Register sequence endpoint)) = replied core sequence (Registe
 answered core (Ok (Unregister sequence id)) = replied core sequence (Unregistering id)
 answered core (Ok (Admit sequence id call digits units)) = replied core sequence
     (Admitting id call digits units)
+answered core (Ok (Incoming sequence id call units)) = replied core sequence
+    (Answering id call units)
 answered core (Ok (Change sequence id call units)) = replied core sequence (Changing id call units)
 answered core (Ok (Release sequence id call)) = replied core sequence (Releasing id call)
 answered core (Ok (Reload sequence lines)) = inl (reloaded core sequence
@@ -201,6 +203,8 @@ only_answer old new (Ok (Unregister sequence id)) answer a = reply_in_memory old
     (Unregistering id) answer a.0 a.1
 only_answer old new (Ok (Admit sequence id call digits units)) answer a = reply_in_memory old new
     sequence (Admitting id call digits units) answer a.0 a.1
+only_answer old new (Ok (Incoming sequence id call units)) answer a = reply_in_memory old new
+    sequence (Answering id call units) answer a.0 a.1
 only_answer old new (Ok (Change sequence id call units)) answer a = reply_in_memory old new sequence
     (Changing id call units) answer a.0 a.1
 only_answer old new (Ok (Release sequence id call)) answer a = reply_in_memory old new sequence
@@ -314,6 +318,8 @@ answered_in_memory core (Ok (Unregister sequence id)) =
     event_in_memory core sequence (Unregistering id)
 answered_in_memory core (Ok (Admit sequence id call digits units)) =
     event_in_memory core sequence (Admitting id call digits units)
+answered_in_memory core (Ok (Incoming sequence id call units)) =
+    event_in_memory core sequence (Answering id call units)
 answered_in_memory core (Ok (Change sequence id call units)) =
     event_in_memory core sequence (Changing id call units)
 answered_in_memory core (Ok (Release sequence id call)) =

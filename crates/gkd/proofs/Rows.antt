@@ -13,7 +13,7 @@ use Rattle.decision_record.specs.History.{state_of}
 use Rattle.gk_protocol.specs.Registrations.{registering_of}
 use Rattle.gk_protocol.specs.Requests.{asking_of}
 use Rattle.gkd.specs.Output.{output_of}
-use Rattle.gkd.specs.Rows.{FirstRun, OpenCall, FullRecord, Stranger, Faults, ByPatternCostAndHopoff, PrefixAlone, GreatestPriority, PriorityZero, UnknownPrefix, AliasOrDefault, NoDefault, OtherAliases, LongDigits, LearnedUntilItLeaves, LearnedBeforeHopoff, NoneLearnedFromTerminals, LearnedUndeclared, FullTotal, SessionBeforeTotal, BetweenZones, ToRemoteZones, RaisedAndLowered, CountedInTargetZone, ByOwnerAlone, RoutedByNewLines, LimitedByNewLines, WithoutSecondZone, FaultyReloads, SmallestLimits, TriedOnCalls, TriedByNone}
+use Rattle.gkd.specs.Rows.{FirstRun, OpenCall, FullRecord, Stranger, Faults, ByPatternCostAndHopoff, PrefixAlone, GreatestPriority, PriorityZero, UnknownPrefix, AliasOrDefault, NoDefault, OtherAliases, LongDigits, LearnedUntilItLeaves, LearnedBeforeHopoff, NoneLearnedFromTerminals, LearnedUndeclared, FullTotal, SessionBeforeTotal, BetweenZones, ToRemoteZones, RaisedAndLowered, CountedInTargetZone, ByOwnerAlone, AnsweredCalls, AnswerAboveRemote, AnswerBetweenZones, AnsweredElsewhere, AnswersWithFullCounts, AnswerKeepsPlace, RoutedByNewLines, LimitedByNewLines, AnsweredAboveNewLines, WithoutSecondZone, FaultyReloads, SmallestLimits, TriedOnCalls, TriedOnAnswers, TriedByNone}
 
 pub first_run : FirstRun
 unfolding digits plan_with route_of command_of line_after over_of ruling_of count_refusal
@@ -140,6 +140,36 @@ unfolding digits plan_with route_of command_of line_after over_of ruling_of coun
     state_after step state_of asking_of registering_of output_of
 by_owner_alone = refl
 
+pub answered_calls : AnsweredCalls
+unfolding digits plan_with route_of command_of line_after over_of ruling_of count_refusal
+    state_after step state_of asking_of registering_of output_of
+answered_calls = refl
+
+pub answer_above_remote : AnswerAboveRemote
+unfolding digits plan_with route_of command_of line_after over_of ruling_of count_refusal
+    state_after step state_of asking_of registering_of output_of
+answer_above_remote = refl
+
+pub answer_between_zones : AnswerBetweenZones
+unfolding digits plan_with route_of command_of line_after over_of ruling_of count_refusal
+    state_after step state_of asking_of registering_of output_of
+answer_between_zones = refl
+
+pub answered_elsewhere : AnsweredElsewhere
+unfolding digits plan_with route_of command_of line_after over_of ruling_of count_refusal
+    state_after step state_of asking_of registering_of output_of
+answered_elsewhere = refl
+
+pub answers_with_full_counts : AnswersWithFullCounts
+unfolding digits plan_with route_of command_of line_after over_of ruling_of count_refusal
+    state_after step state_of asking_of registering_of output_of
+answers_with_full_counts = refl
+
+pub answer_keeps_place : AnswerKeepsPlace
+unfolding digits plan_with route_of command_of line_after over_of ruling_of count_refusal
+    state_after step state_of asking_of registering_of output_of
+answer_keeps_place = refl
+
 pub routed_by_new_lines : RoutedByNewLines
 unfolding digits plan_with route_of command_of line_after over_of ruling_of count_refusal
     state_after step state_of asking_of registering_of output_of
@@ -149,6 +179,11 @@ pub limited_by_new_lines : LimitedByNewLines
 unfolding digits plan_with route_of command_of line_after over_of ruling_of count_refusal
     state_after step state_of asking_of registering_of output_of
 limited_by_new_lines = refl
+
+pub answered_above_new_lines : AnsweredAboveNewLines
+unfolding digits plan_with route_of command_of line_after over_of ruling_of count_refusal
+    state_after step state_of asking_of registering_of output_of
+answered_above_new_lines = refl
 
 pub without_second_zone : WithoutSecondZone
 unfolding digits plan_with route_of command_of line_after over_of ruling_of count_refusal
@@ -169,6 +204,11 @@ pub tried_on_calls : TriedOnCalls
 unfolding digits plan_with route_of command_of line_after over_of ruling_of count_refusal
     state_after step state_of asking_of registering_of output_of escaped fields_text is_blank
 tried_on_calls = refl
+
+pub tried_on_answers : TriedOnAnswers
+unfolding digits plan_with route_of command_of line_after over_of ruling_of count_refusal
+    state_after step state_of asking_of registering_of output_of escaped fields_text is_blank
+tried_on_answers = refl
 
 pub tried_by_none : TriedByNone
 unfolding digits plan_with route_of command_of line_after over_of ruling_of count_refusal

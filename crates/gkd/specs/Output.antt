@@ -5,12 +5,12 @@ use Rattle.command_reader.specs.Configuration.{Configuration}
 use Rattle.command_reader.specs.Reading.{reading_in}
 use Rattle.gk_terms.specs.Text.{lines_of}
 use Rattle.rulings.specs.declared.limits.Limits.{Limits}
-use Rattle.rulings.specs.Events.{PlainEvent, Registering, Unregistering, Admitting, Changing, Releasing, Reloading}
+use Rattle.rulings.specs.Events.{PlainEvent, Registering, Unregistering, Admitting, Answering, Changing, Releasing, Reloading}
 use Rattle.rulings.specs.Step.{step, no_memory_reply_of}
 use Rattle.decision_record.specs.History.{CoreParts, state_of, core_after}
 use Rattle.gk_protocol.specs.declared.request_faults.RequestFault.{RequestFault}
 use Rattle.gk_protocol.specs.declared.requests.Request.{Request}
-use Rattle.gk_protocol.specs.declared.requests.Request.TheVariants.{Register, Unregister, Admit, Change, Release, Reload, Try}
+use Rattle.gk_protocol.specs.declared.requests.Request.TheVariants.{Register, Unregister, Admit, Incoming, Change, Release, Reload, Try}
 use Rattle.gk_protocol.specs.declared.answers.Answer.{Answer}
 use Rattle.gk_protocol.specs.declared.answers.Answer.TheVariants.{Reply, Misconfigured, Tried, TryRefused, Malformed}
 use Rattle.gk_protocol.specs.declared.answers.TrialRefusal.TheVariants as trial
@@ -28,6 +28,7 @@ abbrev pub sequence_of : Request → ℕ
 sequence_of (Register sequence endpoint) = sequence
 sequence_of (Unregister sequence id) = sequence
 sequence_of (Admit sequence id call digits units) = sequence
+sequence_of (Incoming sequence id call units) = sequence
 sequence_of (Change sequence id call units) = sequence
 sequence_of (Release sequence id call) = sequence
 sequence_of (Reload sequence lines) = sequence
@@ -55,6 +56,7 @@ abbrev pub event_of : CoreParts → Request → Result PlainEvent Answer
 event_of core (Register sequence endpoint) = Ok (Registering endpoint)
 event_of core (Unregister sequence id) = Ok (Unregistering id)
 event_of core (Admit sequence id call digits units) = Ok (Admitting id call digits units)
+event_of core (Incoming sequence id call units) = Ok (Answering id call units)
 event_of core (Change sequence id call units) = Ok (Changing id call units)
 event_of core (Release sequence id call) = Ok (Releasing id call)
 event_of core (Reload sequence lines) = reloading sequence (reading_in (lines_of lines))
@@ -115,6 +117,8 @@ without_memory (Unregister sequence id) =
     option_map (Reply sequence) (no_memory_reply_of (Unregistering id))
 without_memory (Admit sequence id call digits units) =
     option_map (Reply sequence) (no_memory_reply_of (Admitting id call digits units))
+without_memory (Incoming sequence id call units) =
+    option_map (Reply sequence) (no_memory_reply_of (Answering id call units))
 without_memory (Change sequence id call units) =
     option_map (Reply sequence) (no_memory_reply_of (Changing id call units))
 without_memory (Release sequence id call) =

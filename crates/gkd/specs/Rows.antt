@@ -284,6 +284,76 @@ ByOwnerAlone = Writes stated
     ∷ codes "DRJ 11 1001 requestToDropOther no-call" ∷ codes "DRJ 12 1001 notRegistered"
     ∷ codes "BRJ 13 1001 undefinedReason no-call" ∷ []))
 
+-- ---- answers of those who are called
+-- a call that comes in, one that is above a limit, and an answer of a call that was admitted, which
+-- takes nothing whatever it asks; nobody else answers that call, nor the owner one that came in
+abbrev pub AnsweredCalls : Type 0
+AnsweredCalls = Writes stated
+    (dial_plan default_technology []
+    ++ after_endpoints (codes "ANS 5 gb1 2001 1280" ∷ codes "ANS 6 ta 2002 1281"
+    ∷ codes "ARQ 7 ta 1001 4085551234 640" ∷ codes "ANS 8 gb1 1001 5000"
+    ∷ codes "ANS 9 gb2 1001 640" ∷ codes "ANS 11 gb1 2001 0" ∷ codes "DRQ 12 gb1 1001"
+    ∷ codes "DRQ 13 gb1 2001" ∷ []))
+    (after_registered (codes "ACF 5 2001 GW gb1 10.0.2.1:1720 1280"
+    ∷ codes "ARJ 6 2002 requestDenied session gk-a"
+    ∷ codes "ACF 7 1001 GW gb1 10.0.2.1:1720 640" ∷ codes "ACF 8 1001 GW gb1 10.0.2.1:1720 640"
+    ∷ codes "ARJ 9 1001 undefinedReason call-open"
+    ∷ codes "ARJ 11 2001 undefinedReason call-open"
+    ∷ codes "DRJ 12 1001 requestToDropOther not-yours" ∷ codes "DCF 13 2001" ∷ []))
+
+-- a call that comes in counts against the limit of all calls to and from other gatekeepers
+abbrev pub AnswerAboveRemote : Type 0
+AnswerAboveRemote = Writes stated
+    (dial_plan default_technology (codes " bandwidth remote 63" ∷ [])
+    ++ after_endpoints (codes "ANS 5 gb1 2001 640" ∷ []))
+    (after_registered (codes "ARJ 5 2001 requestDenied remote" ∷ []))
+
+-- and is between two zones in the zone of the endpoint that answers it
+abbrev pub AnswerBetweenZones : Type 0
+AnswerBetweenZones = Writes stated
+    (dial_plan default_technology (codes " bandwidth interzone zone gk-b 64" ∷ [])
+    ++ after_endpoints (codes "ANS 5 gb1 2001 641" ∷ []))
+    (after_registered (codes "ARJ 5 2001 requestDenied interzone gk-b" ∷ []))
+
+-- one to which a call was admitted comes back at another address; a stranger does not answer
+abbrev pub AnsweredElsewhere : Type 0
+AnsweredElsewhere = Writes stated
+    (dial_plan default_technology []
+    ++ after_endpoints (codes "ARQ 5 ta 1001 4085551234 640" ∷ codes "URQ 6 gb1"
+    ∷ codes "ANS 7 gb1 1001 640" ∷ codes "RRQ 8 TERM gb1 gk-a 10.0.1.9"
+    ∷ codes "ANS 9 gb1 1001 640" ∷ []))
+    (after_registered (codes "ACF 5 1001 GW gb1 10.0.2.1:1720 640" ∷ codes "UCF 6 gb1"
+    ∷ codes "ARJ 7 1001 callerNotRegistered" ∷ codes "RCF 8 gb1 gk-a"
+    ∷ codes "ACF 9 1001 TERM gb1 10.0.1.9:1720 640" ∷ []))
+
+-- one call and six entries: an answer of the open call meets no full table of calls and needs one
+-- place of the record, and one that would open another call is refused
+abbrev pub AnswersWithFullCounts : Type 0
+AnswersWithFullCounts =
+    Writes (record { endpoints = 2; calls = 1; records = 6; reloads = 1 })
+    (configuration ++ codes "RRQ 1 TERM ta gk-a 10.0.1.1:1720 e164=4085551000"
+    ∷ codes "RRQ 2 TERM tb gk-a 10.0.1.2" ∷ codes "ARQ 3 tb 1001 4085551000 640"
+    ∷ codes "ANS 4 ta 1002 0" ∷ codes "ANS 5 ta 1001 5" ∷ codes "ANS 6 ta 1001 640"
+    ∷ codes "ANS 7 ta 1001 640" ∷ codes "DRQ 8 tb 1001" ∷ codes "ANS 9 ta 1003 0" ∷ [])
+    (codes "RCF 1 ta gk-a" ∷ codes "RCF 2 tb gk-a"
+    ∷ codes "ACF 3 1001 TERM ta 10.0.1.1:1720 640"
+    ∷ codes "ARJ 4 1002 resourceUnavailable calls-full"
+    ∷ codes "ACF 5 1001 TERM ta 10.0.1.1:1720 640" ∷ codes "ACF 6 1001 TERM ta 10.0.1.1:1720 640"
+    ∷ codes "ARJ 7 1001 resourceUnavailable record-full" ∷ codes "DCF 8 1001"
+    ∷ codes "ARJ 9 1003 resourceUnavailable record-full" ∷ [])
+
+-- two calls and four entries: a call that comes in keeps a place for its release
+abbrev pub AnswerKeepsPlace : Type 0
+AnswerKeepsPlace =
+    Writes (record { endpoints = 1; calls = 2; records = 4; reloads = 1 })
+    (configuration ++ codes "RRQ 1 TERM ta gk-a 10.0.1.1" ∷ codes "ANS 2 ta 2001 640"
+    ∷ codes "ANS 3 ta 2002 0" ∷ codes "ANS 4 ta 2001 640" ∷ codes "ANS 5 nobody 2001 640"
+    ∷ codes "DRQ 6 ta 2001" ∷ [])
+    (codes "RCF 1 ta gk-a" ∷ codes "ACF 2 2001 TERM ta 10.0.1.1:1720 640"
+    ∷ codes "ARJ 3 2002 resourceUnavailable record-full"
+    ∷ codes "ARJ 4 2001 undefinedReason call-open"
+    ∷ codes "ARJ 5 2001 resourceUnavailable record-full" ∷ codes "DCF 6 2001" ∷ [])
+
 -- ---- reloads
 -- the dial plan with other lines in the place of the prefix of gk-a and of the total of gk-a, and
 -- without gk-b if it is left out
@@ -324,6 +394,19 @@ LimitedByNewLines = Writes stated
     ∷ codes "ARJ 8 1003 requestDenied total gk-a" ∷ codes "BCF 9 1001 1280"
     ∷ codes "BCF 10 1001 640" ∷ codes "BRJ 11 1001 insufficientResources total gk-a"
     ∷ codes "DCF 12 1002" ∷ codes "BCF 13 1001 1000" ∷ []))
+
+-- one to whom a call was admitted answers it above a lowered total, and nothing else is given
+abbrev pub AnsweredAboveNewLines : Type 0
+AnsweredAboveNewLines = Writes stated
+    (dial_plan default_technology []
+    ++ after_endpoints (codes "ARQ 5 ta 1001 4085551234 1280" ∷ codes "CFG 6 15"
+    ∷ reloaded_lines (codes " zone local gk-b example.com" ∷ [])
+    (codes " zone prefix gk-a 408*" ∷ codes " zone prefix gk-b 4085......" ∷ [])
+    (codes " bandwidth total default 100" ∷ [])
+    ++ codes "ANS 7 gb1 1001 1280" ∷ codes "ANS 8 gb1 2001 0" ∷ []))
+    (after_registered (codes "ACF 5 1001 GW gb1 10.0.2.1:1720 1280" ∷ codes "CCF 6 2"
+    ∷ codes "ACF 7 1001 GW gb1 10.0.2.1:1720 1280"
+    ∷ codes "ARJ 8 2001 requestDenied total gk-b" ∷ []))
 
 -- a registration goes with its zone, and its call stays
 abbrev pub WithoutSecondZone : Type 0
@@ -401,6 +484,23 @@ TriedOnCalls = Writes stated
     ∷ codes "10,9125,ZONE gk-y 10.9.0.2:1719,GW gb1 10.0.2.1:1720,changed"
     ∷ codes "peak,gk-a,1920,," ∷ codes "peak,gk-b,2560,," ∷ codes "peak,gk-x,1280,,"
     ∷ codes "peak,gk-y,0,," ∷ codes "count,5,2,3," ∷ []))
+
+-- a call that came in and one that was admitted and answered, under the dial plan in force
+abbrev pub TriedOnAnswers : Type 0
+TriedOnAnswers = Writes stated
+    (dial_plan default_technology []
+    ++ after_endpoints (codes "ANS 5 gb1 2001 1280" ∷ codes "ANS 6 ta 2002 1281"
+    ∷ codes "ARQ 7 ta 1001 4085551234 640" ∷ codes "ANS 8 gb1 1001 640" ∷ codes "DRQ 9 gb1 2001"
+    ∷ codes "TRY 10 3 15" ∷ dial_plan default_technology []))
+    (after_registered (codes "ACF 5 2001 GW gb1 10.0.2.1:1720 1280"
+    ∷ codes "ARJ 6 2002 requestDenied session gk-a"
+    ∷ codes "ACF 7 1001 GW gb1 10.0.2.1:1720 640" ∷ codes "ACF 8 1001 GW gb1 10.0.2.1:1720 640"
+    ∷ codes "DCF 9 2001" ∷ codes "TCF 10 9" ∷ codes "number,digits,recorded,candidate,verdict"
+    ∷ codes "5,,GW gb1 10.0.2.1:1720,GW gb1 10.0.2.1:1720,same"
+    ∷ codes "6,,TERM ta 10.0.1.1:1720,TERM ta 10.0.1.1:1720,same"
+    ∷ codes "7,4085551234,GW gb1 10.0.2.1:1720,GW gb1 10.0.2.1:1720,same"
+    ∷ codes "peak,gk-a,640,," ∷ codes "peak,gk-b,1920,," ∷ codes "peak,gk-x,0,,"
+    ∷ codes "peak,gk-y,0,," ∷ codes "count,3,3,0," ∷ []))
 
 abbrev pub TriedByNone : Type 0
 TriedByNone = Writes stated

@@ -56,11 +56,19 @@ pub fn worked_rows()
     ensures raised_and_lowered { Rows.RaisedAndLowered }
     ensures counted_in_target_zone { Rows.CountedInTargetZone }
     ensures by_owner_alone { Rows.ByOwnerAlone }
+    ensures answered_calls { Rows.AnsweredCalls }
+    ensures answer_above_remote { Rows.AnswerAboveRemote }
+    ensures answer_between_zones { Rows.AnswerBetweenZones }
+    ensures answered_elsewhere { Rows.AnsweredElsewhere }
+    ensures answers_with_full_counts { Rows.AnswersWithFullCounts }
+    ensures answer_keeps_place { Rows.AnswerKeepsPlace }
     ensures routed_by_new_lines { Rows.RoutedByNewLines }
     ensures limited_by_new_lines { Rows.LimitedByNewLines }
+    ensures answered_above_new_lines { Rows.AnsweredAboveNewLines }
     ensures without_second_zone { Rows.WithoutSecondZone }
     ensures faulty_reloads { Rows.FaultyReloads }
     ensures smallest_limits { Rows.SmallestLimits }
     ensures tried_on_calls { Rows.TriedOnCalls }
+    ensures tried_on_answers { Rows.TriedOnAnswers }
     ensures tried_by_none { Rows.TriedByNone }
 {}

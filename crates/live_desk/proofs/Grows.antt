@@ -240,3 +240,18 @@ asked_by opening live new entries before after astray event answer same free is 
           old_held (subst (λ (c : CoreParts). Steps live event answer c) new_held steps);
       seen = λ kept. seen kept ∙ ap generations new_held;
     }
+
+-- a step under the lock, of what is shown of it
+pub step_held : (opening : State) (live new : CoreParts) (entries after : List PlainEntry)
+    (event : PlainEvent) (answer : Result (Reply × Receipt) Reply) → live.opening ≡ opening
+    → live.reserved ≡ false → live.entries ≡ entries → new.entries ≡ after
+    → Steps live event answer new
+    → Steps (seats.held opening entries) event answer (seats.held opening after)
+step_held opening live new entries after event answer same free is later steps =
+    let old_held : live ≡ seats.held opening entries =
+    is_held live opening same free ∙ ap (λ es. seats.held opening es) is in
+    let new_held : new ≡ seats.held opening after =
+    stays_held live new opening event answer same free steps
+    ∙ ap (λ es. seats.held opening es) later in
+    subst (λ (c : CoreParts). Steps c event answer (seats.held opening after)) old_held
+    (subst (λ (c : CoreParts). Steps live event answer c) new_held steps)

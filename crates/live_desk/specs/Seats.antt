@@ -7,7 +7,7 @@ use Rattle.command_reader.specs.declared.commands.Command.{Command}
 use Rattle.compiler.specs.declared.plans.Routed.{Routed}
 use Rattle.compiler.specs.Plan.{plan_of, target_of}
 use Rattle.rulings.specs.State.{State}
-use Rattle.rulings.specs.Events.{PlainEvent, Registering, Unregistering, Admitting, Changing, Releasing, Reloading, kind_of, id_of, call_number_of}
+use Rattle.rulings.specs.Events.{PlainEvent, Registering, Unregistering, Admitting, Answering, Changing, Releasing, Reloading, kind_of, id_of, call_number_of}
 use Rattle.rulings.specs.declared.replies.Reply.{Reply}
 use Rattle.rulings.specs.declared.replies.Reply.TheVariants.{Reloaded, ReloadRefused}
 use Rattle.rulings.specs.declared.replies.ReloadRefusal.{ReloadRefusal}
@@ -123,6 +123,7 @@ abbrev pub IsPut
 IsPut (Registering endpoint) answer list = ⊤
 IsPut (Unregistering id) answer list = ⊤
 IsPut (Admitting id call digits units) answer list = ⊤
+IsPut (Answering id call units) answer list = ⊤
 IsPut (Changing id call units) answer list = ⊤
 IsPut (Releasing id call) answer list = ⊤
 IsPut (Reloading commands) (Ok answer) list = IsPutAs commands answer.0 list

@@ -240,6 +240,20 @@ impl<J: Imprint> Live<J> {
     }
 
     #[tactic(auto, using(crate::proofs::Grows::steps_shown, crate::proofs::Grows::stays))]
+    /// Answers a call for a gateway or terminal, as `Core::incoming`.
+    pub fn incoming(
+        &mut self,
+        id: &Name,
+        call: u32,
+        units: Units,
+    ) -> Result<(Reply, Receipt), Reply>
+        ensures step { Steps self.old (Events.Answering id.now call units) result self.new }
+        ensures published { generations self.new ≡ generations self.old }
+    {
+        self.core.incoming(id, call, units)
+    }
+
+    #[tactic(auto, using(crate::proofs::Grows::steps_shown, crate::proofs::Grows::stays))]
     /// Gives an open call another bandwidth.
     pub fn change(&mut self, id: &Name, call: u32, units: Units) -> Result<(Reply, Receipt), Reply>
         ensures step { Steps self.old (Events.Changing id.now call units) result self.new }
@@ -331,6 +345,7 @@ impl<J: Imprint> Live<J> {
                 let routed = self.route_here(&digits);
                 self.admit(&routed, &id, call, units)
             }
+            Event::Incoming { id, call, units } => self.incoming(&id, call, units),
             Event::Change { id, call, units } => self.change(&id, call, units),
             Event::Release { id, call } => self.release(&id, call),
             Event::Reload(tables) => self.reload(rt, tables),

@@ -183,6 +183,14 @@ impl<J: House> Seat<J> {
                 };
                 self.answer(rt, desk, event)
             }
+            Event::Incoming { id, call, units } => {
+                let event = &LentEvent::Incoming {
+                    id: &id,
+                    call,
+                    units,
+                };
+                self.answer(rt, desk, event)
+            }
             Event::Change { id, call, units } => {
                 let event = &LentEvent::Change {
                     id: &id,

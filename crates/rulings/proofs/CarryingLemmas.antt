@@ -3,7 +3,7 @@ use Rattle.std.proofs.Common.{◌≡◌, List, Option, Some, None, refl}
 use Rattle.std.specs.Prelude.{IsSome}
 use Rattle.command_reader.specs.declared.commands.Command.{Command}
 use Rattle.rulings.specs.State.{MachineParts, bare, under}
-use Rattle.rulings.specs.Events.{PlainEvent, Registering, Unregistering, Admitting, Changing, Releasing, Reloading, put_in_force}
+use Rattle.rulings.specs.Events.{PlainEvent, Registering, Unregistering, Admitting, Answering, Changing, Releasing, Reloading, put_in_force}
 use Rattle.rulings.specs.Step.{count_refusal, with_commands, with_effect}
 use Rattle.rulings.specs.Founded.{IsUnder}
 use Rattle.rulings.specs.declared.rulings.Effect.TheVariants.{PutInForce}
@@ -29,6 +29,7 @@ unfolding count_refusal
 counts_alike commands m (Registering e) ruling = refl
 counts_alike commands m (Unregistering id) ruling = refl
 counts_alike commands m (Admitting id call digits units) ruling = refl
+counts_alike commands m (Answering id call units) ruling = refl
 counts_alike commands m (Changing id call units) ruling = refl
 counts_alike commands m (Releasing id call) ruling = refl
 counts_alike commands m (Reloading others) ruling = refl

@@ -8,7 +8,7 @@ use Rattle.rulings.specs.declared.events.Event.TheVariants as events
 use Rattle.rulings.specs.declared.events.LentEvent.{LentEvent}
 use Rattle.rulings.specs.declared.events.LentEvent.TheVariants as lent
 use Rattle.rulings.specs.declared.events.EventKind.{EventKind}
-use Rattle.rulings.specs.declared.events.EventKind.TheVariants.{Registration, Unregistration, Admission, BandwidthChange, Release, Reload}
+use Rattle.rulings.specs.declared.events.EventKind.TheVariants.{Registration, Unregistration, Admission, Incoming, BandwidthChange, Release, Reload}
 
 -- an event by its values alone
 pub data PlainEvent : Type 0 where
@@ -18,6 +18,8 @@ pub data PlainEvent : Type 0 where
   Unregistering : (id : List ℕ) → PlainEvent
   -- it asks to be admitted to a call to these digits, with this bandwidth
   Admitting : (id : List ℕ) (call : ℕ) (digits : List ℕ) (units : ℕ) → PlainEvent
+  -- it asks to answer the call, with this bandwidth
+  Answering : (id : List ℕ) (call units : ℕ) → PlainEvent
   -- it asks for another bandwidth for the call
   Changing : (id : List ℕ) (call units : ℕ) → PlainEvent
   -- it asks to be released from the call
@@ -30,6 +32,7 @@ abbrev pub plain : Event → PlainEvent
 plain (events.Register endpoint) = Registering endpoint
 plain (events.Unregister id) = Unregistering id
 plain (events.Admit id call digits units) = Admitting id call digits units
+plain (events.Incoming id call units) = Answering id call units
 plain (events.Change id call units) = Changing id call units
 plain (events.Release id call) = Releasing id call
 plain (events.Reload tables) = Reloading (arc_value tables).commands
@@ -39,6 +42,7 @@ abbrev pub event_meant : LentEvent → PlainEvent
 event_meant (lent.Register endpoint) = Registering endpoint.now
 event_meant (lent.Unregister id) = Unregistering id.now
 event_meant (lent.Admit id call digits units) = Admitting id.now call digits.now units
+event_meant (lent.Incoming id call units) = Answering id.now call units
 event_meant (lent.Change id call units) = Changing id.now call units
 event_meant (lent.Release id call) = Releasing id.now call
 event_meant (lent.Reload tables) = Reloading tables.now.commands
@@ -48,6 +52,7 @@ abbrev pub is_of_names_alone : PlainEvent → Bool
 is_of_names_alone (Registering endpoint) = false
 is_of_names_alone (Unregistering id) = true
 is_of_names_alone (Admitting id call digits units) = true
+is_of_names_alone (Answering id call units) = true
 is_of_names_alone (Changing id call units) = true
 is_of_names_alone (Releasing id call) = true
 is_of_names_alone (Reloading commands) = false
@@ -56,6 +61,7 @@ abbrev pub kind_of : PlainEvent → EventKind
 kind_of (Registering endpoint) = Registration
 kind_of (Unregistering id) = Unregistration
 kind_of (Admitting id call digits units) = Admission
+kind_of (Answering id call units) = Incoming
 kind_of (Changing id call units) = BandwidthChange
 kind_of (Releasing id call) = Release
 kind_of (Reloading commands) = Reload
@@ -65,6 +71,7 @@ abbrev pub id_of : PlainEvent → Option (List ℕ)
 id_of (Registering endpoint) = Some endpoint.id
 id_of (Unregistering id) = Some id
 id_of (Admitting id call digits units) = Some id
+id_of (Answering id call units) = Some id
 id_of (Changing id call units) = Some id
 id_of (Releasing id call) = Some id
 id_of (Reloading commands) = None
@@ -74,6 +81,7 @@ abbrev pub call_number_of : PlainEvent → Option ℕ
 call_number_of (Registering endpoint) = None
 call_number_of (Unregistering id) = None
 call_number_of (Admitting id call digits units) = Some call
+call_number_of (Answering id call units) = Some call
 call_number_of (Changing id call units) = Some call
 call_number_of (Releasing id call) = Some call
 call_number_of (Reloading commands) = None
@@ -83,6 +91,7 @@ abbrev pub endpoint_asking : PlainEvent → Option EndpointParts
 endpoint_asking (Registering endpoint) = Some endpoint
 endpoint_asking (Unregistering id) = None
 endpoint_asking (Admitting id call digits units) = None
+endpoint_asking (Answering id call units) = None
 endpoint_asking (Changing id call units) = None
 endpoint_asking (Releasing id call) = None
 endpoint_asking (Reloading commands) = None
@@ -92,6 +101,7 @@ abbrev pub put_in_force : PlainEvent → Option (List Command)
 put_in_force (Registering endpoint) = None
 put_in_force (Unregistering id) = None
 put_in_force (Admitting id call digits units) = None
+put_in_force (Answering id call units) = None
 put_in_force (Changing id call units) = None
 put_in_force (Releasing id call) = None
 put_in_force (Reloading commands) = Some commands

@@ -1,5 +1,5 @@
 -- Rulings and routes that lend what they name: what each means.
-use Rattle.std.specs.Prelude.{◌≡◌, ℕ, List, Some, None, ⊤}
+use Rattle.std.specs.Prelude.{◌≡◌, ℕ, true, List, Some, None, ⊤}
 use Rattle.command_reader.specs.declared.commands.Command.{Command}
 use Rattle.compiler.specs.declared.plans.Plan.{Plan}
 use Rattle.compiler.specs.Plan.{plan_of, target_of}
@@ -18,8 +18,8 @@ use Rattle.rulings.specs.declared.lent_routes.LentRoute.{LentRoute}
 use Rattle.rulings.specs.declared.lent_routes.LentRoute.TheVariants as route
 use Rattle.rulings.specs.declared.lent_rulings.LentRuling.{LentRuling}
 use Rattle.rulings.specs.declared.lent_rulings.LentRuling.TheVariants as ruling
-use Rattle.rulings.specs.Events.{PlainEvent, Registering, Unregistering, Admitting, Changing, Releasing, Reloading}
-use Rattle.rulings.specs.Ruling.{unrouted}
+use Rattle.rulings.specs.Events.{PlainEvent, Registering, Unregistering, Admitting, Answering, Changing, Releasing, Reloading}
+use Rattle.rulings.specs.Ruling.{answerer_of, unrouted}
 
 -- the plan is what the commands say of the digits, if the event is an admission
 abbrev pub IsPlanOf : List Command → PlainEvent → Plan → Type 0
@@ -27,6 +27,7 @@ IsPlanOf commands (Registering e) plan = ⊤
 IsPlanOf commands (Unregistering id) plan = ⊤
 IsPlanOf commands (Admitting id call digits units) plan =
     target_of commands plan ≡ Some (plan_of commands digits)
+IsPlanOf commands (Answering id call units) plan = ⊤
 IsPlanOf commands (Changing id call units) plan = ⊤
 IsPlanOf commands (Releasing id call) plan = ⊤
 IsPlanOf commands (Reloading others) plan = ⊤
@@ -60,11 +61,32 @@ ruling_meant (ruling.Admitted call owner source target remote units kind name ad
   effect = effects.Open (record {
     number = call;
     owner = owner.now;
-    source = source.now;
+    source = Some source.now;
     target = target.now;
     remote = remote;
     units = units;
+    answerer = answerer_of (destination_meant kind name.now address);
   });
+}
+ruling_meant (ruling.Answering call owner zone units kind address) = record {
+  verdict = replies.Admitted call (destination_meant kind owner.now address) units;
+  zone = Some zone.now;
+  route = Some (routes.To (destination_meant kind owner.now address));
+  effect = effects.Open (record {
+    number = call;
+    owner = owner.now;
+    source = None;
+    target = zone.now;
+    remote = true;
+    units = units;
+    answerer = None;
+  });
+}
+ruling_meant (ruling.Repeated call zone units kind name address) = record {
+  verdict = replies.Admitted call (destination_meant kind name.now address) units;
+  zone = Some zone.now;
+  route = Some (routes.To (destination_meant kind name.now address));
+  effect = effects.Nothing;
 }
 ruling_meant (ruling.CallerNotRegistered call) =
     unrouted (replies.AdmitRefused call admit.CallerNotRegistered) effects.Nothing

@@ -1,6 +1,6 @@
 -- What is ruled of an event in a state: the verdict, what its entry tells of an admission, and what
 -- it changes. The verdict, the entry and the effect of an event are parts of its ruling.
-use Rattle.std.specs.Prelude.{ℕ, ◌+◌, List, Option, Some, None, if◌then◌else◌}
+use Rattle.std.specs.Prelude.{ℕ, ◌+◌, Bool, true, false, List, Option, Some, None, bytes_eq, if◌then◌else◌}
 use Rattle.compiler.specs.Zones.{zone_meant}
 use Rattle.compiler.specs.Plan.{Target, zone_of_target, is_remote}
 use Rattle.registry.specs.Endpoint.{EndpointParts}
@@ -10,6 +10,7 @@ use Rattle.bandwidth.specs.declared.over.Over.{Over}
 use Rattle.bandwidth.specs.Calls.{call_of, is_open, owns, has_owner}
 use Rattle.bandwidth.specs.Fits.{over_of}
 use Rattle.rulings.specs.declared.routes.Destination.{Destination}
+use Rattle.rulings.specs.declared.routes.Destination.TheVariants as destinations
 use Rattle.rulings.specs.declared.routes.Route.{Route}
 use Rattle.rulings.specs.declared.routes.Route.TheVariants.{To, Refused}
 use Rattle.rulings.specs.declared.replies.RegisterRefusal.{RegisterRefusal}
@@ -24,12 +25,12 @@ use Rattle.rulings.specs.declared.replies.Reply.TheVariants.{Registered, Registe
 use Rattle.rulings.specs.declared.rulings.Effect.{Effect}
 use Rattle.rulings.specs.declared.rulings.Effect.TheVariants as effects
 use Rattle.rulings.specs.State.{State}
-use Rattle.rulings.specs.Events.{PlainEvent, Registering, Unregistering, Admitting, Changing, Releasing, Reloading}
-use Rattle.rulings.specs.Routing.{target_for, route_of}
+use Rattle.rulings.specs.Events.{PlainEvent, Registering, Unregistering, Admitting, Answering, Changing, Releasing, Reloading}
+use Rattle.rulings.specs.Routing.{target_for, destination_of, route_of}
 
--- what is ruled of an event, apart from counts and memory: the verdict; of an admission, the zone
--- of the caller, if it is registered, and where the digits lead, if that was looked for; and what
--- it changes
+-- what is ruled of an event, apart from counts and memory: the verdict; of an admission or an
+-- answer the zone of the endpoint that asks, if it is registered, and where the call leads, if that
+-- was looked for; and what it changes
 pub record Ruling : Type 0 where
   pub verdict : Reply
   pub zone : Option (List ℕ)
@@ -67,15 +68,22 @@ unregistration_ruling s id =
     else unrouted (UnregisterRefused id unregister.NotRegistered) effects.Nothing
 
 -- ---- admissions
--- the call that an admission of this caller would open
-abbrev pub admitted_call : EndpointParts → ℕ → ℕ → Target → OpenCall
-admitted_call caller call units target = record {
+-- the gateway or terminal to which a call is admitted, if it is to one
+abbrev pub answerer_of : Destination → Option (List ℕ)
+answerer_of (destinations.Gateway id address) = Some id
+answerer_of (destinations.Terminal id address) = Some id
+answerer_of (destinations.Zone name address) = None
+
+-- the call that an admission of this caller to this destination would open
+abbrev pub admitted_call : EndpointParts → ℕ → ℕ → Target → Destination → OpenCall
+admitted_call caller call units target destination = record {
   number = call;
   owner = caller.id;
-  source = caller.zone;
+  source = Some caller.zone;
   target = zone_of_target caller.zone target;
   remote = is_remote target;
   units = units;
+  answerer = answerer_of destination;
 }
 
 -- to a destination, unless a sum of the call would be above its limit
@@ -102,7 +110,7 @@ admission_to s caller call units target (Refused refusal) = record {
   effect = effects.Nothing;
 }
 admission_to s caller call units target (To destination) =
-    let admitted = admitted_call caller call units target in
+    let admitted = admitted_call caller call units target destination in
     admission_unless caller.zone destination admitted (over_of s.commands s.calls admitted)
 
 -- the number of the call is an open call's
@@ -123,6 +131,49 @@ admission_ruling s call digits units (Some caller) =
     if is_open s.calls call then call_open_ruling caller call
     else admission_to s caller call units (target_for s.commands s.endpoints digits)
     (route_of s.commands s.endpoints caller.zone digits)
+
+-- ---- answers
+-- the call from a zone of another gatekeeper that an endpoint would answer: where it comes from is
+-- not known
+abbrev pub answered_call : EndpointParts → ℕ → ℕ → OpenCall
+answered_call e call units = record {
+  number = call;
+  owner = e.id;
+  source = None;
+  target = e.zone;
+  remote = true;
+  units = units;
+  answerer = None;
+}
+
+-- whether it is this ID
+abbrev pub is_that : List ℕ → Option (List ℕ) → Bool
+is_that id None = false
+is_that id (Some other) = bytes_eq other id
+
+-- the endpoint itself, with the bandwidth of the open call that was admitted to it; nothing changes
+abbrev pub repeated_answer : EndpointParts → ℕ → ℕ → Ruling
+repeated_answer e call units = record {
+  verdict = Admitted call (destination_of e.kind e) units;
+  zone = Some e.zone;
+  route = Some (To (destination_of e.kind e));
+  effect = effects.Nothing;
+}
+
+-- by the open call of the number, if there is one
+abbrev pub answering_to : State → EndpointParts → ℕ → ℕ → Option OpenCall → Ruling
+answering_to s e call units None =
+    let answered = answered_call e call units in
+    admission_unless e.zone (destination_of e.kind e) answered (over_of s.commands s.calls answered)
+answering_to s e call units (Some held) =
+    if is_that e.id held.answerer then repeated_answer e call held.units
+    else call_open_ruling e call
+
+-- the endpoint is registered; an open call of the number was admitted to it; else the limits decide
+abbrev pub answering_ruling : State → ℕ → ℕ → Option EndpointParts → Ruling
+answering_ruling s call units None =
+    unrouted (AdmitRefused call admit.CallerNotRegistered) effects.Nothing
+answering_ruling s call units (Some e) = answering_to s e call units (call_of s.calls call)
 
 -- ---- bandwidth changes
 -- this bandwidth for the call, unless a sum of it would be above its limit
@@ -167,6 +218,8 @@ ruling_of s (Registering e) = registration_ruling s e
 ruling_of s (Unregistering id) = unregistration_ruling s id
 ruling_of s (Admitting id call digits units) =
     admission_ruling s call digits units (endpoint_of s.endpoints id)
+ruling_of s (Answering id call units) =
+    answering_ruling s call units (endpoint_of s.endpoints id)
 ruling_of s (Changing id call units) = change_ruling s id call units (call_of s.calls call)
 ruling_of s (Releasing id call) = release_ruling s id call (call_of s.calls call)
 ruling_of s (Reloading commands) = reload_ruling s

@@ -15,7 +15,7 @@ use Rattle.rulings.specs.declared.rulings.Effect.{Effect}
 use Rattle.rulings.specs.declared.rulings.Effect.TheVariants.{Nothing, Put, Remove, Open, Resize, Close, PutInForce}
 use Rattle.rulings.specs.Ruling.{Ruling}
 use Rattle.rulings.specs.State.{State, free_places}
-use Rattle.rulings.specs.Events.{PlainEvent, Registering, Unregistering, Admitting, Changing, Releasing, Reloading, endpoint_asking, put_in_force}
+use Rattle.rulings.specs.Events.{PlainEvent, Registering, Unregistering, Admitting, Answering, Changing, Releasing, Reloading, endpoint_asking, put_in_force}
 use Rattle.rulings.specs.Ruling.{ruling_of}
 
 -- ---- verdicts
@@ -65,6 +65,7 @@ abbrev pub record_full_reply_of : PlainEvent → Option Reply
 record_full_reply_of (Registering e) = Some (RegisterRefused e.id register.RecordFull)
 record_full_reply_of (Unregistering id) = Some (UnregisterRefused id unregister.RecordFull)
 record_full_reply_of (Admitting id call digits units) = Some (AdmitRefused call admit.RecordFull)
+record_full_reply_of (Answering id call units) = Some (AdmitRefused call admit.RecordFull)
 record_full_reply_of (Changing id call units) = Some (ChangeRefused call change.RecordFull)
 record_full_reply_of (Releasing id call) = None
 record_full_reply_of (Reloading commands) = Some (ReloadRefused reload.RecordFull)
@@ -115,6 +116,9 @@ count_refusal s (Unregistering id) ruling = record_refusal s (Unregistering id) 
 count_refusal s (Admitting id call digits units) ruling =
     if are_calls_full s ruling.effect then Some (AdmitRefused call admit.CallsFull)
     else record_refusal s (Admitting id call digits units) ruling.effect
+count_refusal s (Answering id call units) ruling =
+    if are_calls_full s ruling.effect then Some (AdmitRefused call admit.CallsFull)
+    else record_refusal s (Answering id call units) ruling.effect
 count_refusal s (Changing id call units) ruling =
     record_refusal s (Changing id call units) ruling.effect
 count_refusal s (Releasing id call) ruling = record_refusal s (Releasing id call) ruling.effect
@@ -182,6 +186,7 @@ abbrev pub no_memory_reply_of : PlainEvent → Option Reply
 no_memory_reply_of (Registering e) = Some (RegisterRefused e.id register.NoMemory)
 no_memory_reply_of (Unregistering id) = Some (UnregisterRefused id unregister.NoMemory)
 no_memory_reply_of (Admitting id call digits units) = Some (AdmitRefused call admit.NoMemory)
+no_memory_reply_of (Answering id call units) = Some (AdmitRefused call admit.NoMemory)
 no_memory_reply_of (Changing id call units) = Some (ChangeRefused call change.NoMemory)
 no_memory_reply_of (Releasing id call) = None
 no_memory_reply_of (Reloading commands) = Some (ReloadRefused reload.NoMemory)

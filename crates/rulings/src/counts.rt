@@ -36,8 +36,8 @@ impl Machine {
     /// What replaces a verdict: endpoints-full if a new endpoint would be registered and there are
     /// as many as the limit allows; calls-full if a call would be opened and as many are open as
     /// the limit allows; reloads-spent if the configuration would be replaced once more than the
-    /// limit allows; and else record-full if the record lacks the free places: two for a granted
-    /// admission, none for a release, and one for another verdict.
+    /// limit allows; and else record-full if the record lacks the free places: two if a call would
+    /// be opened, none for a release, and one for another verdict.
     #[inline(never)]
     pub fn count_refusal(&self, event: &LentEvent<'_>, ruling: &LentRuling<'_>) -> Option<Reply>
         ensures { result
@@ -52,7 +52,7 @@ impl Machine {
                     return Some(Reply::RegisterRefused { id, reason });
                 }
             }
-            LentEvent::Admit { call, .. } => {
+            LentEvent::Admit { call, .. } | LentEvent::Incoming { call, .. } => {
                 if self.are_calls_full(ruling) {
                     let reason = AdmitRefusal::CallsFull;
                     return Some(Reply::AdmitRefused {
@@ -79,7 +79,9 @@ impl Machine {
             LentEvent::Register(endpoint) => {
                 self.are_endpoints_full(endpoint, ruling) || self.lacks_places(ruling)
             }
-            LentEvent::Admit { .. } => { self.are_calls_full(ruling) || self.lacks_places(ruling) }
+            LentEvent::Admit { .. } | LentEvent::Incoming { .. } => {
+                self.are_calls_full(ruling) || self.lacks_places(ruling)
+            }
             LentEvent::Reload(_) => self.are_reloads_spent() || self.lacks_places(ruling),
             LentEvent::Unregister { .. } | LentEvent::Change { .. } => self.lacks_places(ruling),
             LentEvent::Release { .. } => false,

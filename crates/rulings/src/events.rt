@@ -31,6 +31,15 @@ pub enum Event {
         /// The bandwidth that the call asks for, in units of 100 bit/s.
         units: Units,
     },
+    /// To answer a call.
+    Incoming {
+        /// The ID of the endpoint that answers.
+        id: Name,
+        /// The number of the call, 1 to 4294967295.
+        call: u32,
+        /// The bandwidth that it asks for, in units of 100 bit/s.
+        units: Units,
+    },
     /// Another bandwidth for an open call.
     Change {
         /// The ID of the endpoint that owns the call.
@@ -66,6 +75,12 @@ pub enum LentEvent<'a> {
         id: &'a Name,
         call: u32,
         digits: &'a Dialled,
+        units: Units,
+    },
+    /// `Event::Incoming`.
+    Incoming {
+        id: &'a Name,
+        call: u32,
         units: Units,
     },
     /// `Event::Change`.
@@ -115,6 +130,11 @@ impl LentEvent<'_> {
                 digits: **digits,
                 units: *units,
             },
+            LentEvent::Incoming { id, call, units } => Event::Incoming {
+                id: **id,
+                call: *call,
+                units: *units,
+            },
             LentEvent::Change { id, call, units } => Event::Change {
                 id: **id,
                 call: *call,
@@ -137,6 +157,8 @@ pub enum EventKind {
     Unregistration,
     /// An admission.
     Admission,
+    /// An answer to a call.
+    Incoming,
     /// A bandwidth change.
     BandwidthChange,
     /// A release.
@@ -154,6 +176,7 @@ impl Event {
             Event::Register(_) => EventKind::Registration,
             Event::Unregister { .. } => EventKind::Unregistration,
             Event::Admit { .. } => EventKind::Admission,
+            Event::Incoming { .. } => EventKind::Incoming,
             Event::Change { .. } => EventKind::BandwidthChange,
             Event::Release { .. } => EventKind::Release,
             Event::Reload(_) => EventKind::Reload,
@@ -168,6 +191,7 @@ impl Event {
             Event::Register(endpoint) => Some(*endpoint.id()),
             Event::Unregister { id }
             | Event::Admit { id, .. }
+            | Event::Incoming { id, .. }
             | Event::Change { id, .. }
             | Event::Release { id, .. } => Some(*id),
             Event::Reload(_) => None,
@@ -180,8 +204,10 @@ impl Event {
     {
         match self {
             Event::Register(_) | Event::Unregister { .. } | Event::Reload(_) => None,
-            Event::Admit { call, .. } | Event::Change { call, .. } | Event::Release { call, .. } =>
-                Some(*call),
+            Event::Admit { call, .. }
+            | Event::Incoming { call, .. }
+            | Event::Change { call, .. }
+            | Event::Release { call, .. } => Some(*call),
         }
     }
 }

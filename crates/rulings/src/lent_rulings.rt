@@ -49,6 +49,24 @@ pub enum LentRuling<'a> {
         name: &'a Name,
         address: Address,
     },
+    /// The endpoint answers a call from a zone of another gatekeeper, which is open for it.
+    Answering {
+        call: u32,
+        owner: &'a Name,
+        zone: &'a Name,
+        units: Units,
+        kind: DestinationKind,
+        address: Address,
+    },
+    /// The open call of the number was admitted to the endpoint.
+    Repeated {
+        call: u32,
+        zone: &'a Name,
+        units: Units,
+        kind: DestinationKind,
+        name: &'a Name,
+        address: Address,
+    },
     /// The caller is not registered.
     CallerNotRegistered {
         call: u32,
@@ -109,6 +127,8 @@ impl LentRuling<'_> {
             LentRuling::Registered { .. }
             | LentRuling::Unregistered { .. }
             | LentRuling::Admitted { .. }
+            | LentRuling::Answering { .. }
+            | LentRuling::Repeated { .. }
             | LentRuling::Changed { .. }
             | LentRuling::Released { .. }
             | LentRuling::Reloaded { .. } => true,
@@ -127,7 +147,10 @@ impl LentRuling<'_> {
     pub fn opens_call(&self) -> bool
         ensures { result ≡ opens_call (Spec.ruling_meant self.now).effect }
     {
-        matches!(self, LentRuling::Admitted { .. })
+        matches!(
+            self,
+            LentRuling::Admitted { .. } | LentRuling::Answering { .. }
+        )
     }
 
     /// Whether it is recorded, if no count refuses it: each is but a refused release.
@@ -143,7 +166,7 @@ impl LentRuling<'_> {
         ensures { result ≡ places_needed (Spec.ruling_meant self.now).effect }
     {
         match self {
-            LentRuling::Admitted { .. } => 2,
+            LentRuling::Admitted { .. } | LentRuling::Answering { .. } => 2,
             LentRuling::Released { .. } => 0,
             _ => 1,
         }
@@ -169,6 +192,30 @@ impl LentRuling<'_> {
                 reason: *reason,
             },
             LentRuling::Admitted {
+                call,
+                units,
+                kind,
+                name,
+                address,
+                ..
+            } => Reply::Admitted {
+                call: *call,
+                destination: kind.destination(name, *address),
+                units: *units,
+            },
+            LentRuling::Answering {
+                call,
+                owner,
+                units,
+                kind,
+                address,
+                ..
+            } => Reply::Admitted {
+                call: *call,
+                destination: kind.destination(owner, *address),
+                units: *units,
+            },
+            LentRuling::Repeated {
                 call,
                 units,
                 kind,
@@ -213,7 +260,7 @@ impl LentRuling<'_> {
         }
     }
 
-    /// Of an admission: the zone of the caller, if it is registered.
+    /// Of an admission or an answer: the zone of the endpoint that asks, if it is registered.
     pub fn zone(&self) -> Option<Name>
         ensures { result ≡ (Spec.ruling_meant self.now).zone }
     {
@@ -222,11 +269,12 @@ impl LentRuling<'_> {
             | LentRuling::CallOpen { source, .. }
             | LentRuling::NoRoute { source, .. }
             | LentRuling::OverLimit { source, .. } => Some(**source),
+            LentRuling::Answering { zone, .. } | LentRuling::Repeated { zone, .. } => Some(**zone),
             _ => None,
         }
     }
 
-    /// Of an admission: where the digits lead, if that was looked for.
+    /// Of an admission or an answer: where the call leads, if that was looked for.
     pub fn route(&self) -> Option<Route>
         ensures { result ≡ (Spec.ruling_meant self.now).route }
     {
@@ -238,6 +286,18 @@ impl LentRuling<'_> {
                 ..
             }
             | LentRuling::OverLimit {
+                kind,
+                name,
+                address,
+                ..
+            } => Some(Route::To(kind.destination(name, *address))),
+            LentRuling::Answering {
+                owner,
+                kind,
+                address,
+                ..
+            } => Some(Route::To(kind.destination(owner, *address))),
+            LentRuling::Repeated {
                 kind,
                 name,
                 address,
@@ -263,14 +323,32 @@ impl LentRuling<'_> {
                 target,
                 remote,
                 units,
+                kind,
+                name,
                 ..
             } => Effect::Open(OpenCall {
                 number: *call,
                 units: *units,
                 remote: *remote,
                 owner: **owner,
-                source: **source,
+                source: Some(**source),
                 target: **target,
+                answerer: kind.answerer(name),
+            }),
+            LentRuling::Answering {
+                call,
+                owner,
+                zone,
+                units,
+                ..
+            } => Effect::Open(OpenCall {
+                number: *call,
+                units: *units,
+                remote: true,
+                owner: **owner,
+                source: None,
+                target: **zone,
+                answerer: None,
             }),
             LentRuling::Changed { call, id, units } => Effect::Resize {
                 call: *call,
@@ -284,6 +362,7 @@ impl LentRuling<'_> {
             LentRuling::Reloaded { .. } => Effect::PutInForce,
             LentRuling::RegisterRefused { .. }
             | LentRuling::UnregisterRefused { .. }
+            | LentRuling::Repeated { .. }
             | LentRuling::CallerNotRegistered { .. }
             | LentRuling::CallOpen { .. }
             | LentRuling::NoRoute { .. }

@@ -208,6 +208,7 @@ impl Machine {
             LentEvent::Register(endpoint) => self.register(endpoint, zone),
             LentEvent::Unregister { .. }
             | LentEvent::Admit { .. }
+            | LentEvent::Incoming { .. }
             | LentEvent::Change { .. }
             | LentEvent::Release { .. }
             | LentEvent::Reload(_) => unreachable!(),
@@ -228,6 +229,7 @@ impl Machine {
             LentEvent::Register(_)
             | LentEvent::Unregister { .. }
             | LentEvent::Admit { .. }
+            | LentEvent::Incoming { .. }
             | LentEvent::Change { .. }
             | LentEvent::Release { .. } => unreachable!(),
         }

@@ -42,7 +42,8 @@ pub enum UnregisterRefusal {
 pub enum AdmitRefusal {
     /// The caller is not a registered endpoint: callerNotRegistered.
     CallerNotRegistered,
-    /// A call of this number is open, whoever owns it: undefinedReason.
+    /// A call of this number is open, whoever owns it; of an answer, one that was not admitted to
+    /// the endpoint that asks: undefinedReason.
     CallOpen,
     /// The dialled digits lead nowhere: calledPartyNotRegistered.
     NoRoute(RouteRefusal),

@@ -1,18 +1,19 @@
 //! Rulings: what is decided of an event, and what the decision changes.
 
-ghost use Rattle.std.specs.Prelude.{◌≡◌, Some, None, IfSome, MatchResult};
+ghost use Rattle.std.specs.Prelude.{◌≡◌, false, Some, None, IfSome, MatchResult};
 ghost use Rattle.std.specs.Option.{option_copied};
-ghost use Rattle.bandwidth.specs.Calls.{call_of};
+ghost use Rattle.bandwidth.specs.Calls.{call_of, is_open};
 ghost use Rattle.bandwidth.specs.Fits.{over_of};
 ghost use Rattle.compiler.specs.Plan as Plans;
 ghost use Rattle.compiler.specs.Zones.{zone_meant};
 ghost use Rattle.rulings.specs.Events as Events;
-ghost use Rattle.rulings.specs.Lent.{IsPlanOf, ruling_meant};
+ghost use Rattle.rulings.specs.Lent.{IsPlanOf, destination_meant, ruling_meant};
+ghost use Rattle.rulings.specs.Routing.{destination_of};
 ghost use Rattle.rulings.specs.Ruling as Spec;
 ghost use Rattle.rulings.specs.State.{bare, under};
 
 use crate::events::LentEvent;
-use crate::lent_routes::LentRoute;
+use crate::lent_routes::{DestinationKind, LentRoute};
 use crate::lent_rulings::LentRuling;
 use crate::machine::Machine;
 use crate::registering::refusal_of;
@@ -21,7 +22,7 @@ use crate::routing::{is_remote, plan_beside, route_of_plan, target_zone};
 use bandwidth::OpenCall;
 use compiler::{Plan, Tables};
 use gk_terms::{Dialled, Name, Units};
-use registry::Endpoint;
+use registry::{Endpoint, EndpointKind};
 
 /// What a ruling changes.
 #[derive(Clone, Copy)]
@@ -74,6 +75,7 @@ impl Machine {
                     self.admission(tables, plan, id, *call, digits, *units)
                 }
             },
+            LentEvent::Incoming { id, call, units } => self.answer_to(tables, id, *call, *units),
             LentEvent::Change { id, call, units } => {
                 self.bandwidth_change(tables, id, *call, *units)
             }
@@ -183,8 +185,9 @@ impl Machine {
                     units,
                     remote,
                     owner: *owner,
-                    source: *source,
+                    source: Some(*source),
                     target: *target,
+                    answerer: kind.answerer(name),
                 };
                 match &self.calls().fits_new(tables, admitted) {
                     Err(over) => LentRuling::OverLimit {
@@ -208,6 +211,80 @@ impl Machine {
                     },
                 }
             }
+        }
+    }
+
+    // ---- answers
+
+    #[tactic(auto, using(crate::proofs::AdmittingLemmas::caller_has_id, bandwidth::proofs::CallLemmas::closed_if_none), unfolding(crate::specs::Ruling::ruling_of))]
+    /// The ruling on an endpoint's answer to a call. The refusals are tried in this order: the
+    /// endpoint is not registered; a call of the number is open that was not admitted to it; a sum
+    /// of the call would be above its limit. One that was admitted to it stays as it is.
+    #[inline(never)]
+    pub fn answer_to<'a>(
+        &'a self,
+        tables: &Tables,
+        id: &'a Name,
+        call: u32,
+        units: Units,
+    ) -> LentRuling<'a>
+        ensures { ruling_meant result ≡ Spec.ruling_of (under tables.now.commands self.now)
+            (Events.Answering id.now call units) }
+    {
+        let Some(endpoint) = self.registry().endpoint(id) else {
+            return LentRuling::CallerNotRegistered { call };
+        };
+        match self.calls().get(call) {
+            Some(held) if is_that(id, &held.answerer) => repeated(endpoint, call, held.units),
+            Some(_) => LentRuling::CallOpen {
+                call,
+                source: endpoint.zone(),
+            },
+            None => self.answer_new(tables, endpoint, call, units),
+        }
+    }
+
+    /// The same if no call of the number is open: it comes from a zone of another gatekeeper.
+    fn answer_new<'a>(
+        &self,
+        tables: &Tables,
+        endpoint: &'a Endpoint,
+        call: u32,
+        units: Units,
+    ) -> LentRuling<'a>
+        requires fresh { is_open self.now.calls call ≡ false }
+        ensures { ruling_meant result ≡ Spec.answering_to (under tables.now.commands self.now)
+            endpoint.now call units None }
+    {
+        let zone = endpoint.zone();
+        let answered = &OpenCall {
+            number: call,
+            units,
+            remote: true,
+            owner: *endpoint.id(),
+            source: None,
+            target: *zone,
+            answerer: None,
+        };
+        let kind = kind_of(endpoint);
+        let address = endpoint.address();
+        match &self.calls().fits_new(tables, answered) {
+            Err(over) => LentRuling::OverLimit {
+                call,
+                source: zone,
+                kind,
+                name: endpoint.id(),
+                address,
+                over: *over,
+            },
+            Ok(()) => LentRuling::Answering {
+                call,
+                owner: endpoint.id(),
+                zone,
+                units,
+                kind,
+                address,
+            },
         }
     }
 
@@ -301,5 +378,40 @@ impl Machine {
         LentRuling::Reloaded {
             version: self.next_version(),
         }
+    }
+}
+
+/// The answer of the endpoint to which the open call was admitted.
+fn repeated(endpoint: &Endpoint, call: u32, units: Units) -> LentRuling<'_>
+    ensures { ruling_meant result ≡ Spec.repeated_answer endpoint.now call units }
+{
+    LentRuling::Repeated {
+        call,
+        zone: endpoint.zone(),
+        units,
+        kind: kind_of(endpoint),
+        name: endpoint.id(),
+        address: endpoint.address(),
+    }
+}
+
+/// Whether it is this ID.
+fn is_that(id: &Name, answerer: &Option<Name>) -> bool
+    ensures { result ≡ Spec.is_that id.now answerer.now }
+{
+    match answerer {
+        Some(answerer) => *answerer == *id,
+        None => false,
+    }
+}
+
+/// What kind of destination the endpoint is.
+fn kind_of(endpoint: &Endpoint) -> DestinationKind
+    ensures { destination_meant result endpoint.now.id endpoint.now.address
+        ≡ destination_of endpoint.now.kind endpoint.now }
+{
+    match endpoint.kind() {
+        EndpointKind::Gateway => DestinationKind::Gateway,
+        EndpointKind::Terminal => DestinationKind::Terminal,
     }
 }

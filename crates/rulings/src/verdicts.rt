@@ -23,10 +23,12 @@ impl LentEvent<'_> {
                 id: **id,
                 reason: UnregisterRefusal::RecordFull,
             }),
-            LentEvent::Admit { call, .. } => Some(Reply::AdmitRefused {
-                call: *call,
-                reason: AdmitRefusal::RecordFull,
-            }),
+            LentEvent::Admit { call, .. } | LentEvent::Incoming { call, .. } => Some(
+                Reply::AdmitRefused {
+                    call: *call,
+                    reason: AdmitRefusal::RecordFull,
+                },
+            ),
             LentEvent::Change { call, .. } => Some(Reply::ChangeRefused {
                 call: *call,
                 reason: ChangeRefusal::RecordFull,
@@ -51,10 +53,12 @@ impl LentEvent<'_> {
                 id: **id,
                 reason: UnregisterRefusal::NoMemory,
             }),
-            LentEvent::Admit { call, .. } => Some(Reply::AdmitRefused {
-                call: *call,
-                reason: AdmitRefusal::NoMemory,
-            }),
+            LentEvent::Admit { call, .. } | LentEvent::Incoming { call, .. } => Some(
+                Reply::AdmitRefused {
+                    call: *call,
+                    reason: AdmitRefusal::NoMemory,
+                },
+            ),
             LentEvent::Change { call, .. } => Some(Reply::ChangeRefused {
                 call: *call,
                 reason: ChangeRefusal::NoMemory,

@@ -157,6 +157,19 @@ impl<J: House, R: Threads + Wait> Answerer for Sitting<'_, J, R> {
                 };
                 self.replied(*sequence, event)
             }
+            Request::Incoming {
+                sequence,
+                id,
+                call,
+                units,
+            } => {
+                let event = &LentEvent::Incoming {
+                    id,
+                    call: *call,
+                    units: *units,
+                };
+                self.replied(*sequence, event)
+            }
             Request::Change {
                 sequence,
                 id,
@@ -201,6 +214,19 @@ impl<J: House, R: Threads + Wait> Answerer for Sitting<'_, J, R> {
                     id,
                     call: *call,
                     digits,
+                    units: *units,
+                };
+                self.reply_into(*sequence, event, reply);
+            }
+            Request::Incoming {
+                sequence,
+                id,
+                call,
+                units,
+            } => {
+                let event = &LentEvent::Incoming {
+                    id,
+                    call: *call,
                     units: *units,
                 };
                 self.reply_into(*sequence, event, reply);

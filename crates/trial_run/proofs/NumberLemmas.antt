@@ -17,13 +17,14 @@ use Rattle.compiler.specs.Zones.{number_in, view_of, view_of_name}
 use Rattle.registry.specs.Endpoint.{EndpointParts}
 use Rattle.rulings.specs.declared.routes.Route.{Route}
 use Rattle.rulings.specs.declared.routes.Route.TheVariants.{To, Refused}
-use Rattle.rulings.specs.Routing.{route_of, target_zone_of, zone_named}
-use Rattle.call_rows.specs.declared.rows.AdmittedCall.{AdmittedCall}
+use Rattle.rulings.specs.Routing.{zone_named}
+use Rattle.call_rows.specs.declared.rows.AskedCall.{AskedCall}
 use Rattle.call_rows.specs.declared.rows.NumberedAdmission.{NumberedAdmission}
 use Rattle.trial_run.specs.declared.report_rows.CandidateAnswer.TheVariants.{Led, CallerNotRegistered}
 use Rattle.trial_run.specs.declared.touched.Touched.TheVariants.{Neither}
-use Rattle.trial_run.specs.Answers.{candidate_among}
+use Rattle.trial_run.specs.Answers.{candidate_among, led_with}
 use Rattle.trial_run.specs.Numbers.{local_number, number_if_local, touched_among, touched_by}
+use Rattle.trial_run.specs.Peaks.{target_with}
 use Rattle.trial_run.specs.Peaks as Peaks
 use Rattle.trial_run.specs.Touched.{touches_zone, touching}
 use Rattle.trial_run.specs.Touched as Numbered
@@ -132,7 +133,7 @@ local_parts commands name source h = by (is_local commands name) h
     by false h = absurd (let no : ⊥ = cc in no)
 
 -- the number of a target zone
-number_of_target : (commands : List Command) (caller target : List ℕ) (zone : Option ℕ)
+pub number_of_target : (commands : List Command) (caller target : List ℕ) (zone : Option ℕ)
     → IsAccepted commands → zone_named commands caller zone ≡ Some target
     → unwrap_or zone (number_in (zones_of commands) caller)
     ≡ number_in (zones_of commands) target
@@ -149,45 +150,47 @@ number_of_target commands caller target (Some number) accepted h =
         subst (λ n. number ≡ number_in (zones_of commands) n) (same_Some z.0 target h)
         (sym (number_of_place (zones_of commands) number z (names_differ commands accepted) at))
 
--- the answer, and the zones that are touched, if the caller's zone is local
-pub led_answer : (commands : List Command) (kept : List EndpointParts) (asked : AdmittedCall)
-    (source : ℕ) (route : Route) → local_number commands asked.zone ≡ Some source
-    → route ≡ route_of commands kept asked.zone asked.digits
+-- the answer, and the zones that are touched, if the zone is local
+pub led_answer : (commands : List Command) (kept : List EndpointParts) (asked : AskedCall)
+    (digits : Option (List ℕ)) (source : ℕ) (route : Route)
+    → local_number commands asked.zone ≡ Some source
+    → asked.digits ≡ digits → route ≡ led_with commands kept asked digits
     → Led route ≡ candidate_among commands kept asked
-led_answer commands kept asked source route local is =
+led_answer commands kept asked digits source route local dialled is =
     let here = (local_parts commands asked.zone source local).0 in
-    ap (λ r. Led r) is
-    ∙ sym (ap (λ t. if t then Led (route_of commands kept asked.zone asked.digits)
+    ap (λ r. Led r) (is ∙ ap (led_with commands kept asked) (sym dialled))
+    ∙ sym (ap (λ t. if t then Led (led_with commands kept asked asked.digits)
     else CallerNotRegistered) here)
 
-pub target_number : (commands : List Command) (kept : List EndpointParts) (asked : AdmittedCall)
-    (source : ℕ) (zone : Option ℕ) (route : Route) → IsAccepted commands
+pub target_number : (commands : List Command) (kept : List EndpointParts) (asked : AskedCall)
+    (digits : Option (List ℕ)) (source : ℕ) (zone : Option ℕ) (route : Route)
     → local_number commands asked.zone ≡ Some source
-    → route ≡ route_of commands kept asked.zone asked.digits
-    → zone_named commands asked.zone zone
-    ≡ Some (target_zone_of commands kept asked.zone asked.digits)
+    → asked.digits ≡ digits → route ≡ led_with commands kept asked digits
+    → unwrap_or zone (number_in (zones_of commands) asked.zone)
+    ≡ number_in (zones_of commands) (target_with commands kept asked digits)
     → touched_by route source (unwrap_or zone source) ≡ touched_among commands kept asked
-target_number commands kept asked source zone route accepted local is named =
+target_number commands kept asked digits source zone route local dialled is numbered =
     let parts = local_parts commands asked.zone source local in
-    let led = route_of commands kept asked.zone asked.digits in
-    let target = target_zone_of commands kept asked.zone asked.digits in
+    let led = led_with commands kept asked in
+    let target = target_with commands kept asked in
     let zones = zones_of commands in
+    let caller = number_in zones asked.zone in
     ap (λ r. touched_by r source (unwrap_or zone source)) is
-    ∙ ap (λ n. touched_by led n (unwrap_or zone n)) (sym parts.1)
-    ∙ ap (λ n. touched_by led (number_in zones asked.zone) n)
-    (number_of_target commands asked.zone target zone accepted named)
-    ∙ sym (ap (λ t. if t then touched_by led (number_in zones asked.zone) (number_in zones target)
-    else Neither) parts.0)
+    ∙ ap (λ n. touched_by (led digits) n (unwrap_or zone n)) (sym parts.1)
+    ∙ ap (λ n. touched_by (led digits) caller n) numbered
+    ∙ ap (λ d. touched_by (led d) caller (number_in zones (target d))) (sym dialled)
+    ∙ sym (ap (λ t. if t then touched_by (led asked.digits) caller
+    (number_in zones (target asked.digits)) else Neither) parts.0)
 
--- if it is not, the caller is not registered, and no zone is touched
+-- if it is not, the answer is that the caller is not registered, and no zone is touched
 pub unregistered_row : (commands : List Command) (kept : List EndpointParts)
-    (asked : AdmittedCall) → local_number commands asked.zone ≡ None
+    (asked : AskedCall) → local_number commands asked.zone ≡ None
     → (candidate_among commands kept asked ≡ CallerNotRegistered)
     × (touched_among commands kept asked ≡ Neither)
 unregistered_row commands kept asked h =
-    by (is_local commands asked.zone) (route_of commands kept asked.zone asked.digits)
+    by (is_local commands asked.zone) (led_with commands kept asked asked.digits)
     (number_in (zones_of commands) asked.zone)
-    (number_in (zones_of commands) (target_zone_of commands kept asked.zone asked.digits)) h
+    (number_in (zones_of commands) (target_with commands kept asked asked.digits)) h
   where
     by : (t : Bool) (route : Route) (source target : ℕ)
         → (if t then Some source else None) ≡ None
@@ -197,18 +200,18 @@ unregistered_row commands kept asked h =
     by false route source target h = (refl, refl)
 
 -- ---- the calls that touch a zone
-touches_alike : (commands : List Command) (kept : List EndpointParts) (asked : AdmittedCall) (k : ℕ)
+touches_alike : (commands : List Command) (kept : List EndpointParts) (asked : AskedCall) (k : ℕ)
     (z : List ℕ × ZoneKind) → IsAccepted commands → slice_get (zones_of commands) k ≡ Some z
     → touches_zone k (touched_among commands kept asked)
     ≡ Peaks.touches_among commands kept z.0 asked
 touches_alike commands kept asked k z accepted at =
-    by (is_local commands asked.zone) (route_of commands kept asked.zone asked.digits)
+    by (is_local commands asked.zone) (led_with commands kept asked asked.digits)
   where
     zones : List (List ℕ × ZoneKind)
     zones = zones_of commands
 
     target : List ℕ
-    target = target_zone_of commands kept asked.zone asked.digits
+    target = target_with commands kept asked asked.digits
 
     same : (name : List ℕ) → (number_in zones name == k) ≡ bytes_eq z.0 name
     same name = same_zone zones k z (names_differ commands accepted) at name

@@ -1,5 +1,5 @@
 -- What a candidate configuration answers to the admissions of a record.
-use Rattle.std.specs.Prelude.{ℕ, Bool, true, false, List, Some, codes, bytes_eq, if◌then◌else◌}
+use Rattle.std.specs.Prelude.{ℕ, Bool, true, false, List, Option, Some, None, codes, bytes_eq, if◌then◌else◌}
 use Rattle.command_reader.specs.declared.commands.Command.{Command}
 use Rattle.command_reader.specs.Zones.{is_local}
 use Rattle.registry.specs.Endpoint.{EndpointParts}
@@ -7,7 +7,7 @@ use Rattle.registry.specs.Registration.{kept_zones}
 use Rattle.rulings.specs.declared.routes.Route.{Route}
 use Rattle.rulings.specs.Routes.{route_text}
 use Rattle.rulings.specs.Routing.{route_of}
-use Rattle.call_rows.specs.declared.rows.AdmittedCall.{AdmittedCall}
+use Rattle.call_rows.specs.declared.rows.AskedCall.{AskedCall}
 use Rattle.call_rows.specs.declared.rows.NumberedAdmission.{NumberedAdmission}
 use Rattle.trial_run.specs.declared.report_rows.CandidateAnswer.{CandidateAnswer}
 use Rattle.trial_run.specs.declared.report_rows.CandidateAnswer.TheVariants.{Led, CallerNotRegistered}
@@ -16,16 +16,22 @@ use Rattle.trial_run.specs.declared.report_rows.Verdict.{Verdict}
 use Rattle.trial_run.specs.declared.report_rows.Verdict.TheVariants.{Same, Changed}
 
 -- ---- the answer
+-- where the digits lead; without any it is the answer to a call, which is given where it was before
+abbrev pub led_with : List Command → List EndpointParts → AskedCall → Option (List ℕ) → Route
+led_with commands kept asked None = asked.route
+led_with commands kept asked (Some digits) = route_of commands kept asked.zone digits
+
 -- over endpoints whose zone is local under the commands
-abbrev pub candidate_among : List Command → List EndpointParts → AdmittedCall → CandidateAnswer
+abbrev pub candidate_among : List Command → List EndpointParts → AskedCall → CandidateAnswer
 candidate_among commands kept asked =
     if is_local commands asked.zone
-    then Led (route_of commands kept asked.zone asked.digits)
+    then Led (led_with commands kept asked asked.digits)
     else CallerNotRegistered
 
 -- where the digits lead a caller of the recorded zone, by the commands and by those endpoints whose
--- zone is local there; if the caller's zone is not local there, the caller is not registered
-abbrev pub candidate_of : List Command → List EndpointParts → AdmittedCall → CandidateAnswer
+-- zone is local there, and of the answer to a call what was recorded; if the recorded zone is not
+-- local there, the caller, or who answers, is not registered
+abbrev pub candidate_of : List Command → List EndpointParts → AskedCall → CandidateAnswer
 candidate_of commands endpoints asked =
     candidate_among commands (kept_zones commands endpoints) asked
 
@@ -47,7 +53,7 @@ is_same Changed = false
 abbrev pub row_with : NumberedAdmission → CandidateAnswer → ReportRow
 row_with admission candidate = record {
   number = admission.number;
-  digits = Some admission.asked.digits;
+  digits = admission.asked.digits;
   recorded = admission.asked.route;
   candidate = candidate;
   verdict = verdict_of admission.asked.route candidate;

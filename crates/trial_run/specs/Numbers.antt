@@ -7,10 +7,11 @@ use Rattle.compiler.specs.Zones.{number_in}
 use Rattle.registry.specs.Endpoint.{EndpointParts}
 use Rattle.rulings.specs.declared.routes.Route.{Route}
 use Rattle.rulings.specs.declared.routes.Route.TheVariants.{To, Refused}
-use Rattle.rulings.specs.Routing.{route_of, target_zone_of}
-use Rattle.call_rows.specs.declared.rows.AdmittedCall.{AdmittedCall}
+use Rattle.call_rows.specs.declared.rows.AskedCall.{AskedCall}
 use Rattle.trial_run.specs.declared.touched.Touched.{Touched}
 use Rattle.trial_run.specs.declared.touched.Touched.TheVariants.{Neither, Zones}
+use Rattle.trial_run.specs.Answers.{led_with}
+use Rattle.trial_run.specs.Peaks.{target_with}
 
 -- the number of a zone that is local
 abbrev pub local_number : List Command → List ℕ → Option ℕ
@@ -28,10 +29,10 @@ touched_by (Refused refusal) source target = Neither
 
 -- those that the call of an admission touches under commands, over endpoints whose zone is local
 -- there
-abbrev pub touched_among : List Command → List EndpointParts → AdmittedCall → Touched
+abbrev pub touched_among : List Command → List EndpointParts → AskedCall → Touched
 touched_among commands kept asked =
     if is_local commands asked.zone
-    then touched_by (route_of commands kept asked.zone asked.digits)
+    then touched_by (led_with commands kept asked asked.digits)
     (number_in (zones_of commands) asked.zone)
-    (number_in (zones_of commands) (target_zone_of commands kept asked.zone asked.digits))
+    (number_in (zones_of commands) (target_with commands kept asked asked.digits))
     else Neither

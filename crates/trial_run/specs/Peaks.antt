@@ -3,7 +3,7 @@ use Rattle.std.specs.Prelude.{ℕ, max, Bool, false, ◌&&◌, ◌||◌, List, [
 use Rattle.command_reader.specs.declared.commands.Command.{Command}
 use Rattle.registry.specs.Endpoint.{EndpointParts}
 use Rattle.rulings.specs.Routing.{target_zone_of}
-use Rattle.call_rows.specs.declared.rows.AdmittedCall.{AdmittedCall}
+use Rattle.call_rows.specs.declared.rows.AskedCall.{AskedCall}
 use Rattle.call_rows.specs.declared.rows.NumberedAdmission.{NumberedAdmission}
 use Rattle.call_rows.specs.OpenCalls.{Open, opens_after, seen_after, use_of}
 use Rattle.call_rows.specs.Rows.{RowParts, leads_somewhere, admissions_of}
@@ -28,15 +28,20 @@ abbrev pub is_destination : CandidateAnswer → Bool
 is_destination (Led route) = leads_somewhere route
 is_destination CallerNotRegistered = false
 
--- the call of an admission touches the zone of its caller and that of its destination, if it has a
--- destination under the commands
-abbrev pub touches_among : List Command → List EndpointParts → List ℕ → AdmittedCall → Bool
+-- the zone of the destination; an answer is given in the zone of the endpoint itself
+abbrev pub target_with : List Command → List EndpointParts → AskedCall → Option (List ℕ) → List ℕ
+target_with commands kept asked None = asked.zone
+target_with commands kept asked (Some digits) = target_zone_of commands kept asked.zone digits
+
+-- the call of an admission touches the zone of the endpoint that asked and that of its destination,
+-- if it has a destination under the commands
+abbrev pub touches_among : List Command → List EndpointParts → List ℕ → AskedCall → Bool
 touches_among commands kept zone asked =
     is_destination (candidate_among commands kept asked)
     && (bytes_eq zone asked.zone
-    || bytes_eq zone (target_zone_of commands kept asked.zone asked.digits))
+    || bytes_eq zone (target_with commands kept asked asked.digits))
 
-abbrev pub touches_if : (AdmittedCall → Bool) → Option NumberedAdmission → Bool
+abbrev pub touches_if : (AskedCall → Bool) → Option NumberedAdmission → Bool
 touches_if touches None = false
 touches_if touches (Some admission) = touches admission.asked
 

@@ -6,18 +6,19 @@ ghost use Rattle.rulings.specs.Lent.{route_meant};
 ghost use Rattle.trial_run.specs.Numbers.{local_number, number_if_local, touched_by};
 ghost use Rattle.trial_run.specs.TriedRow.{IsTried};
 
+use crate::held_routes::lent_of;
 use crate::held_rows::HeldRow;
 use crate::touched::Touched;
 use crate::tried_rows::TriedRow;
 use call_rows::NumberedAdmission;
 use compiler::{Tables, ZoneNo, ZoneView};
-use gk_terms::Name;
+use gk_terms::{Dialled, Name};
 use registry::Registry;
 use rulings::{LentRoute, led};
 use std::alloc::{AllocError, Global};
 
-/// What the candidate answers to an admission of the recorded caller's zone, and the zones that its
-/// call then touches. The endpoints are those of zones that are local there.
+/// What the candidate answers to an admission of the recorded zone, and the zones that its call
+/// then touches. The endpoints are those of zones that are local there.
 pub(crate) fn try_admission(
     alloc: Global,
     tables: &Tables,
@@ -34,7 +35,7 @@ pub(crate) fn try_admission(
     }
 }
 
-/// The same, if the caller's zone is local; this is its number.
+/// The same, if the zone is local; this is its number.
 fn try_local(
     alloc: Global,
     tables: &Tables,
@@ -47,14 +48,53 @@ fn try_local(
     ensures { IfOk result (λ tried.
         IsTried tables.now.commands registry.now.endpoints admission.now tried) }
 {
-    let asked = &admission.asked;
-    let led = led(tables, registry, &asked.zone, &asked.digits);
+    match &admission.asked.digits {
+        Some(digits) => try_dialled(alloc, tables, registry, admission, digits, source),
+        None => try_answer(alloc, tables, registry, admission, source),
+    }
+}
+
+/// The same of an admission for which this was dialled.
+fn try_dialled(
+    alloc: Global,
+    tables: &Tables,
+    registry: &Registry,
+    admission: &NumberedAdmission,
+    digits: &Dialled,
+    source: u32,
+) -> Result<TriedRow, AllocError>
+    requires accepted { IsAccepted tables.now.commands }
+    requires local { local_number tables.now.commands admission.now.asked.zone ≡ Some source }
+    requires dialled { admission.now.asked.digits ≡ Some digits.now }
+    ensures { IfOk result (λ tried.
+        IsTried tables.now.commands registry.now.endpoints admission.now tried) }
+{
+    let led = led(tables, registry, &admission.asked.zone, digits);
     let touched = touched_of(&led.route, source, led.zone);
     let row = HeldRow::led(alloc, admission, &led.route)?;
     Ok(TriedRow { row, touched })
 }
 
-/// The same, if the caller's zone is not local.
+/// The same of the answer to a call, which is given as was recorded.
+fn try_answer(
+    alloc: Global,
+    tables: &Tables,
+    registry: &Registry,
+    admission: &NumberedAdmission,
+    source: u32,
+) -> Result<TriedRow, AllocError>
+    requires local { local_number tables.now.commands admission.now.asked.zone ≡ Some source }
+    requires answer { admission.now.asked.digits ≡ None }
+    ensures { IfOk result (λ tried.
+        IsTried tables.now.commands registry.now.endpoints admission.now tried) }
+{
+    let route = lent_of(&admission.asked.route);
+    let touched = touched_of(&route, source, None);
+    let row = HeldRow::led(alloc, admission, &route)?;
+    Ok(TriedRow { row, touched })
+}
+
+/// The same, if the zone is not local.
 #[tactic(auto, using(crate::proofs::NumberLemmas::unregistered_row))]
 fn try_unregistered(
     alloc: Global,
@@ -73,8 +113,8 @@ fn try_unregistered(
     })
 }
 
-/// The zones that a call along this route touches: that of the caller, and that of the destination,
-/// which is the caller's own if there is no number.
+/// The zones that a call along this route touches: that of the endpoint that asked, and that of the
+/// destination, which is the same one if there is no number.
 fn touched_of(route: &LentRoute, source: u32, target: Option<ZoneNo>) -> Touched
     ensures { result ≡ touched_by (route_meant route.now) source (unwrap_or target source) }
 {

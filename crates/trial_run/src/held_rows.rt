@@ -11,6 +11,7 @@ use crate::held_answers::HeldAnswer;
 use crate::held_routes::{HeldRoute, lent_of};
 use crate::report_rows::{CandidateAnswer, ReportRow, Verdict};
 use call_rows::NumberedAdmission;
+use gk_terms::Dialled;
 use rulings::{LentRoute, Route};
 use short_texts::PackedDigits;
 use std::alloc::{AllocError, Global};
@@ -25,13 +26,12 @@ const _: () = prove!(size_of::<HeldRow>() == 96);
 #[derive(Drop)]
 pub(crate) struct HeldRow {
     number: u32,
-    digits: PackedDigits,
+    digits: Option<PackedDigits>,
     recorded: HeldRoute,
     answer: HeldAnswer,
 }
 
 impl Model for HeldRow {
-    ghost use Rattle.std.specs.Prelude.{Some};
     ghost use Rattle.trial_run.specs.declared.report_rows.ReportRow.{ReportRow};
     ghost use Rattle.trial_run.specs.HeldAnswers.{answer_held, verdict_held};
 
@@ -39,7 +39,7 @@ impl Model for HeldRow {
 
     ghost view = { λ r. record {
       number = r.number;
-      digits = Some r.digits;
+      digits = r.digits;
       recorded = r.recorded;
       candidate = answer_held r.recorded r.answer;
       verdict = verdict_held r.answer;
@@ -47,8 +47,8 @@ impl Model for HeldRow {
 }
 
 impl HeldRow {
-    /// The row of an admission that the candidate leads to this route. Takes memory only for names
-    /// of more than 19 characters.
+    /// The row of an admission to which the candidate answers this route. Takes memory only for
+    /// names of more than 19 characters.
     pub(crate) fn led(
         alloc: Global,
         admission: &NumberedAdmission,
@@ -61,7 +61,7 @@ impl HeldRow {
         HeldRow::of(alloc, admission, answer)
     }
 
-    /// The row of an admission whose caller is not registered under the candidate. Takes memory
+    /// The row of an admission whose zone is not local in the candidate. Takes memory
     /// only for a name of more than 19 characters.
     #[tactic(auto, using(crate::proofs::SpelledLemmas::never_unregistered))]
     pub(crate) fn unregistered(
@@ -85,7 +85,7 @@ impl HeldRow {
         let asked = &admission.asked;
         Ok(HeldRow {
             number: admission.number,
-            digits: PackedDigits::of(&asked.digits),
+            digits: packed(&asked.digits),
             recorded: HeldRoute::of(alloc, &lent_of(&asked.route))?,
             answer,
         })
@@ -105,11 +105,31 @@ impl HeldRow {
         let recorded = self.recorded.route();
         ReportRow {
             number: self.number,
-            digits: Some(self.digits.digits()),
+            digits: unpacked(&self.digits),
             recorded,
             candidate: answer_of(&recorded, &self.answer),
             verdict: verdict_in(&self.answer),
         }
+    }
+}
+
+/// Digits in few bytes, if there are any.
+fn packed(digits: &Option<Dialled>) -> Option<PackedDigits>
+    ensures { result ≡ digits.now }
+{
+    match digits {
+        Some(digits) => Some(PackedDigits::of(digits)),
+        None => None,
+    }
+}
+
+/// The digits, if there are any.
+fn unpacked(digits: &Option<PackedDigits>) -> Option<Dialled>
+    ensures { result ≡ digits.now }
+{
+    match digits {
+        Some(digits) => Some(digits.digits()),
+        None => None,
     }
 }
 

@@ -11,9 +11,10 @@ use gk_terms::Name;
 use short_texts::KeptName;
 use std::marker::Model;
 
-/// What a trial reports: a row for each recorded admission that was routed, in the order of the
-/// record; the greatest use of each zone that the candidate declares, in the order of its lines;
-/// and the counts. It lends nothing of the snapshot. A contract sees it as `ReportParts`.
+/// What a trial reports: a row for each recorded admission that was routed and each recorded answer
+/// to a call, in the order of the record; the greatest use of each zone that the candidate
+/// declares, in the order of its lines; and the counts. It lends nothing of the snapshot. A
+/// contract sees it as `ReportParts`.
 #[derive(Drop)]
 pub struct Report {
     pub(crate) rows: Vec<Vec<HeldRow>>,

@@ -6,9 +6,10 @@ use rulings::Route;
 /// What the candidate answers to a recorded admission.
 #[derive(Clone, Copy)]
 pub enum CandidateAnswer {
-    /// The digits lead there.
+    /// The digits lead there. An answer to a call is what was recorded.
     Led(Route),
-    /// The recorded zone of the caller is not a local zone of the candidate.
+    /// The recorded zone, of the caller or of the endpoint that answered, is not a local zone of
+    /// the candidate.
     CallerNotRegistered,
 }
 
@@ -21,14 +22,15 @@ pub enum Verdict {
     Changed,
 }
 
-/// A recorded admission that was routed, and what the candidate answers to it.
+/// A recorded admission that was routed, or a recorded answer to a call, and what the candidate
+/// answers to it.
 #[derive(Clone, Copy)]
 pub struct ReportRow {
     /// The number of its entry in the record.
     pub number: u32,
     /// What was dialled; none if it was the answer to a call, which dials nothing.
     pub digits: Option<Dialled>,
-    /// Where the digits led.
+    /// Where the digits led; of an answer to a call the endpoint that gave it.
     pub recorded: Route,
     /// What the candidate answers.
     pub candidate: CandidateAnswer,

@@ -1,6 +1,6 @@
 //! What the workers of a trial tell a gate.
 
-use crate::test_trials::{CANDIDATE, snapshot_of, tables_of};
+use crate::test_trials::{CALLS, CANDIDATE, snapshot_of, tables_of};
 use gk_terms::Gate;
 use std::alloc::Global;
 use std::sync::Wait;
@@ -70,7 +70,7 @@ fn is_tried<R: Threads + Wait, G: Gate>(rt: &R, alloc: Global, workers: u32, gat
     let Some(tables) = tables_of(alloc, CANDIDATE) else {
         return false;
     };
-    let Some(snapshot) = snapshot_of(alloc, &tables) else {
+    let Some(snapshot) = snapshot_of(alloc, &tables, CALLS) else {
         return false;
     };
     trial(rt, alloc, &snapshot, &tables, workers, gate).is_ok()

@@ -27,13 +27,30 @@ no shutdown\n\
 end\n";
 
 /// The calls. The second is released, and the last one was refused for a limit.
-const CALLS: &[u8] = b"number,event,call,zone,digits,units,granted,route\n\
+pub(crate) const CALLS: &[u8] = b"number,event,call,zone,digits,units,granted,route\n\
 5,ARQ,1001,gk-a,9123,640,yes,ZONE gk-y 10.9.0.2:1719\n\
 6,ARQ,1002,gk-a,4085551234,1280,yes,GW gb1 10.0.2.1:1720\n\
 7,ARQ,1003,gk-b,9124,640,yes,ZONE gk-y 10.9.0.2:1719\n\
 8,DRQ,1002,,,,,\n\
 9,ARQ,1004,gk-a,2#9123,1280,yes,ZONE gk-x 10.9.0.1:1719\n\
 10,ARQ,1005,gk-a,9125,1280,no,ZONE gk-y 10.9.0.2:1719\n";
+
+/// Calls of which two were answered for other gatekeepers. The second answer was refused for a
+/// limit.
+pub(crate) const ANSWERED: &[u8] = b"number,event,call,zone,digits,units,granted,route\n\
+5,ANS,2001,gk-b,,1280,yes,GW gb1 10.0.2.1:1720\n\
+6,ANS,2002,gk-a,,1281,no,TERM ta 10.0.1.1:1720\n\
+7,ARQ,1001,gk-a,4085551234,640,yes,GW gb1 10.0.2.1:1720\n\
+11,DRQ,2001,,,,,\n";
+
+/// Answers in a zone that the candidate has, in one that is another gatekeeper's there, and in one
+/// that it does not have.
+pub(crate) const ANSWERED_ELSEWHERE: &[u8] = b"number,event,call,zone,digits,units,granted,route\n\
+1,ANS,1,gk-a,,640,yes,TERM t 10.0.1.9:1720\n\
+2,BRQ,1,,,800,,\n\
+3,ANS,2,gk-x,,1280,yes,GW g 10.9.0.3:1720\n\
+4,ANS,3,gk-c,,1280,yes,GW g 10.0.3.1:1720\n\
+5,DRQ,1,,,,,\n";
 
 /// The tables of a configuration.
 pub(crate) fn tables_of(alloc: Global, configuration: &[u8]) -> Option<Arc<Tables>> {
@@ -42,8 +59,8 @@ pub(crate) fn tables_of(alloc: Global, configuration: &[u8]) -> Option<Arc<Table
     Arc::new(alloc, tables).ok()
 }
 
-/// The calls, with the endpoints that were registered after them.
-pub(crate) fn snapshot_of(alloc: Global, tables: &Tables) -> Option<Snapshot> {
+/// The calls of a call file, with the endpoints that were registered after them.
+pub(crate) fn snapshot_of(alloc: Global, tables: &Tables, calls: &[u8]) -> Option<Snapshot> {
     let mut registry = Registry::new(alloc, 4);
     for (kind, id, zone, ip) in [
         (
@@ -60,7 +77,7 @@ pub(crate) fn snapshot_of(alloc: Global, tables: &Tables) -> Option<Snapshot> {
             return None;
         }
     }
-    let calls = read_calls(alloc, CALLS).ok()?;
+    let calls = read_calls(alloc, calls).ok()?;
     Some(calls.with_endpoints(registry))
 }
 

@@ -13,8 +13,9 @@ use Rattle.gk_terms.specs.Fields.{◌>>=◌}
 use Rattle.gk_terms.specs.Number.{number_of}
 use Rattle.call_rows.specs.Rows.{RowParts, is_of_a_call}
 use Rattle.call_rows.specs.declared.rows.AdmittedCall.{AdmittedCall}
+use Rattle.call_rows.specs.declared.rows.AnsweredCall.{AnsweredCall}
 use Rattle.call_rows.specs.declared.rows.CallEvent.{CallEvent}
-use Rattle.call_rows.specs.declared.rows.CallEvent.TheVariants.{Admitted, Changed, Released}
+use Rattle.call_rows.specs.declared.rows.CallEvent.TheVariants.{Admitted, Answered, Changed, Released}
 use Rattle.call_files.specs.ReadBack.{IsEvent, IsRow}
 use Rattle.call_files.specs.Rows.{counted_at, event_in, fields_from, fields_said, granted_of, granted_word, is_whole, row_in, row_of, text_at}
 use Rattle.call_files.specs.declared.faults.CallsFaultKind.{CallsFaultKind}
@@ -46,6 +47,15 @@ are_text number (Admitted a) small (call, zone, digits, units, route) =
     (and_from _ _ (decimal_utf8 a.units (omega (arith, units)))
     (and_from _ _ (granted_utf8 a.granted)
     (and_from _ _ (route_utf8 a.route route) refl)))))))
+are_text number (Answered a) small (call, zone, units, route) =
+    and_from _ _ (decimal_utf8 number (omega (arith, small)))
+    (and_from _ _ (utf8_from_low (codes "ANS") refl)
+    (and_from _ _ (decimal_utf8 a.call (omega (arith, call)))
+    (and_from _ _ (visible_utf8 a.zone (name_visible a.zone zone))
+    (and_from _ _ empty_utf8
+    (and_from _ _ (decimal_utf8 a.units (omega (arith, units)))
+    (and_from _ _ (granted_utf8 a.granted)
+    (and_from _ _ (route_utf8 a.route route) refl)))))))
 are_text number (Changed call units) small (called, united) =
     and_from _ _ (decimal_utf8 number (omega (arith, small)))
     (and_from _ _ (utf8_from_low (codes "BRQ") refl)
@@ -67,6 +77,7 @@ are_text number (Released call) small called =
 
 are_eight : (number : ℕ) (event : CallEvent) → (length (fields_from number event) == 8) ≡ true
 are_eight number (Admitted a) = refl
+are_eight number (Answered a) = refl
 are_eight number (Changed call units) = refl
 are_eight number (Released call) = refl
 
@@ -107,6 +118,16 @@ admitted_back number a (call, zone, digits, units, route) called =
     ∙ step_ok _ a.granted _ (granted_back a.granted)
     ∙ step_ok _ a.route _ (ap (λ o. ok_or o BadField) (route_back a.route route))
 
+answered_back : (number : ℕ) (a : AnsweredCall) → IsEvent (Answered a)
+    → not (a.call == 0) ≡ true → event_in (fields_from number (Answered a)) ≡ Ok (Answered a)
+unfolding field_at
+answered_back number a (call, zone, units, route) called =
+    step_ok _ a.call _ (counted a.call call (at_least_one a.call called))
+    ∙ step_ok _ a.zone _ (ap (λ o. ok_or o BadField) (name_back a.zone zone))
+    ∙ step_ok _ a.units _ (measured a.units units)
+    ∙ step_ok _ a.granted _ (granted_back a.granted)
+    ∙ step_ok _ a.route _ (ap (λ o. ok_or o BadField) (route_back a.route route))
+
 changed_back : (number call units : ℕ) → call < 2 ^ 32 → units < 2 ^ 32
     → not (call == 0) ≡ true
     → event_in (fields_from number (Changed call units)) ≡ Ok (Changed call units)
@@ -125,6 +146,8 @@ event_back : (number : ℕ) (event : CallEvent) → IsEvent event → is_of_a_ca
     → event_in (fields_from number event) ≡ Ok event
 event_back number (Admitted a) h k =
     admitted_back number a h (and_parts (not (a.call == 0)) _ k).0
+event_back number (Answered a) h k =
+    answered_back number a h (and_parts (not (a.call == 0)) _ k).0
 event_back number (Changed call units) (called, united) k =
     changed_back number call units called united k
 event_back number (Released call) h k = released_back number call h k
@@ -133,6 +156,7 @@ event_back number (Released call) h k = released_back number call h k
 first_field : (number : ℕ) (event : CallEvent) → text_at (fields_from number event) 0 ≡ decimal number
 unfolding field_at
 first_field number (Admitted a) = refl
+first_field number (Answered a) = refl
 first_field number (Changed call units) = refl
 first_field number (Released call) = refl
 

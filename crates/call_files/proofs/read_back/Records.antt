@@ -8,7 +8,7 @@ use Rattle.csv.specs.declared.parser.State.TheVariants as st
 use Rattle.csv.proofs.RoundTrip.{read-write}
 use Rattle.call_rows.specs.Rows.{RowParts}
 use Rattle.call_rows.specs.declared.rows.CallEvent.{CallEvent}
-use Rattle.call_rows.specs.declared.rows.CallEvent.TheVariants.{Admitted, Changed, Released}
+use Rattle.call_rows.specs.declared.rows.CallEvent.TheVariants.{Admitted, Answered, Changed, Released}
 use Rattle.call_files.specs.Calls.{HasRecords, calls_text, row_said, rows_said}
 use Rattle.call_files.specs.Rows.{fields_from, fields_said, header}
 
@@ -22,6 +22,7 @@ row_back row tail = by row.event
         (row_text default_writer (fields_from row.number event) ++ tail)
         ≡ Some (fields_from row.number event, st.StartRecord, tail)
     by (Admitted a) = read-write (fields_from row.number (Admitted a)) tail
+    by (Answered a) = read-write (fields_from row.number (Answered a)) tail
     by (Changed call units) = read-write (fields_from row.number (Changed call units)) tail
     by (Released call) = read-write (fields_from row.number (Released call)) tail
 

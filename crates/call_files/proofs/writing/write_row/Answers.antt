@@ -14,6 +14,15 @@ returns-in-Admitted-clause-front g c =
     (fields_from (c.number-number.ensures.value i) (event i)))
     c.write_admitted.ensures.front
 
+pub returns-in-Answered-clause-front : goal.returns-in-Answered-clause-front
+returns-in-Answered-clause-front g c =
+    let event : events.Answered c.in-Answered.asked ≡ c.args.row.now.event = sym c.in-Answered.is ∙ c.event.ensures in
+    front_of_same c.write_answered.result (g.W.Sink.contents c.args.writer.now)
+    (g.W.Sink.contents c.write_answered.new.writer) _ _
+    (λ i. c.args.rows.now ++ row_text default_writer
+    (fields_from (c.number-number.ensures.value i) (event i)))
+    c.write_answered.ensures.front
+
 pub returns-in-Changed-clause-front : goal.returns-in-Changed-clause-front
 returns-in-Changed-clause-front g c =
     let event : events.Changed c.in-Changed.call c.in-Changed.units ≡ c.args.row.now.event = sym c.in-Changed.is ∙ c.event.ensures in

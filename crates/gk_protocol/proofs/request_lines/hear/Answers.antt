@@ -3,7 +3,7 @@ use Rattle.std.specs.Prelude.{None, codes}
 use Rattle.std.proofs.lemmas.Slice.Eq.{text_from_reads}
 use Rattle.gk_terms.specs.Text.{words_of}
 use Rattle.gk_protocol.specs.Registrations.{register_at, no_memory_at}
-use Rattle.gk_protocol.specs.Requests.{admit_at, change_at, release_at, reload_at, try_at, unregister_at}
+use Rattle.gk_protocol.specs.Requests.{admit_at, incoming_at, change_at, release_at, reload_at, try_at, unregister_at}
 use Rattle.gk_protocol.proofs.AskedLemmas.{asks_at, registers_at, heard_request, heard_owner, lacks_none, lacks_options}
 use Rattle.gk_protocol.proofs.request_lines.hear.Goals as goal
 
@@ -59,6 +59,16 @@ returns-in-ARQ g c =
     heard_request g.A.Answerer.may_answer _ _ c.args.line.now _ (admit_at words) None _
     (asks_at c.args.line.now word (codes "ARQ") words (search rules) (search rules) first)
     (lacks_none c.args.line.now) c.admit.ensures
+
+pub returns-in-ANS : goal.returns-in-ANS
+returns-in-ANS g c =
+    let word = c.in-Some.word.now in
+    let words = words_of c.next.new.self in
+    let first = text_from_reads word (codes "ANS") (search rules)
+    (search rules, (search rules, (search rules, tt))) in
+    heard_request g.A.Answerer.may_answer _ _ c.args.line.now _ (incoming_at words) None _
+    (asks_at c.args.line.now word (codes "ANS") words (search rules) (search rules) first)
+    (lacks_none c.args.line.now) c.incoming.ensures
 
 pub returns-in-BRQ : goal.returns-in-BRQ
 returns-in-BRQ g c =

@@ -1,12 +1,9 @@
-use Rattle.std.proofs.Common.{◌≡◌, ◌+◌, ◌∙◌, ◌++◌, ◌∷◌, [], List, Option, Some, None, length, ap, ap₂, sym, subst, refl, arith}
-use Rattle.std.specs.Prelude.{is_some, if◌then◌else◌}
-use Rattle.call_rows.specs.declared.open_at.OpenAt.{OpenAt}
-use Rattle.call_rows.specs.declared.rows.CallEvent.TheVariants as events
+use Rattle.std.proofs.Common.{◌≡◌, ◌∙◌, ◌++◌, ◌∷◌, [], List, length, ap, ap₂, sym, subst, arith}
 use Rattle.call_rows.specs.declared.rows.NumberedAdmission.{NumberedAdmission}
 use Rattle.call_rows.specs.declared.steps.Step.{Step}
 use Rattle.call_rows.specs.declared.steps.StepKind.TheVariants as kinds
 use Rattle.call_rows.specs.OpenCalls.{opens_of}
-use Rattle.call_rows.specs.Rows.{RowParts, SnapshotParts}
+use Rattle.call_rows.specs.Rows.{RowParts, SnapshotParts, said_by}
 use Rattle.call_rows.proofs.KeptLemmas.{IsDone, done, kept_of, no_refusal_fault, refusal_kept}
 use Rattle.call_rows.proofs.RowLemmas.{few_admissions, no_fault}
 use Rattle.call_rows.proofs.snapshots.Snapshot.push_refused.Goals as goal
@@ -14,20 +11,20 @@ use Rattle.call_rows.proofs.snapshots.Snapshot.push_refused.Goals as goal
 made : (c : goal.After-push_reserved)
     → IsDone c.push.new.self.items c.push_reserved.new.self.items
     c.self.inside.calls.entries c.self.inside.endpoints.endpoints c.args.self.now
-    (record { number = c.args.number; event = events.Admitted c.args.call.now })
+    (record { number = c.args.number; event = said_by c.args.asked.now })
 made c =
     let was = c.self.inside in
     let old : SnapshotParts = c.args.self.now in
     let row : RowParts = record {
       number = c.args.number;
-      event = events.Admitted c.args.call.now;
+      event = said_by c.args.asked.now;
     } in
     let admission : NumberedAdmission = record {
       number = c.args.number;
-      asked = c.args.call.now;
+      asked = c.args.asked.now;
     } in
     let free = no_fault old.rows row c.requires.room c.requires.later
-    (no_refusal_fault c.args.call.now (opens_of old.rows) c.requires.refused) in
+    (no_refusal_fault c.args.asked.now (opens_of old.rows) c.requires.refused) in
     let place : c.len-admission.result ≡ length was.admissions.items =
     c.len-admission.ensures ∙ ap length c.reserve-2.ensures.items in
     let step = c.admitted.ensures ∙ ap (λ n. let s : Step = record {
@@ -48,7 +45,7 @@ made c =
     (done was.admissions.items (was.admissions.items ++ admission ∷ []) was.steps.items _ _
     was.calls.entries was.endpoints.endpoints old row c.self.view_is
     (refusal_kept was.admissions.items was.steps.items was.calls.entries
-    old.rows keeps c.args.number c.args.call.now c.requires.refused free c.requires.sound) steps)
+    old.rows keeps c.args.number c.args.asked.now c.requires.refused free c.requires.sound) steps)
 
 pub overflow_cast-admission : goal.overflow_cast-admission
 overflow_cast-admission c =
@@ -78,6 +75,6 @@ invariant_of-self-2 c = (made c).kept
 
 pub returns : goal.returns
 returns c = (
-  no_refusal_fault c.args.call.now (opens_of c.args.self.now.rows) c.requires.refused,
+  no_refusal_fault c.args.asked.now (opens_of c.args.self.now.rows) c.requires.refused,
   (made c).shown,
 )

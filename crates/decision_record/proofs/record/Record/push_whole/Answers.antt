@@ -23,6 +23,7 @@ entry c = record {
   reply = c.args.told.now.reply;
   zone = c.args.told.now.zone;
   route = c.args.told.now.route;
+  opened = c.args.told.now.opened;
 }
 
 -- what is stored with the entry

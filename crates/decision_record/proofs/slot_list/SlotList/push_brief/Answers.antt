@@ -9,14 +9,14 @@ use Rattle.decision_record.proofs.slot_list.SlotList.push_brief.Goals as goal
 
 held : (c : goal.After-self-1)
     → AreHeld c.push-2.new.self c.self.inside.routed c.self.inside.refused c.push.new.self
-    c.self.inside.wide
+    c.self.inside.wide c.self.inside.answers
     (slots_told c.self.inside.places c.self.inside.routed c.self.inside.refused c.self.inside.brief
-    c.self.inside.wide
+    c.self.inside.wide c.self.inside.answers
     ++ slot.Brief c.args.brief.now ∷ []) (c.self.inside.room - 1)
 held c =
     let one : 1 ≤ c.self.inside.room =
     omega (arith, c.requires.room, ap (λ (h : PiecesParts Slot). h.room) c.self.view_is) in
-    brief_held _ _ _ _ _ _ _ c.self.invariant one c.of-place.result
+    brief_held _ _ _ _ _ _ _ _ c.self.invariant one c.of-place.result
     c.args.brief.now c.push.new.self c.push-2.new.self
     (c.of-place.ensures ∙ c.len.ensures.value)
     (c.push.ensures ∙ ap (λ (a : BriefSlot). record {
@@ -26,12 +26,12 @@ held c =
     c.push-2.ensures
 
 pub invariant_of-self : goal.invariant_of-self
-invariant_of-self c = held_told _ _ _ _ _ _ _ (held c)
+invariant_of-self c = held_told _ _ _ _ _ _ _ _ (held c)
 
 pub returns : goal.returns
 returns c =
     ap (λ ss. record { items = ss; room = c.self.inside.room - 1 })
-    (told_are _ _ _ _ _ _ _ (held c))
+    (told_are _ _ _ _ _ _ _ _ (held c))
     ∙ ap (λ (h : PiecesParts Slot). record {
       items = h.items ++ slot.Brief c.args.brief.now ∷ [];
       room = h.room - 1;

@@ -9,14 +9,14 @@ use Rattle.decision_record.proofs.slot_list.SlotList.push_over.Goals as goal
 
 held : (c : goal.After-self-1)
     → AreHeld c.push-2.new.self c.push.new.self c.self.inside.refused c.self.inside.brief
-    c.self.inside.wide
+    c.self.inside.wide c.self.inside.answers
     (slots_told c.self.inside.places c.self.inside.routed c.self.inside.refused c.self.inside.brief
-    c.self.inside.wide
+    c.self.inside.wide c.self.inside.answers
     ++ over_slot c.args.over.now c.args.admission.now ∷ []) (c.self.inside.room - 1)
 held c =
     let one : 1 ≤ c.self.inside.room =
     omega (arith, c.requires.room, ap (λ (h : PiecesParts Slot). h.room) c.self.view_is) in
-    over_held _ _ _ _ _ _ _ c.self.invariant one c.args.over.now c.of-place.result
+    over_held _ _ _ _ _ _ _ _ c.self.invariant one c.args.over.now c.of-place.result
     c.args.admission.now c.push.new.self c.push-2.new.self
     (c.of-place.ensures ∙ c.len.ensures.value)
     (c.push.ensures ∙ ap (λ (a : RoutedAdmission). record {
@@ -29,12 +29,12 @@ held c =
     }) c.of_refused_for.ensures)
 
 pub invariant_of-self : goal.invariant_of-self
-invariant_of-self c = held_told _ _ _ _ _ _ _ (held c)
+invariant_of-self c = held_told _ _ _ _ _ _ _ _ (held c)
 
 pub returns : goal.returns
 returns c =
     ap (λ ss. record { items = ss; room = c.self.inside.room - 1 })
-    (told_are _ _ _ _ _ _ _ (held c))
+    (told_are _ _ _ _ _ _ _ _ (held c))
     ∙ ap (λ (h : PiecesParts Slot). record {
       items = h.items ++ over_slot c.args.over.now c.args.admission.now ∷ [];
       room = h.room - 1;

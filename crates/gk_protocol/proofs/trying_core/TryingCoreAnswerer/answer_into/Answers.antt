@@ -21,6 +21,11 @@ returns-in-Admit g c =
     answered_into _ _ _ _ _ _ _ _ _ c.self.view_is c.in-Admit.is (λ _ replies. replies) c.admit_into.ensures.reply
     (c.admit_into.ensures.same ∙ ap (λ (to : ReplyParts). to.sequence) c.repeat-in-Admit.ensures)
 
+pub returns-in-Incoming : goal.returns-in-Incoming
+returns-in-Incoming g c =
+    answered_into _ _ _ _ _ _ _ _ _ c.self.view_is c.in-Incoming.is (λ _ replies. replies) c.incoming_into.ensures.reply
+    (c.incoming_into.ensures.same ∙ ap (λ (to : ReplyParts). to.sequence) c.repeat-in-Incoming.ensures)
+
 pub returns-in-Change : goal.returns-in-Change
 returns-in-Change g c =
     answered_into _ _ _ _ _ _ _ _ _ c.self.view_is c.in-Change.is (λ _ replies. replies) c.change_into.ensures.reply

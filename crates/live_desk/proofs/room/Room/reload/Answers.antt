@@ -1,7 +1,7 @@
-use Rattle.std.proofs.Common.{sym, ap, subst, ◌∙◌, List}
+use Rattle.std.proofs.Common.{refl, sym, ap, subst, ◌∙◌, List}
 use Rattle.decision_record.specs.History.{PlainEntry}
 use Rattle.live_desk.specs.Seats.{RoomParts, SeatParts, LastStands}
-use Rattle.live_desk.proofs.Grows.{asked_by, rising}
+use Rattle.live_desk.proofs.Grows.{asked_by, rising, step_held}
 use Rattle.live_desk.proofs.room.Room.reload.Goals as goal
 
 pub returns-in-Ok-clause-rises : goal.returns-in-Ok-clause-rises
@@ -41,3 +41,10 @@ returns-in_default-clause-asked g c =
     c.reload_turn-answer.ensures.step
     (λ kept. ap (λ (s : SeatParts). s.seen) c.see.ensures.same
     ∙ c.reload_turn-answer.ensures.met (c.see.ensures.met kept))
+
+pub returns-in-Ok-clause-step : goal.returns-in-Ok-clause-step
+returns-in-Ok-clause-step g c =
+    step_held _ c.self.inside.live c.reload_turn-answer.new.live c.args.self.now.entries _ _ _
+    c.self.invariant.0 c.self.invariant.1
+    (ap (λ (r : RoomParts). r.entries) (c.self.view_is ∙ c.begin.ensures.same)) refl
+    c.reload_turn-answer.ensures.step

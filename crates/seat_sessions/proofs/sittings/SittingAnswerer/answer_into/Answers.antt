@@ -15,6 +15,11 @@ returns-in-Admit g c =
     said_into _ _ _ _ _ _ _ _ c.in-Admit.is (λ _ replies. replies)
     c.reply_into-in-Admit.ensures
 
+pub returns-in-Incoming : goal.returns-in-Incoming
+returns-in-Incoming g c =
+    said_into _ _ _ _ _ _ _ _ c.in-Incoming.is (λ _ replies. replies)
+    c.reply_into-in-Incoming.ensures
+
 pub returns-in-Change : goal.returns-in-Change
 returns-in-Change g c =
     said_into _ _ _ _ _ _ _ _ c.in-Change.is (λ _ replies. replies)
