@@ -138,7 +138,7 @@ impl Machine {
 
     // ---- admissions
 
-    #[tactic(auto, using(crate::proofs::AdmittingLemmas::caller_has_id), unfolding(crate::specs::Ruling::ruling_of))]
+    #[tactic(auto, using(crate::proofs::AdmittingLemmas::caller_has_id, crate::proofs::AdmittingLemmas::over_alike), unfolding(crate::specs::Ruling::ruling_of))]
     /// The ruling on an admission. The plan is what the commands in force say of the digits; the
     /// technology prefixes that gateways gave are added here. The refusals are tried in this order:
     /// the caller is not registered; a call of the number is open; the digits lead nowhere; a sum of
@@ -187,7 +187,8 @@ impl Machine {
                     owner: *owner,
                     source: Some(*source),
                     target: *target,
-                    answerer: kind.answerer(name),
+                    // To whom it is admitted is in none of its sums.
+                    answerer: None,
                 };
                 match &self.calls().fits_new(tables, admitted) {
                     Err(over) => LentRuling::OverLimit {
