@@ -62,7 +62,8 @@ or_assoc : (a b c : Bool) → ((a || b) || c) ≡ (a || (b || c))
 or_assoc true b c = refl
 or_assoc false b c = refl
 
-members : (texts paths : List (List ℕ)) (q : List ℕ)
+-- what there is when paths are added
+pub members : (texts paths : List (List ℕ)) (q : List ℕ)
     → list_any (bytes_eq q) (fold with_path paths texts)
     ≡ (list_any (bytes_eq q) paths || list_any (bytes_eq q) texts)
 members [] paths q = sym (or_nothing (list_any (bytes_eq q) paths))

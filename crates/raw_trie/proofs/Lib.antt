@@ -7,6 +7,8 @@ pub mod Ends
 pub mod Fieldless
 pub mod Growth
 pub mod Insertion
+pub mod Looks
+pub mod LooksRows
 pub mod NodeBound
 pub mod Paths
 pub mod Same

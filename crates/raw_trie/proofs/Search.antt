@@ -244,14 +244,23 @@ module _ (rows : List Row) (text : List ℕ) (short : length text ≤ 32) (k j :
               absurd (no_more_dots stop row in'
               (literals_in_front row.0 text match ∙ ap (λ n. take n text) counts.0) counts.1)
 
+  longer : path ++ 46 ∷ [] ≡ take k text ++ replicate (j + 1) 46
+  longer = append_assoc (take k text) (replicate j 46) (46 ∷ [])
+      ∙ ap (λ r. take k text ++ r) (replicate_more j 46)
+
+  -- if there is no link of the dot, there is no node of one more dot
+  pub no_dot_on : seen.dot ≡ 0 → (node : ℕ)
+      → At (paths_of rows) node (take k text ++ replicate (j + 1) 46) → ⊥
+  no_dot_on stop node at = by dot_link
+    where
+      by : LeadsTo (paths_of rows) (path ++ 46 ∷ []) (link_at shown.words shown.node 10) → ⊥
+      by (inl none) = none.1 node (at.0, at.1 ∙ sym longer)
+      by (inr leads) = absurd (omega (arith, leads.0, shown.dot, stop))
+
   -- the dot's link leads to the node of one more dot
   pub dot_on : seen.dot ≢ 0 → At (paths_of rows) seen.dot (take k text ++ replicate (j + 1) 46)
   dot_on some = by dot_link
     where
-      longer : path ++ 46 ∷ [] ≡ take k text ++ replicate (j + 1) 46
-      longer = append_assoc (take k text) (replicate j 46) (46 ∷ [])
-          ∙ ap (λ r. take k text ++ r) (replicate_more j 46)
-
       by : LeadsTo (paths_of rows) (path ++ 46 ∷ []) (link_at shown.words shown.node 10)
           → At (paths_of rows) seen.dot (take k text ++ replicate (j + 1) 46)
       by (inl none) = absurd (some (shown.dot ∙ none.0))

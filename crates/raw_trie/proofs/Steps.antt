@@ -38,7 +38,7 @@ root_of rows = stays (all_rest rows) ([] ∷ []) (omega arith, refl)
     stays (t ∷ ts) paths at = stays ts (with_path paths t) (one paths t at)
 
 -- the digit at a place of the text
-digit_there : (text : List ℕ) (k : ℕ) → k < length text
+pub digit_there : (text : List ℕ) (k : ℕ) → k < length text
     → option_and_then digit_of (slice_get text k) ≡ digit_of (get_or text k 0)
 digit_there text k within = ap (option_and_then digit_of) (slice_get-get_or text k 0 within)
 

@@ -1,5 +1,6 @@
 pub mod Block
 pub mod Found
+pub mod Looks
 pub mod Memory
 pub mod Nodes
 pub mod Trie

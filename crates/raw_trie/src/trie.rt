@@ -4,6 +4,7 @@ ghost use Rattle.std.specs.Prelude.{◌≡◌, ℕ, ◌+◌, ◌-◌, ◌*◌, �
 ghost use Rattle.digit_patterns.specs.PatternParts.{PatternParts};
 ghost use Rattle.digit_patterns.specs.Duplicate.{duplicate_of};
 ghost use Rattle.digit_patterns.specs.Table.{best_hit};
+ghost use Rattle.raw_trie.specs.Looks.{looks_of};
 ghost use Rattle.raw_trie.specs.Nodes.{node_count, patterns_of};
 
 use crate::block::Block;
@@ -130,11 +131,14 @@ impl RawTrie {
     }
 
     /// The row with the longest pattern that matches the dialled characters from the place `from`
-    /// on, counted from 0, as `best` finds it, and how many nodes were looked at: for n characters
-    /// from there on, at most (n + 1) (n + 2) / 2. It takes no memory.
+    /// on, counted from 0, as `best` finds it, and how many nodes were looked at: those of the
+    /// digits in front, and, after as many of these as the hit has literals, or more, those of
+    /// dots. For n characters from there on they are at most (n + 1) (n + 2) / 2. It takes no
+    /// memory.
     pub fn best_counted(&self, dialled: &Dialled, from: usize) -> (Option<Hit>, u32)
         requires { from ≤ length dialled.now }
         ensures hit { result.0 ≡ best_hit self.now (drop from dialled.now) }
+        ensures counted { result.1 ≡ looks_of self.now (drop from dialled.now) }
         ensures nodes { let n = length dialled.now - from in result.1 ≤ (n + 1) * (n + 2) / 2 }
     {
         longest(self, &dialled.as_bytes()[from..])

@@ -1,12 +1,13 @@
 //! The walk through a trie: down along the digits of the text, then, from the deepest node up, down
 //! the dots of each.
 
-ghost use Rattle.std.specs.Prelude.{◌≡◌, ◌+◌, ◌-◌, ◌*◌, ◌<◌, ◌≤◌, length, slice_get, take, true, None};
+ghost use Rattle.std.specs.Prelude.{◌≡◌, ◌+◌, ◌-◌, ◌*◌, ◌<◌, ◌≤◌, length, slice_get, take, true, None, IfSome};
 ghost use Rattle.std.specs.Char.{is_ascii_digit};
 ghost use Rattle.std.specs.List.{list_all};
 ghost use Rattle.std.specs.Option.{option_and_then};
 ghost use Rattle.digit_patterns.specs.Table.{best_hit};
 ghost use Rattle.raw_trie.specs.Found.{IsFound, IsTop, with_hit};
+ghost use Rattle.raw_trie.specs.Looks.{dot_nodes, dot_nodes_between, least_literals, looks_of};
 ghost use Rattle.raw_trie.specs.Walk.{AreNodes, LinkAt, Shows, digit_of, most_looks};
 
 use crate::trie::{LookedAt, RawTrie};
@@ -30,7 +31,8 @@ const MOST_NODES: usize = 33;
 pub(crate) fn longest(trie: &RawTrie, text: &[u8]) -> (Option<Hit>, u32)
     requires { length text.now ≤ 32 }
     ensures hit { result.0 ≡ best_hit trie.now text.now }
-    ensures looks { result.1 ≤ most_looks (length text.now) }
+    ensures looks { result.1 ≡ looks_of trie.now text.now }
+    ensures few { result.1 ≤ most_looks (length text.now) }
 {
     let mut looks = 0;
     let (next, root) = trie.look_at(0, digit_at(text, 0), &mut looks);
@@ -86,7 +88,8 @@ fn walk_up(
     requires above { IsTop trie.now text.now (66 * (deepest + 1)) None }
     requires looks { looks.old ≡ deepest + 1 }
     ensures top { IsTop trie.now text.now 0 result }
-    ensures looks { looks.new ≤ most_looks (length text.now) }
+    ensures looks { looks.new ≡ deepest + 1
+        + dot_nodes_between trie.now text.now (least_literals result) (deepest + 1) }
 {
     let mut depth = deepest + 1;
     while depth > 0 {
@@ -124,7 +127,9 @@ fn longest_dots(
     requires few { looks.old < 1000 }
     requires shown { Shows trie.now (take literals text.now) seen }
     ensures found { IsFound trie.now text.now (66 * literals) (66 * (literals + 1)) result }
-    ensures looks { looks.new ≤ looks.old + (length text.now - literals) }
+    ensures literals { IfSome result (λ hit. hit.literals ≡ literals) }
+    ensures looks { looks.new ≡ looks.old + dot_nodes trie.now text.now literals }
+    ensures few { looks.new ≤ looks.old + (length text.now - literals) }
 {
     let left = text.len() - literals;
     let mut best = None;
