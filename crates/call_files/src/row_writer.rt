@@ -93,7 +93,7 @@ impl RowWriter {
         ensures front { OnErr result (AppendsFront (W.contents writer.old) (W.contents writer.new)
             (self.old ++ row_text default_writer (map (λ f. f.now) fields.now))) }
         ensures gone { OnErr result (self.new ≡ []) }
-        ensures noted { NotesIf is_write_fault (W.has_failed writer.old) (W.has_failed writer.new)
+        ensures noted { NotesIf is_write_fault (W.failures writer.old) (W.failures writer.new)
             result }
     {
         self.add(fields)?;
@@ -111,7 +111,7 @@ impl RowWriter {
         ensures front { OnErr result (AppendsFront (W.contents writer.old) (W.contents writer.new)
             self.old) }
         ensures empty { self.new ≡ [] }
-        ensures noted { NotesIf is_write_fault (W.has_failed writer.old) (W.has_failed writer.new)
+        ensures noted { NotesIf is_write_fault (W.failures writer.old) (W.failures writer.new)
             result }
     {
         let mut text = self.take()?;

@@ -26,8 +26,8 @@ use std::alloc::Global;
 /// writes them by default. `read_calls` reads it as the same rows: its first record is the header,
 /// and those after it say the rows, without a fault.
 ///
-/// For a writer that had not failed before, `WriteFault` comes exactly if it fails in this call.
-/// After a fault the writer has taken a front of the text.
+/// `WriteFault` comes exactly if the writer fails in this call. After a fault it has taken a front
+/// of the text.
 pub fn write_calls<W: Sink>(
     alloc: Global,
     snapshot: &Snapshot,
@@ -37,7 +37,7 @@ pub fn write_calls<W: Sink>(
         (calls_text snapshot.now.rows)) }
     ensures front { OnErr result (AppendsFront (W.contents writer.old) (W.contents writer.new)
         (calls_text snapshot.now.rows)) }
-    ensures noted { NotesIf is_write_fault (W.has_failed writer.old) (W.has_failed writer.new)
+    ensures noted { NotesIf is_write_fault (W.failures writer.old) (W.failures writer.new)
         result }
     ensures reads_back { OnOk result (SaysRows (calls_text snapshot.now.rows) snapshot.now.rows) }
 {
@@ -58,7 +58,7 @@ pub fn write_rows_of<S: RowSource, W: Sink>(
         (calls_text (S.rows source.now))) }
     ensures front { OnErr result (AppendsFront (W.contents writer.old) (W.contents writer.new)
         (calls_text (S.rows source.now))) }
-    ensures noted { NotesIf is_write_fault (W.has_failed writer.old) (W.has_failed writer.new)
+    ensures noted { NotesIf is_write_fault (W.failures writer.old) (W.failures writer.new)
         result }
     ensures reads_back { OnOk result (MayFollow [] (S.rows source.now)
         → SaysRows (calls_text (S.rows source.now)) (S.rows source.now)) }
@@ -75,7 +75,7 @@ fn write_header<W: Sink>(rows: &mut RowWriter, writer: &mut W) -> Result<(), Wri
         (rows.old ++ row_text default_writer header) rows.new) }
     ensures front { OnErr result (AppendsFront (W.contents writer.old) (W.contents writer.new)
         (rows.old ++ row_text default_writer header)) }
-    ensures noted { NotesIf is_write_fault (W.has_failed writer.old) (W.has_failed writer.new)
+    ensures noted { NotesIf is_write_fault (W.failures writer.old) (W.failures writer.new)
         result }
 {
     let fields: [&[u8]; 8] = [
@@ -94,7 +94,7 @@ fn write_rows<S: RowSource, W: Sink>(
         (rows.old ++ rows_said (S.rows source.now)) rows.new) }
     ensures front { OnErr result (AppendsFront (W.contents writer.old) (W.contents writer.new)
         (rows.old ++ rows_said (S.rows source.now))) }
-    ensures noted { NotesIf is_write_fault (W.has_failed writer.old) (W.has_failed writer.new)
+    ensures noted { NotesIf is_write_fault (W.failures writer.old) (W.failures writer.new)
         result }
     ensures sound { OnOk result (All IsRow (S.rows source.now)) }
 {
@@ -117,7 +117,7 @@ fn write_row<W: Sink>(
         (rows.old ++ row_said row.now) rows.new) }
     ensures front { OnErr result (AppendsFront (W.contents writer.old) (W.contents writer.new)
         (rows.old ++ row_said row.now)) }
-    ensures noted { NotesIf is_write_fault (W.has_failed writer.old) (W.has_failed writer.new)
+    ensures noted { NotesIf is_write_fault (W.failures writer.old) (W.failures writer.new)
         result }
 {
     let number = row.number();
@@ -141,7 +141,7 @@ fn write_admitted<W: Sink>(
         rows.new) }
     ensures front { OnErr result (AppendsFront (W.contents writer.old) (W.contents writer.new)
         (rows.old ++ row_text default_writer (fields_from number (events.Admitted asked.now)))) }
-    ensures noted { NotesIf is_write_fault (W.has_failed writer.old) (W.has_failed writer.new)
+    ensures noted { NotesIf is_write_fault (W.failures writer.old) (W.failures writer.new)
         result }
 {
     let mut number_text = Buffer::new();
@@ -175,7 +175,7 @@ fn write_answered<W: Sink>(
         rows.new) }
     ensures front { OnErr result (AppendsFront (W.contents writer.old) (W.contents writer.new)
         (rows.old ++ row_text default_writer (fields_from number (events.Answered asked.now)))) }
-    ensures noted { NotesIf is_write_fault (W.has_failed writer.old) (W.has_failed writer.new)
+    ensures noted { NotesIf is_write_fault (W.failures writer.old) (W.failures writer.new)
         result }
 {
     let mut number_text = Buffer::new();
@@ -218,7 +218,7 @@ fn write_changed<W: Sink>(
         rows.new) }
     ensures front { OnErr result (AppendsFront (W.contents writer.old) (W.contents writer.new)
         (rows.old ++ row_text default_writer (fields_from number (events.Changed call units)))) }
-    ensures noted { NotesIf is_write_fault (W.has_failed writer.old) (W.has_failed writer.new)
+    ensures noted { NotesIf is_write_fault (W.failures writer.old) (W.failures writer.new)
         result }
 {
     let mut number_text = Buffer::new();
@@ -250,7 +250,7 @@ fn write_released<W: Sink>(
         rows.new) }
     ensures front { OnErr result (AppendsFront (W.contents writer.old) (W.contents writer.new)
         (rows.old ++ row_text default_writer (fields_from number (events.Released call)))) }
-    ensures noted { NotesIf is_write_fault (W.has_failed writer.old) (W.has_failed writer.new)
+    ensures noted { NotesIf is_write_fault (W.failures writer.old) (W.failures writer.new)
         result }
 {
     let mut number_text = Buffer::new();

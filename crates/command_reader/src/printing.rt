@@ -17,14 +17,14 @@ use gk_lines::{LineBuffer, Sink, WriteFault, write_whole};
 /// configuration of its own: `read` gives the same commands for it, and no line of it is passed
 /// over.
 ///
-/// For a writer that had not failed before, `WriteFault` comes exactly if it fails in this call,
-/// and the writer then holds a front of the text. Takes no memory.
+/// `WriteFault` comes exactly if the writer fails in this call, and it then holds a front of the
+/// text. Takes no memory.
 pub fn print<W: Sink>(commands: &Commands, writer: &mut W) -> Result<(), WriteFault>
     ensures whole { OnOk result (Appends (W.contents writer.old) (W.contents writer.new)
         (text_of commands.now.commands)) }
     ensures front { OnErr result (AppendsFront (W.contents writer.old) (W.contents writer.new)
         (text_of commands.now.commands)) }
-    ensures noted { Notes (W.has_failed writer.old) (W.has_failed writer.new) result }
+    ensures noted { Notes (W.failures writer.old) (W.failures writer.new) result }
     ensures reads_back { reading_of (text_of commands.now.commands)
         ≡ Ok (record { commands = commands.now.commands; passed = 0 }) }
 {
@@ -38,7 +38,7 @@ fn print_lines<W: Sink>(commands: &[Command], writer: &mut W) -> Result<(), Writ
         (text_of commands.now)) }
     ensures front { OnErr result (AppendsFront (W.contents writer.old) (W.contents writer.new)
         (text_of commands.now)) }
-    ensures noted { Notes (W.has_failed writer.old) (W.has_failed writer.new) result }
+    ensures noted { Notes (W.failures writer.old) (W.failures writer.new) result }
 {
     let mut line = LineBuffer::new();
     for command in commands {

@@ -87,12 +87,12 @@ pub fn check<R: Source, W: Sink>(
     ensures unwritten { (fault : _) → result ≡ Err fault → fault ≢ CheckFault.WriteFault
         → writer.new ≡ writer.old }
 
-    // For streams that had not failed before, a fault of one of them comes exactly if that one
-    // failed in this check, and the turns are spent only after 4,294,967,295 calls.
-    ensures reader_noted { NotesIf Spec.is_check_read_fault (R.has_failed reader.old)
-        (R.has_failed reader.new) result }
-    ensures writer_noted { NotesIf Spec.is_check_write_fault (W.has_failed writer.old)
-        (W.has_failed writer.new) result }
+    // A fault of a stream comes exactly if that one failed in this check, and the turns are spent
+    // only after 4,294,967,295 calls.
+    ensures reader_noted { NotesIf Spec.is_check_read_fault (R.failures reader.old)
+        (R.failures reader.new) result }
+    ensures writer_noted { NotesIf Spec.is_check_write_fault (W.failures writer.old)
+        (W.failures writer.new) result }
     ensures turns { R.calls reader.old + 4294967295 < 2 ^ 64
         → R.calls reader.new ≤ R.calls reader.old + 4294967295 }
     ensures turns_spent { result ≡ Err (CheckFault.ReadFault ReadFault.TurnsSpent)
@@ -113,8 +113,8 @@ pub fn configuration_of<R: Source>(
         reading_of bytes ≡ Ok configuration)) }
     ensures config { (fault : _) → result ≡ Err (ConfigurationFault.Line fault)
         → IfSome (R.remaining reader.old) (λ bytes. MayRead (lines_of bytes) (Err fault)) }
-    ensures noted { NotesIf is_read_failure (R.has_failed reader.old)
-        (R.has_failed reader.new) result }
+    ensures noted { NotesIf is_read_failure (R.failures reader.old)
+        (R.failures reader.new) result }
     ensures turns { R.calls reader.old + 4294967295 < 2 ^ 64
         → R.calls reader.new ≤ R.calls reader.old + 4294967295 }
     ensures turns_spent { result ≡ Err (ConfigurationFault.Read ReadFault.TurnsSpent)
@@ -135,7 +135,7 @@ fn write_report<W: Sink>(
         (Spec.report_text prints commands.now)) }
     ensures front { OnErr result (AppendsFront (W.contents writer.old) (W.contents writer.new)
         (Spec.report_text prints commands.now)) }
-    ensures noted { Notes (W.has_failed writer.old) (W.has_failed writer.new) result }
+    ensures noted { Notes (W.failures writer.old) (W.failures writer.new) result }
 {
     if prints {
         print_with_summary(commands, writer)
@@ -151,7 +151,7 @@ fn print_with_summary<W: Sink>(commands: &Commands, writer: &mut W) -> Result<()
         (text_of commands.now.commands ++ Spec.summary_text commands.now)) }
     ensures front { OnErr result (AppendsFront (W.contents writer.old) (W.contents writer.new)
         (text_of commands.now.commands ++ Spec.summary_text commands.now)) }
-    ensures noted { Notes (W.has_failed writer.old) (W.has_failed writer.new) result }
+    ensures noted { Notes (W.failures writer.old) (W.failures writer.new) result }
 {
     match print(commands, writer) {
         Ok(()) => write_summary(commands, writer),
@@ -165,7 +165,7 @@ fn write_summary<W: Sink>(commands: &Commands, writer: &mut W) -> Result<(), Wri
         (Spec.summary_text commands.now)) }
     ensures front { OnErr result (AppendsFront (W.contents writer.old) (W.contents writer.new)
         (Spec.summary_text commands.now)) }
-    ensures noted { Notes (W.has_failed writer.old) (W.has_failed writer.new) result }
+    ensures noted { Notes (W.failures writer.old) (W.failures writer.new) result }
 {
     let mut line = LineBuffer::new();
     show_summary(&mut line, commands.len() as u32, commands.passed());

@@ -69,8 +69,8 @@ pub fn read_configuration<R: Source>(
         (R.calls reader.new) lines.old.turns lines.new.turns }
     ensures turns_spent { IfErr result
         (λ fault. Spec.IfRead fault (λ read. read ≡ ReadFault.TurnsSpent → lines.new.turns ≡ 0)) }
-    ensures noted { NotesIf Spec.is_read_failure (R.has_failed reader.old)
-        (R.has_failed reader.new) result }
+    ensures noted { NotesIf Spec.is_read_failure (R.failures reader.old)
+        (R.failures reader.new) result }
 {
     let mut line = LineBuffer::new();
     let mut read = Ok(Draft::new(alloc));

@@ -1,18 +1,23 @@
 -- Readers and writers: what they note of their calls, and what a writer that failed holds.
-use Rattle.std.specs.Prelude.{◌≡◌, ℕ, ◌+◌, ◌^◌, ◌<◌, Bool, true, List, ◌++◌, Option, Some, None, Result, Ok, Err, ⊤, if◌then◌else◌}
+use Rattle.std.specs.Prelude.{◌≡◌, ℕ, ◌+◌, ◌%◌, ◌^◌, ◌<◌, Bool, List, ◌++◌, Option, Some, None, Result, Ok, Err, ⊤, if◌then◌else◌}
 use Rattle.std.specs.Io.KnownBytes.{Appends}
 
 -- ---- notes
--- a stream has failed if its call says so, and else its note is as it was
-abbrev pub Notes : {A E : Type 0} → Bool → Bool → Result A E → Type 0
-Notes old new (Ok x) = new ≡ old
-Notes old new (Err fault) = new ≡ true
+-- the next count of failures: after 2^64 - 1 it begins again at 0, so each is another one than the
+-- one before
+abbrev pub one_more : ℕ → ℕ
+one_more failures = (failures + 1) % 2 ^ 64
 
--- the same if a fault may be that of another stream, or none of a stream: the note is set exactly
--- by this stream's
-abbrev pub NotesIf : {A E : Type 0} → (E → Bool) → Bool → Bool → Result A E → Type 0
+-- a stream has one more failure if its call says so, and else as many as it had
+abbrev pub Notes : {A E : Type 0} → ℕ → ℕ → Result A E → Type 0
+Notes old new (Ok x) = new ≡ old
+Notes old new (Err fault) = new ≡ one_more old
+
+-- the same if a fault may be that of another stream, or none of a stream: there is one more failure
+-- exactly by this stream's
+abbrev pub NotesIf : {A E : Type 0} → (E → Bool) → ℕ → ℕ → Result A E → Type 0
 NotesIf is_its old new (Ok x) = new ≡ old
-NotesIf is_its old new (Err fault) = new ≡ (if is_its fault then true else old)
+NotesIf is_its old new (Err fault) = new ≡ (if is_its fault then one_more old else old)
 
 -- one more call was counted
 abbrev pub CountsCall : ℕ → ℕ → Type 0

@@ -82,8 +82,8 @@ impl LineReader {
     /// The next line, with its line feed if it has one, as far as it is kept; false at the end of
     /// the input. The reader is called only if no byte is pending, and each call takes one turn.
     ///
-    /// `TurnsSpent` comes only if no turn is left, and for a reader that had not failed before,
-    /// `Failed` exactly if it fails in this call.
+    /// `TurnsSpent` comes only if no turn is left, and `Failed` exactly if the reader fails in this
+    /// call.
     pub fn next_line<R: Source>(
         &mut self,
         reader: &mut R,
@@ -130,8 +130,8 @@ impl LineReader {
             (R.calls reader.new) self.old.turns self.new.turns }
         ensures turns_spent { IfErr result
             (λ fault. fault ≡ ReadFault.TurnsSpent → self.new.turns ≡ 0) }
-        ensures noted { NotesIf is_failure (R.has_failed reader.old)
-            (R.has_failed reader.new) result }
+        ensures noted { NotesIf is_failure (R.failures reader.old)
+            (R.failures reader.new) result }
 
         // What is left to do falls with each line.
         ensures progress { IfOk result
@@ -173,8 +173,8 @@ impl LineReader {
             (R.calls reader.new) self.old.turns self.new.turns }
         ensures turns_spent { IfErr result
             (λ fault. fault ≡ ReadFault.TurnsSpent → self.new.turns ≡ 0) }
-        ensures noted { NotesIf is_failure (R.has_failed reader.old)
-            (R.has_failed reader.new) result }
+        ensures noted { NotesIf is_failure (R.failures reader.old)
+            (R.failures reader.new) result }
         ensures work { work_left self.new ≤ work_left self.old }
     {
         if self.start < self.end {

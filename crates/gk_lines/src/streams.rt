@@ -1,6 +1,6 @@
-//! Readers and writers that know whether they have failed, and how often they were called.
+//! Readers and writers that know how often they have failed, and how often they were called.
 
-ghost use Rattle.std.specs.Prelude.{◌≡◌, ℕ, ◌<◌, ◌==◌, ◌||◌, nat_lt, List, Option, Bool, Ok, length, IfOk, IsErr, MatchResult, MatchBool};
+ghost use Rattle.std.specs.Prelude.{◌≡◌, ℕ, ◌<◌, ◌==◌, ◌||◌, nat_lt, List, Option, Ok, length, IfOk, IsErr, MatchResult, MatchBool};
 ghost use Rattle.std.specs.Io.{ReadsAtMost, WritesAtMost};
 ghost use Rattle.std.specs.Io.KnownBytes.{ReadConsumes, WriteAppends};
 ghost use Rattle.gk_lines.specs.Streams.{Notes, CountsCall};
@@ -14,13 +14,13 @@ use thiserror::Error;
 #[error("a read or write failed")]
 pub struct StreamFailed;
 
-/// Where bytes come from. It knows whether it has failed, and how often it was called.
+/// Where bytes come from. It knows how often it has failed, and how often it was called.
 pub trait Source {
     /// The bytes that it will still give, if they are known.
     ghost remaining: { Self → Option (List ℕ) };
 
-    /// Whether it has failed.
-    ghost has_failed: { Self → Bool };
+    /// How often it has failed. The count begins again at 0 after 2^64 - 1.
+    ghost failures: { Self → ℕ };
 
     /// How often it was called. The count is exact up to 2^64 - 1 calls.
     ghost calls: { Self → ℕ };
@@ -30,56 +30,56 @@ pub trait Source {
     fn read(&mut self, piece: &mut [u8]) -> Result<usize, StreamFailed>
         ensures bound { ReadsAtMost result piece.new }
         ensures bytes { ReadConsumes (remaining self.old) (remaining self.new) result piece.new }
-        ensures noted { Notes (has_failed self.old) (has_failed self.new) result }
+        ensures noted { Notes (failures self.old) (failures self.new) result }
         ensures counted { CountsCall (calls self.old) (calls self.new) };
 }
 
-/// Where bytes go. It knows whether it has failed.
+/// Where bytes go. It knows how often it has failed.
 pub trait Sink {
     /// The bytes that it holds, if they are known.
     ghost contents: { Self → Option (List ℕ) };
 
-    /// Whether it has failed.
-    ghost has_failed: { Self → Bool };
+    /// How often it has failed. The count begins again at 0 after 2^64 - 1.
+    ghost failures: { Self → ℕ };
 
     /// Writes a front of the bytes, and says how many. To take none of them is to fail.
     fn write(&mut self, bytes: &[u8]) -> Result<usize, StreamFailed>
         ensures bound { WritesAtMost result bytes.now }
         ensures some { IfOk result (λ count. 0 < length bytes.now → 0 < count) }
         ensures bytes { WriteAppends (contents self.old) (contents self.new) result bytes.now }
-        ensures noted { Notes (has_failed self.old) (has_failed self.new) result };
+        ensures noted { Notes (failures self.old) (failures self.new) result };
 }
 
-/// A reader or writer of the library, with a note of whether a call of it failed, and of how often
-/// it was called. An interrupted call counts as one that failed.
+/// A reader or writer of the library, with a count of its calls, and one of those that failed. An
+/// interrupted call counts as one that failed.
 #[derive(Drop)]
 pub struct Noted<T> {
     stream: T,
-    failed: bool,
+    failures: u64,
     calls: u64,
 }
 
 impl<T> Noted<T> {
-    ghost use Rattle.std.specs.Prelude.{◌≡◌, false};
+    ghost use Rattle.std.specs.Prelude.{◌≡◌};
     ghost use Rattle.gk_lines.specs.Streams.{Notes, CountsCall};
 
-    /// With nothing noted.
+    /// With nothing counted.
     pub fn new(stream: T) -> Noted<T>
-        ensures { result ≡ record { stream = stream; failed = false; calls = 0 } }
+        ensures { result ≡ record { stream = stream; failures = 0; calls = 0 } }
     {
         Noted {
             stream,
-            failed: false,
+            failures: 0,
             calls: 0,
         }
     }
 
-    /// Whether a call has failed.
-    pub fn has_failed(&self) -> bool
-        ensures { result ≡ self.now.failed }
+    /// How many calls have failed. After 2^64 - 1 the count begins again at 0.
+    pub fn failures(&self) -> u64
+        ensures { result ≡ self.now.failures }
     {
-        let Noted { failed, .. } = self;
-        *failed
+        let Noted { failures, .. } = self;
+        *failures
     }
 
     /// How often it was called. The count stops at 2^64 - 1.
@@ -90,15 +90,15 @@ impl<T> Noted<T> {
         *calls
     }
 
-    /// Notes one more call, and whether it failed.
+    /// Counts one more call, and one that failed if it did.
     fn note(&mut self, outcome: &Result<usize, StreamFailed>)
         ensures stream { self.new.stream ≡ self.old.stream }
-        ensures failed { Notes self.old.failed self.new.failed outcome.now }
+        ensures failures { Notes self.old.failures self.new.failures outcome.now }
         ensures calls { CountsCall self.old.calls self.new.calls }
     {
         self.calls = self.calls.saturating_add(1);
         if outcome.is_err() {
-            self.failed = true;
+            self.failures = self.failures.wrapping_add(1);
         }
     }
 }
@@ -106,7 +106,7 @@ impl<T> Noted<T> {
 impl<R: Read> Source for Noted<R> {
     ghost remaining = { λ noted. R.remaining noted.stream };
 
-    ghost has_failed = { λ noted. noted.failed };
+    ghost failures = { λ noted. noted.failures };
 
     ghost calls = { λ noted. noted.calls };
 
@@ -120,7 +120,7 @@ impl<R: Read> Source for Noted<R> {
 impl<W: Write> Sink for Noted<W> {
     ghost contents = { λ noted. W.contents noted.stream };
 
-    ghost has_failed = { λ noted. noted.failed };
+    ghost failures = { λ noted. noted.failures };
 
     fn write(&mut self, bytes: &[u8]) -> Result<usize, StreamFailed> {
         let outcome = write_outcome(self.stream.write(bytes), bytes.len());

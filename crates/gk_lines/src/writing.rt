@@ -22,14 +22,13 @@ impl From<StreamFailed> for WriteFault {
     }
 }
 
-/// Writes all the bytes, in one call of the writer if it takes them all. For a writer that had not
-/// failed before, `WriteFault` comes exactly if it fails in this call; what it took of the bytes
-/// stays.
+/// Writes all the bytes, in one call of the writer if it takes them all. `WriteFault` comes exactly
+/// if the writer fails in this call; what it took of the bytes stays.
 pub fn write_whole<W: Sink>(sink: &mut W, bytes: &[u8]) -> Result<(), WriteFault>
     ensures whole { OnOk result (Appends (W.contents sink.old) (W.contents sink.new) bytes.now) }
     ensures front { OnErr result
         (AppendsFront (W.contents sink.old) (W.contents sink.new) bytes.now) }
-    ensures noted { Notes (W.has_failed sink.old) (W.has_failed sink.new) result }
+    ensures noted { Notes (W.failures sink.old) (W.failures sink.new) result }
 {
     let mut rest = bytes;
     while !rest.is_empty() {

@@ -113,8 +113,8 @@ pub(crate) fn take_lines<R: Source>(
         (R.calls reader.new) lines.old.turns lines.new.turns }
     ensures turns_spent { IfErr result
         (λ fault. fault ≡ ReadFault.TurnsSpent → lines.new.turns ≡ 0) }
-    ensures noted { NotesIf is_failure (R.has_failed reader.old)
-        (R.has_failed reader.new) result }
+    ensures noted { NotesIf is_failure (R.failures reader.old)
+        (R.failures reader.new) result }
     ensures work { work_left lines.new ≤ work_left lines.old }
 {
     let mut owned = Some(OwnedLines::of(Vec::new(alloc)));

@@ -46,12 +46,11 @@ pub fn session<R: Source, W: Sink, A: Answerer>(
     ensures end { OnOk result (IsAtEnd (R.remaining reader.new)) }
     ensures buffered { IfErr result (λ fault. fault ≢ SessionFault.NoMemory) }
 
-    // For streams that had not failed before, a fault of one of them comes exactly if that one
-    // failed.
-    ensures reader_noted { NotesIf is_read_fault (R.has_failed reader.old)
-        (R.has_failed reader.new) result }
-    ensures writer_noted { NotesIf is_write_fault (W.has_failed writer.old)
-        (W.has_failed writer.new) result }
+    // A fault of a stream comes exactly if that one failed.
+    ensures reader_noted { NotesIf is_read_fault (R.failures reader.old)
+        (R.failures reader.new) result }
+    ensures writer_noted { NotesIf is_write_fault (W.failures writer.old)
+        (W.failures writer.new) result }
 
     // One turn is one call of the reader.
     ensures turns { R.calls reader.old + turns < 2 ^ 64
@@ -83,10 +82,10 @@ pub fn session_from<R: Source, W: Sink, A: Answerer>(
     ensures end { OnOk result (IsAtEnd (R.remaining reader.new)) }
     ensures ended { AtEndIfEnded lines.new (R.remaining reader.new) }
     ensures buffered { IfErr result (λ fault. fault ≢ SessionFault.NoMemory) }
-    ensures reader_noted { NotesIf is_read_fault (R.has_failed reader.old)
-        (R.has_failed reader.new) result }
-    ensures writer_noted { NotesIf is_write_fault (W.has_failed writer.old)
-        (W.has_failed writer.new) result }
+    ensures reader_noted { NotesIf is_read_fault (R.failures reader.old)
+        (R.failures reader.new) result }
+    ensures writer_noted { NotesIf is_write_fault (W.failures writer.old)
+        (W.failures writer.new) result }
     ensures turns { CountsTurns (R.calls reader.old)
         (R.calls reader.new) lines.old.turns lines.new.turns }
     ensures turns_spent { IfErr result
@@ -154,8 +153,8 @@ fn progress_with<R: Source, A: Answerer>(
         (R.calls reader.new) lines.old.turns lines.new.turns }
     ensures turns_spent { IfErr result
         (λ fault. fault ≡ ReadFault.TurnsSpent → lines.new.turns ≡ 0) }
-    ensures noted { NotesIf is_failure (R.has_failed reader.old)
-        (R.has_failed reader.new) result }
+    ensures noted { NotesIf is_failure (R.failures reader.old)
+        (R.failures reader.new) result }
     ensures work { work_left lines.new ≤ work_left lines.old }
 {
     match hear(alloc, line.content(), answerer, reply) {
@@ -218,7 +217,7 @@ fn send<W: Sink>(reply: &ReplyLine, writer: &mut W) -> Result<(), WriteFault>
         (Appends (W.contents writer.old) (W.contents writer.new) reply.now.text) }
     ensures front { OnErr result
         (AppendsFront (W.contents writer.old) (W.contents writer.new) reply.now.text) }
-    ensures noted { Notes (W.has_failed writer.old) (W.has_failed writer.new) result }
+    ensures noted { Notes (W.failures writer.old) (W.failures writer.new) result }
 {
     let (line, body) = reply.parts();
     write_both(line, body, writer)
@@ -231,7 +230,7 @@ fn write_both<W: Sink>(first: &[u8], second: &[u8], writer: &mut W) -> Result<()
         (Appends (W.contents writer.old) (W.contents writer.new) (first.now ++ second.now)) }
     ensures front { OnErr result
         (AppendsFront (W.contents writer.old) (W.contents writer.new) (first.now ++ second.now)) }
-    ensures noted { Notes (W.has_failed writer.old) (W.has_failed writer.new) result }
+    ensures noted { Notes (W.failures writer.old) (W.failures writer.new) result }
 {
     match write_whole(writer, first) {
         Ok(()) => write_whole(writer, second),

@@ -10,7 +10,7 @@ use std::alloc::Global;
 #[derive(Drop)]
 pub(crate) struct TextWriter {
     bytes: Vec<u8>,
-    failed: bool,
+    failures: u64,
 }
 
 impl TextWriter {
@@ -20,7 +20,7 @@ impl TextWriter {
     {
         TextWriter {
             bytes: Vec::new(alloc),
-            failed: false,
+            failures: 0,
         }
     }
 
@@ -35,13 +35,13 @@ impl TextWriter {
 impl Sink for TextWriter {
     ghost contents = { λ writer. Some writer.bytes.items };
 
-    ghost has_failed = { λ writer. writer.failed };
+    ghost failures = { λ writer. writer.failures };
 
     fn write(&mut self, bytes: &[u8]) -> Result<usize, StreamFailed> {
         match self.bytes.extend_from_slice(bytes) {
             Ok(()) => Ok(bytes.len()),
             Err(_) => {
-                self.failed = true;
+                self.failures = self.failures.wrapping_add(1);
                 Err(StreamFailed)
             }
         }

@@ -4,7 +4,7 @@ use Rattle.gk_lines.proofs.PendingLemmas.{turns_then}
 use Rattle.std.proofs.Common.{◌≡◌, ℕ, ◌+◌, ◌^◌, ◌<◌, ◌≤◌, Bool, true, false, cond, List, [], ◌++◌, refl, sym, ap, subst, ◌∙◌, inl, inr, arith}
 use Rattle.std.specs.Prelude.{Option, Some, None, Result, Ok, Err}
 use Rattle.std.specs.Io.KnownBytes.{Appends}
-use Rattle.gk_lines.specs.Streams.{KnownStep}
+use Rattle.gk_lines.specs.Streams.{KnownStep, one_more}
 use Rattle.gk_lines.specs.LineReader.{LineReaderParts, left_of}
 use Rattle.gk_lines.proofs.StreamLemmas.{appends_nothing}
 use Rattle.command_reader.specs.Configuration.{Configuration}
@@ -158,9 +158,9 @@ module _ {S : Type 0} (MayAnswer : S → Request → Answer → S → Type 0) wh
   )
 
 -- a note of the session is one of the run
-pub noted_then : (old mid new its : Bool) → mid ≡ old → new ≡ cond its true mid → new ≡ cond its
-    true old
-noted_then old mid new its before noted = noted ∙ ap (λ m. cond its true m) before
+pub noted_then : (old mid new : ℕ) (its : Bool) → mid ≡ old → new ≡ cond its (one_more mid) mid
+    → new ≡ cond its (one_more old) old
+noted_then old mid new its before noted = noted ∙ ap (λ m. cond its (one_more m) m) before
 
 -- ---- turns
 -- the calls of two calls together are within the turns that the first began with

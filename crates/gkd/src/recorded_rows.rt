@@ -18,8 +18,8 @@ use std::marker::Model;
 /// Writes the call file of a core's record, row by row. It reads back as the rows of the record, if
 /// the core's limits are in their ranges.
 ///
-/// For a writer that had not failed before, `WriteFault` comes exactly if it fails in this call.
-/// After a fault the writer has taken a front of the text.
+/// `WriteFault` comes exactly if the writer fails in this call. After a fault it has taken a front
+/// of the text.
 pub fn write_record<W: Sink>(
     alloc: Global,
     core: &Core,
@@ -29,7 +29,7 @@ pub fn write_record<W: Sink>(
         (calls_text (rows_of core.now.opening core.now.entries))) }
     ensures front { OnErr result (AppendsFront (W.contents writer.old) (W.contents writer.new)
         (calls_text (rows_of core.now.opening core.now.entries))) }
-    ensures noted { NotesIf is_write_fault (W.has_failed writer.old) (W.has_failed writer.new)
+    ensures noted { NotesIf is_write_fault (W.failures writer.old) (W.failures writer.new)
         result }
     // The limits of every core are in their ranges; no clause of a core says so.
     ensures reads_back { OnOk result (are_limits core.now.opening.limits ≡ true

@@ -130,12 +130,12 @@ pub fn run_over<T: Threads + Wait, R: Source, W: Sink>(
     ensures unwritten { (fault : _) → result ≡ Err fault → Spec.is_before_requests fault ≡ true
         → writer.new ≡ writer.old }
 
-    // For streams that had not failed before, ReadFault comes exactly if the reader failed in this
-    // run, and WriteFault exactly if the writer did.
-    ensures reader_noted { NotesIf Spec.is_run_read_fault (R.has_failed reader.old)
-        (R.has_failed reader.new) result }
-    ensures writer_noted { NotesIf Spec.is_run_write_fault (W.has_failed writer.old)
-        (W.has_failed writer.new) result }
+    // ReadFault comes exactly if the reader failed in this run, and WriteFault exactly if the writer
+    // did.
+    ensures reader_noted { NotesIf Spec.is_run_read_fault (R.failures reader.old)
+        (R.failures reader.new) result }
+    ensures writer_noted { NotesIf Spec.is_run_write_fault (W.failures writer.old)
+        (W.failures writer.new) result }
 
     // `BadLimits` comes exactly for limits outside their ranges, and then the reader and the writer
     // are as they were.
@@ -194,10 +194,10 @@ pub fn run_under<T: Threads + Wait, R: Source, W: Sink>(
     ensures end { IfOk result (λ ended. OnOk ended.replies (IsAtEnd (R.remaining reader.new))) }
     ensures buffered { IfOk result (λ ended. ended.replies ≢ Err SessionFault.NoMemory) }
     ensures untouched { OnErr result ((reader.new ≡ reader.old) × (writer.new ≡ writer.old)) }
-    ensures reader_noted { IfOk result (λ ended. NotesIf is_read_fault (R.has_failed reader.old)
-        (R.has_failed reader.new) ended.replies) }
-    ensures writer_noted { IfOk result (λ ended. NotesIf is_write_fault (W.has_failed writer.old)
-        (W.has_failed writer.new) ended.replies) }
+    ensures reader_noted { IfOk result (λ ended. NotesIf is_read_fault (R.failures reader.old)
+        (R.failures reader.new) ended.replies) }
+    ensures writer_noted { IfOk result (λ ended. NotesIf is_write_fault (W.failures writer.old)
+        (W.failures writer.new) ended.replies) }
     ensures limits { IsErrOf result RunFault.BadLimits ↔ (are_limits limits ≡ false) }
     ensures memory { are_limits limits ≡ true → IfErr result
         (λ fault. fault ≡ RunFault.NoMemory) }

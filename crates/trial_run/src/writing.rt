@@ -20,8 +20,8 @@ use std::alloc::Global;
 /// Writes a report: the header, a row for each admission, one for the peak of each zone, and the
 /// counts, as `csv` writes them by default.
 ///
-/// For a writer that had not failed before, `WriteFault` comes exactly if it fails in this call.
-/// After a fault the writer has taken a front of the text.
+/// `WriteFault` comes exactly if the writer fails in this call. After a fault it has taken a front
+/// of the text.
 pub fn write_report<W: Sink>(
     alloc: Global,
     report: &Report,
@@ -31,7 +31,7 @@ pub fn write_report<W: Sink>(
         (report_text report.now)) }
     ensures front { OnErr result (AppendsFront (W.contents writer.old) (W.contents writer.new)
         (report_text report.now)) }
-    ensures noted { NotesIf is_write_fault (W.has_failed writer.old) (W.has_failed writer.new)
+    ensures noted { NotesIf is_write_fault (W.failures writer.old) (W.failures writer.new)
         result }
 {
     let mut rows = RowWriter::new(alloc);
@@ -50,7 +50,7 @@ fn write_parts<W: Sink>(
         (report_text report.now) rows.new) }
     ensures front { OnErr result (AppendsFront (W.contents writer.old) (W.contents writer.new)
         (report_text report.now)) }
-    ensures noted { NotesIf is_write_fault (W.has_failed writer.old) (W.has_failed writer.new)
+    ensures noted { NotesIf is_write_fault (W.failures writer.old) (W.failures writer.new)
         result }
 {
     write_header(rows, writer)?;
@@ -65,7 +65,7 @@ fn write_header<W: Sink>(rows: &mut RowWriter, writer: &mut W) -> Result<(), Wri
         (rows.old ++ row_text default_writer header) rows.new) }
     ensures front { OnErr result (AppendsFront (W.contents writer.old) (W.contents writer.new)
         (rows.old ++ row_text default_writer header)) }
-    ensures noted { NotesIf is_write_fault (W.has_failed writer.old) (W.has_failed writer.new)
+    ensures noted { NotesIf is_write_fault (W.failures writer.old) (W.failures writer.new)
         result }
 {
     let fields: [&[u8]; 5] = [b"number", b"digits", b"recorded", b"candidate", b"verdict"];
@@ -82,7 +82,7 @@ fn write_rows<W: Sink>(
         (rows.old ++ rows_said report.now.rows) rows.new) }
     ensures front { OnErr result (AppendsFront (W.contents writer.old) (W.contents writer.new)
         (rows.old ++ rows_said report.now.rows)) }
-    ensures noted { NotesIf is_write_fault (W.has_failed writer.old) (W.has_failed writer.new)
+    ensures noted { NotesIf is_write_fault (W.failures writer.old) (W.failures writer.new)
         result }
 {
     for place in 0..report.row_count() {
@@ -104,7 +104,7 @@ fn write_peaks<W: Sink>(
         (rows.old ++ peaks_said report.now.peaks) rows.new) }
     ensures front { OnErr result (AppendsFront (W.contents writer.old) (W.contents writer.new)
         (rows.old ++ peaks_said report.now.peaks)) }
-    ensures noted { NotesIf is_write_fault (W.has_failed writer.old) (W.has_failed writer.new)
+    ensures noted { NotesIf is_write_fault (W.failures writer.old) (W.failures writer.new)
         result }
 {
     for place in 0..report.peak_count() {
@@ -126,7 +126,7 @@ fn write_row<W: Sink>(
         (rows.old ++ row_said row.now) rows.new) }
     ensures front { OnErr result (AppendsFront (W.contents writer.old) (W.contents writer.new)
         (rows.old ++ row_said row.now)) }
-    ensures noted { NotesIf is_write_fault (W.has_failed writer.old) (W.has_failed writer.new)
+    ensures noted { NotesIf is_write_fault (W.failures writer.old) (W.failures writer.new)
         result }
 {
     let mut number = Buffer::new();
@@ -155,7 +155,7 @@ fn write_peak<W: Sink>(
         (rows.old ++ peak_said peak.now) rows.new) }
     ensures front { OnErr result (AppendsFront (W.contents writer.old) (W.contents writer.new)
         (rows.old ++ peak_said peak.now)) }
-    ensures noted { NotesIf is_write_fault (W.has_failed writer.old) (W.has_failed writer.new)
+    ensures noted { NotesIf is_write_fault (W.failures writer.old) (W.failures writer.new)
         result }
 {
     let mut units = Buffer::new();
@@ -179,7 +179,7 @@ fn write_counts<W: Sink>(
         (rows.old ++ row_text default_writer (count_fields counts.now)) rows.new) }
     ensures front { OnErr result (AppendsFront (W.contents writer.old) (W.contents writer.new)
         (rows.old ++ row_text default_writer (count_fields counts.now))) }
-    ensures noted { NotesIf is_write_fault (W.has_failed writer.old) (W.has_failed writer.new)
+    ensures noted { NotesIf is_write_fault (W.failures writer.old) (W.failures writer.new)
         result }
 {
     let mut all = Buffer::new();

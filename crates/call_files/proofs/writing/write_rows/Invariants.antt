@@ -10,5 +10,5 @@ invariant-loop-place g l = record {
   written : AppendsUpTo (g.W.Sink.contents l.fn.writer) (g.W.Sink.contents l.writer)
       (l.fn.rows ++ rows_said (g.S.RowSource.rows_before l.source l.place)) l.rows;
   sound : All IsRow (g.S.RowSource.rows_before l.source l.place);
-  noted : g.W.Sink.has_failed l.writer ≡ g.W.Sink.has_failed l.fn.writer;
+  noted : g.W.Sink.failures l.writer ≡ g.W.Sink.failures l.fn.writer;
 }

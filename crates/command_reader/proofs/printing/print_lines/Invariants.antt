@@ -7,5 +7,5 @@ abbrev pub invariant-loop-command : goal.invariant-loop-command
 invariant-loop-command g l = record {
   written : Appends (g.W.Sink.contents l.fn.writer) (g.W.Sink.contents l.writer)
       (text_of (take l.command-index l.commands));
-  noted : g.W.Sink.has_failed l.writer ≡ g.W.Sink.has_failed l.fn.writer;
+  noted : g.W.Sink.failures l.writer ≡ g.W.Sink.failures l.fn.writer;
 }

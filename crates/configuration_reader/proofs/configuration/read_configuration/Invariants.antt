@@ -13,7 +13,7 @@ invariant-loop-read g l =
           (left_of l.lines (remaining l.reader)) (IsReading l.until l.lines.ended l.read);
       turns : CountsTurns (g.R.Source.calls l.fn.reader) (g.R.Source.calls l.reader)
           l.fn.lines.turns l.lines.turns;
-      noted : g.R.Source.has_failed l.reader ≡ g.R.Source.has_failed l.fn.reader;
+      noted : g.R.Source.failures l.reader ≡ g.R.Source.failures l.fn.reader;
     }
 
 abbrev pub decreases-loop-read : goal.decreases-loop-read

@@ -14,6 +14,6 @@ invariant-loop-taken g l =
           l._taken l.owned);
       turns : CountsTurns (g.R.Source.calls l.fn.reader) (g.R.Source.calls l.reader)
           l.fn.lines.turns l.lines.turns;
-      noted : g.R.Source.has_failed l.reader ≡ g.R.Source.has_failed l.fn.reader;
+      noted : g.R.Source.failures l.reader ≡ g.R.Source.failures l.fn.reader;
       work : work_left l.lines ≤ work_left l.fn.lines;
     }

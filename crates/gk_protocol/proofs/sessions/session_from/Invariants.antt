@@ -16,8 +16,8 @@ invariant-loop-reply g l =
           l.fn.answerer l.answerer (contents l.fn.writer) (contents l.writer) l.replies);
       turns : CountsTurns (g.R.Source.calls l.fn.reader) (g.R.Source.calls l.reader)
           l.fn.lines.turns l.lines.turns;
-      reader_noted : g.R.Source.has_failed l.reader ≡ g.R.Source.has_failed l.fn.reader;
-      writer_noted : g.W.Sink.has_failed l.writer ≡ g.W.Sink.has_failed l.fn.writer;
+      reader_noted : g.R.Source.failures l.reader ≡ g.R.Source.failures l.fn.reader;
+      writer_noted : g.W.Sink.failures l.writer ≡ g.W.Sink.failures l.fn.writer;
     }
 
 abbrev pub decreases-loop-reply : goal.decreases-loop-reply

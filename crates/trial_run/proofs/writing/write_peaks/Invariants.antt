@@ -7,5 +7,5 @@ abbrev pub invariant-loop-place : goal.invariant-loop-place
 invariant-loop-place g l = record {
   written : AppendsUpTo (g.W.Sink.contents l.fn.writer) (g.W.Sink.contents l.writer)
       (l.fn.rows ++ peaks_said (take l.place l.report.peaks)) l.rows;
-  noted : g.W.Sink.has_failed l.writer ≡ g.W.Sink.has_failed l.fn.writer;
+  noted : g.W.Sink.failures l.writer ≡ g.W.Sink.failures l.fn.writer;
 }

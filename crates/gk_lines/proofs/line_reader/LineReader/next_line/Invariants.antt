@@ -16,7 +16,7 @@ invariant-loop-more g l = record {
       l.self.turns;
   gave : GaveBytes (g.R.Source.remaining l.fn.reader) (g.R.Source.remaining l.reader)
       l.fn.self.turns l.self.turns;
-  noted : g.R.Source.has_failed l.reader ≡ g.R.Source.has_failed l.fn.reader;
+  noted : g.R.Source.failures l.reader ≡ g.R.Source.failures l.fn.reader;
 }
 
 abbrev pub decreases-loop-more : goal.decreases-loop-more
