@@ -1,6 +1,6 @@
 //! How entries are put at the end of a record, in places that were kept.
 
-ghost use Rattle.std.specs.Prelude.{◌≡◌, ◌<◌, ◌≤◌, ◌+◌, ◌-◌, ◌^◌, ◌++◌, ◌∷◌, [], length, OnOk, OnErr, IsSome, None};
+ghost use Rattle.std.specs.Prelude.{◌≡◌, ◌<◌, ◌≤◌, ◌+◌, ◌-◌, ◌^◌, ◌++◌, ◌∷◌, [], length, OnOk, OnErr, IsOk, IsSome, None};
 ghost use Rattle.std.specs.List.{cons_option};
 ghost use Rattle.rulings.specs.Events.{plain, put_in_force, Reloading};
 ghost use Rattle.decision_record.specs.Slots.{entry_meant, other_entry, register_entry};
@@ -130,7 +130,7 @@ impl Record {
 }
 
 /// Makes room in each of the four lists for this many further items. If memory runs out, they hold
-/// what they did.
+/// what they did; it never does if each has room for them already.
 fn reserve_each(
     slots: &mut SlotList,
     aside: &mut Pieces<WholeEntry>,
@@ -148,6 +148,8 @@ fn reserve_each(
         × (reloads.new.last ≡ reloads.old.last) × (reloads.old.room ≤ reloads.new.room) }
     ensures ok { OnOk result ((places ≤ slots.new.room) × (places ≤ aside.new.room)
         × (places ≤ registrations.new.room) × (places ≤ reloads.new.room)) }
+    ensures room { places ≤ slots.old.room → places ≤ aside.old.room
+        → places ≤ registrations.old.room → places ≤ reloads.old.room → IsOk result }
 {
     slots.reserve(places)?;
     aside.reserve(places)?;

@@ -1,6 +1,6 @@
 //! The slots of a record, each in the bytes that its kind needs.
 
-ghost use Rattle.std.specs.Prelude.{◌≡◌, ◌<◌, ◌≤◌, ◌+◌, ◌-◌, ◌^◌, ◌++◌, ◌∷◌, [], length, slice_get, option_map, IsSome, OnOk};
+ghost use Rattle.std.specs.Prelude.{◌≡◌, ◌<◌, ◌≤◌, ◌+◌, ◌-◌, ◌^◌, ◌++◌, ◌∷◌, [], length, slice_get, option_map, IsSome, IsOk, OnOk, OnErr};
 ghost use Rattle.std.specs.List.{cons_option};
 ghost use Rattle.pieces.specs.declared.list.TheConstants.{PIECE_ITEMS};
 ghost use Rattle.decision_record.specs.RecordIndex.{IsRoomier};
@@ -106,11 +106,12 @@ impl SlotList {
     }
 
     /// Makes room for this many further slots, of whatever kinds. If memory runs out, the slots
-    /// stay as they are.
+    /// stay as they are; it never does if there is room for them already.
     pub fn reserve(&mut self, places: usize) -> Result<(), AllocError>
         requires near { places ≤ self.old.room + PIECE_ITEMS }
         ensures slots { IsRoomier self.old self.new }
         ensures ok { OnOk result (places ≤ self.new.room) }
+        ensures err { OnErr result (self.old.room < places) }
     {
         if places <= self.room {
             return Ok(());
@@ -268,7 +269,7 @@ impl SlotList {
 }
 
 /// Makes room in each of the six lists for this many further items. If memory runs out, they hold
-/// what they did.
+/// what they did; it never does if each has room for them already.
 #[cold]
 #[inline(never)]
 fn reserve_each(
@@ -293,6 +294,9 @@ fn reserve_each(
     ensures ok { OnOk result ((places ≤ slot_places.new.room) × (places ≤ routed.new.room)
         × (places ≤ refused.new.room) × (places ≤ brief.new.room) × (places ≤ wide.new.room)
         × (places ≤ answers.new.room)) }
+    ensures room { places ≤ slot_places.old.room → places ≤ routed.old.room
+        → places ≤ refused.old.room → places ≤ brief.old.room → places ≤ wide.old.room
+        → places ≤ answers.old.room → IsOk result }
 {
     slot_places.reserve(places)?;
     routed.reserve(places)?;

@@ -3,7 +3,7 @@ use Rattle.std.proofs.Common.{◌≡◌, ◌+◌, ◌-◌, arith, slice_get, len
 use Rattle.std.proofs.lemmas.List.{append-nil}
 use Rattle.std.specs.List.{cons_option}
 use Rattle.std.specs.Prelude.{IfOk, IfErr, OnErr, MatchResult, if◌then◌else◌}
-use Rattle.std.proofs.Common.{false, true≢false}
+use Rattle.std.proofs.Common.{false, true≢false, inl}
 use Rattle.rulings.specs.Step.{step, no_memory_reply_of}
 use Rattle.rulings.specs.declared.replies.ReloadRefusal.TheVariants.{NoMemory}
 use Rattle.publisher.proofs.Prefixes.{get_last}
@@ -19,7 +19,7 @@ use Rattle.admission.specs.Answering.{answered, reply_kept}
 use Rattle.call_rows.specs.Rows.{SnapshotParts}
 use Rattle.decision_record.specs.Rows.{rows_of}
 use Rattle.rulings.specs.State.{State}
-use Rattle.live_desk.specs.Seats.{Asked, IsFound, IsReloadAnswer, SeatParts, unreserved, IsPut, IsReceiptOf, IsSnapshotOfSome, LastStands}
+use Rattle.live_desk.specs.Seats.{Asked, IsFound, IsReloadAnswer, IsReloadOf, SeatParts, unreserved, IsPut, IsReceiptOf, IsSnapshotOfSome, LastStands}
 use Rattle.live_desk.specs.Seats as seats
 use Rattle.live_desk.proofs.Counts.{number_within}
 use Rattle.admission.proofs.StepLemmas.{step_reply}
@@ -78,6 +78,22 @@ pub as_reload : (commands : List Command) (result : Result (Reply × Receipt) Re
     (list : List (List Command)) → IsPut (Reloading commands) result list → IsReloadAnswer result
 as_reload commands (Ok answer) list put = (put.0, put.1)
 as_reload commands (Err reply) list put = put
+
+-- a reload that was replied with a version tells it
+pub told_as : (opening : State) (before : SeatParts) (commands : List Command) (reply : Reply)
+    (receipt : Receipt) (version : ℕ) (after : SeatParts) → reply ≡ Reloaded version
+    → Asked opening before (Reloading commands) (Ok (reply, receipt)) after
+    → IsReloadOf opening before commands (Ok (version, receipt)) after
+told_as opening before commands reply receipt version after is h =
+    inl (subst (λ r. Asked opening before (Reloading commands) (Ok (r, receipt)) after) is h)
+
+-- one that was refused tells the reason
+pub refused_as : (opening : State) (before : SeatParts) (commands : List Command) (reply : Reply)
+    (reason : ReloadRefusal) (after : SeatParts) → reply ≡ ReloadRefused reason
+    → Asked opening before (Reloading commands) (Err reply) after
+    → IsReloadOf opening before commands (Err reason) after
+refused_as opening before commands reply reason after is h =
+    inl (subst (λ r. Asked opening before (Reloading commands) (Err r) after) is h)
 
 -- the receipt names what was asked, and the reply
 pub named : (old new : CoreParts) (event : PlainEvent) (result : Result (Reply × Receipt) Reply)

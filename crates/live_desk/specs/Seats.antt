@@ -11,6 +11,7 @@ use Rattle.rulings.specs.Events.{PlainEvent, Registering, Unregistering, Admitti
 use Rattle.rulings.specs.declared.replies.Reply.{Reply}
 use Rattle.rulings.specs.declared.replies.Reply.TheVariants.{Reloaded, ReloadRefused}
 use Rattle.rulings.specs.declared.replies.ReloadRefusal.{ReloadRefusal}
+use Rattle.rulings.specs.declared.replies.ReloadRefusal.TheVariants.{NoMemory}
 use Rattle.decision_record.specs.declared.entries.Receipt.{Receipt}
 use Rattle.call_rows.specs.Rows.{SnapshotParts}
 use Rattle.decision_record.specs.History.{CoreParts, PlainEntry, IsLegal, Stands, state_of, Steps, generations}
@@ -134,6 +135,19 @@ IsPut (Reloading commands) (Err reply) list =
 abbrev pub IsReloadAnswer : Result (Reply × Receipt) Reply → Type 0
 IsReloadAnswer (Ok answer) = (version : ℕ) × (answer.0 ≡ Reloaded version)
 IsReloadAnswer (Err reply) = (reason : ReloadRefusal) × (reply ≡ ReloadRefused reason)
+
+-- the answer to a reload, as the reply under the lock that it tells of
+abbrev pub as_replied : Result (ℕ × Receipt) ReloadRefusal → Result (Reply × Receipt) Reply
+as_replied (Ok told) = Ok (Reloaded told.0, told.1)
+as_replied (Err reason) = Err (ReloadRefused reason)
+
+-- some legal history was led on by a reload of these commands with this answer; or memory ran out
+-- for their tables, and then nothing was asked, and the seat is as it was
+abbrev pub IsReloadOf
+    : State → SeatParts → List Command → Result (ℕ × Receipt) ReloadRefusal → SeatParts → Type 0
+IsReloadOf opening before commands answer after =
+    Asked opening before (Reloading commands) (as_replied answer) after
+    ⊎ ((answer ≡ Err NoMemory) × (after ≡ before))
 
 -- ---- all seats
 abbrev pub all_shares : List SeatParts → ℕ

@@ -6,7 +6,7 @@ ghost use mathlib.Core.List.{IsPrefix};
 ghost use Rattle.rulings.specs.Events.{event_meant, plain, put_in_force, Reloading};
 ghost use Rattle.rulings.specs.State.{opening_of};
 ghost use Rattle.admission.specs.Answering.{answered, receipt_for, reply_kept};
-ghost use Rattle.live_desk.specs.Seats.{all_shares, Asked, IsAstrayIn, IsFound, IsPlanFor, IsPut, IsReceiptOf, IsReloadAnswer, IsRouted};
+ghost use Rattle.live_desk.specs.Seats.{all_shares, Asked, IsAstrayIn, IsFound, IsPlanFor, IsPut, IsReceiptOf, IsReloadAnswer, IsReloadOf, IsRouted};
 
 use crate::desk::Desk;
 use crate::house::House;
@@ -299,9 +299,10 @@ impl<J: House> Seat<J> {
         answer
     }
 
+    #[tactic(auto, using(crate::proofs::Grows::told_as, crate::proofs::Grows::refused_as))]
     /// Puts these commands in force, whole, as the next version. They are compiled before the lock
     /// is taken. The refusals are those of `Core::reload`; `NoMemory` also if memory runs out for
-    /// the tables or for their publication.
+    /// the tables, and then nothing was asked under the lock, or for their publication.
     pub fn reload<R: Wait>(
         &mut self,
         rt: &R,
@@ -320,6 +321,8 @@ impl<J: House> Seat<J> {
         ensures rises { self.new.astray ≡ false
             → IfOk result (λ a. IfSome self.old.last (λ last. last.number < a.1.number)) }
         ensures above { IfOk result (λ a. self.old.share < a.1.number) }
+        ensures asked { IsReloadOf (opening_of J.begun J.limits) self.old commands.commands result
+            self.new }
         ensures put { self.new.lost ≡ false → IfOk result (λ a. (0 < a.0)
             × (slice_get self.new.seen (a.0 - 1) ≡ Some commands.commands)) }
     {

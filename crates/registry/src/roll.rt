@@ -1,6 +1,6 @@
 //! Endpoints in order of registration, found by ID and by number.
 
-ghost use Rattle.std.specs.Prelude.{◌≡◌, ◌<◌, ◌≤◌, ◌+◌, ◌^◌, [], None, Some, length, OnOk, OnErr, IfOk, IfErr, MatchOption, bytes_eq, is_some};
+ghost use Rattle.std.specs.Prelude.{◌≡◌, ◌<◌, ◌≤◌, ◌+◌, ◌^◌, [], None, Some, length, OnOk, OnErr, IfOk, IfErr, IsOk, IsSome, MatchOption, bytes_eq, is_some, ◌==◌, if◌then◌else◌};
 ghost use Rattle.std.specs.Option.{option_copied};
 ghost use Rattle.std.specs.Ordering.{nat_cmp};
 ghost use Rattle.std.specs.List.{IsDistinct};
@@ -133,7 +133,8 @@ impl Roll {
     }
 
     /// Puts the endpoint under the number for its ID, in the place of the one that has that ID,
-    /// which it gives. If memory runs out it gives the endpoint itself, and nothing has changed.
+    /// which it gives. If memory runs out it gives the endpoint itself, and nothing has changed; it
+    /// never does if there is an endpoint of that ID.
     pub fn insert(
         &mut self,
         number: u32,
@@ -151,8 +152,10 @@ impl Roll {
         ensures next { self.new.next ≤ self.old.next + 1 }
         ensures err { OnErr result (self.new ≡ self.old) }
         ensures back { IfErr result (λ back. back ≡ held) }
+        ensures again { IsSome (at_number self.old.entries number) → IsOk result }
     {
-        if self.numbers.reserve(1).is_err() {
+        let more = more_numbers(number, self.next);
+        if self.numbers.reserve(more).is_err() {
             return Err(held);
         }
         match self.endpoints.insert(EndpointNumber { number }, held) {
@@ -180,4 +183,12 @@ impl Roll {
         let number = self.numbers.remove(id)?;
         self.endpoints.remove(&EndpointNumber { number })
     }
+}
+
+/// For how many further IDs the endpoint of this number needs a place: for one if its number is
+/// the next one.
+fn more_numbers(number: u32, next: u32) -> usize
+    ensures { result ≡ (if number == next then 1 else 0) }
+{
+    if number == next { 1 } else { 0 }
 }

@@ -1,6 +1,6 @@
 //! Endpoints in order of registration, found by ID and by alias.
 
-ghost use Rattle.std.specs.Prelude.{◌≡◌, ◌<◌, ◌≤◌, ◌+◌, ◌^◌, [], None, false, length, slice_get, OnOk, OnErr, IfOk, MatchOption};
+ghost use Rattle.std.specs.Prelude.{◌≡◌, ◌<◌, ◌≤◌, ◌+◌, ◌^◌, [], None, true, false, length, slice_get, OnOk, OnErr, IfOk, MatchOption};
 ghost use Rattle.std.specs.Option.{option_copied};
 ghost use Rattle.std.specs.Ordering.{nat_cmp};
 ghost use Rattle.std.specs.List.{list_any};
@@ -67,7 +67,8 @@ impl Shelf {
 
     /// Whether no number is left for one more endpoint.
     fn is_used_up(&self) -> bool
-        ensures { (result ≡ false) → self.now.next + 1 < 2 ^ 32 }
+        ensures left { (result ≡ false) → self.now.next + 1 < 2 ^ 32 }
+        ensures none { (result ≡ true) → 2 ^ 32 ≤ self.now.next + 1 }
     {
         self.listing.next() == u32::MAX
     }
@@ -174,10 +175,13 @@ impl Shelf {
     }
 
     /// Leaves a number for one more endpoint: if none is left, each endpoint gets a new number.
+    /// Memory may run out only then.
     fn leave_a_number(&mut self, alloc: Global) -> Result<(), AllocError>
         requires few { length (endpoints_of self.old) < 2 ^ 32 }
         ensures same { endpoints_of self.new ≡ endpoints_of self.old }
+        ensures still { self.old.next + 1 < 2 ^ 32 → self.new ≡ self.old }
         ensures ok { OnOk result (self.new.next + 1 < 2 ^ 32) }
+        ensures err { OnErr result (2 ^ 32 ≤ self.old.next + 1) }
     {
         if !self.is_used_up() {
             return Ok(());
