@@ -77,26 +77,36 @@ fn each_call_of_the_reader_takes_a_turn(rt: HostRuntime) {
     }
 }
 
+/// How many requests stand whole in so many bytes of what is asked, and no line of the reload is
+/// lacking.
+fn asked_in(bytes: u64) -> u64 {
+    match bytes {
+        0..=7 => 0,
+        8..=15 => 1,
+        16..=25 => 2,
+        _ => 3,
+    }
+}
+
+/// Whether a session whose reader gives so many bytes a call and fails at this one has answered so
+/// many requests, and no more.
+fn has_answered(alloc: Global, most: usize, call: u64, asked: u64) -> bool {
+    let reader = Piecewise::failing_at(ASKED, most, call);
+    let (ended, requests, calls, written) = end_of_reading(alloc, reader, 100);
+    let failed = Err(SessionFault::ReadFault);
+    (ended, requests, calls) == (failed, asked, call) && written as u64 == asked.saturating_mul(8)
+}
+
 #[test]
 fn answers_what_was_read_before_the_reader_fails(rt: HostRuntime) {
-    let failed = Err(SessionFault::ReadFault);
-    for (most, call, asked) in [
-        (1, 1, 0),
-        (1, 8, 0),
-        (1, 9, 1),
-        (1, 17, 2),
-        // The reload was read, and then a part of its line.
-        (1, 25, 2),
-        (1, 26, 2),
-        (1, 27, 3),
-        (9, 2, 1),
-        (24, 2, 2),
-        (26, 2, 3),
-    ] {
-        let reader = Piecewise::failing_at(ASKED, most, call);
-        let (ended, requests, calls, written) = end_of_reading(rt.alloc(), reader, 100);
-        assert_eq!(rt; (ended, requests, calls), (failed, asked, call));
-        assert_eq!(rt; written as u64, asked.saturating_mul(8));
+    // Each call fails in turn: of the 26 that read a byte, and the one that finds the end.
+    for bytes in 0..27 {
+        let answered = has_answered(rt.alloc(), 1, bytes + 1, asked_in(bytes));
+        assert!(rt; answered, "after {bytes} bytes");
+    }
+    for (most, asked) in [(9, 1), (24, 2), (26, 3)] {
+        let answered = has_answered(rt.alloc(), most, 2, asked);
+        assert!(rt; answered, "{most} bytes a call");
     }
 }
 
@@ -121,9 +131,24 @@ fn asks_no_more_after_the_writer_fails(rt: HostRuntime) {
         (100, 4, (Ok(3), 3, 4, 24)),
         (3, 3, (failed, 1, 1, 6)),
         (3, 4, (failed, 2, 2, 8)),
-        (1, 24, (failed, 3, 3, 23)),
         (0, 0, (failed, 1, 1, 0)),
     ] {
         assert_eq!(rt; end_of_writing(rt.alloc(), most, call), (want, true));
+    }
+}
+
+#[test]
+fn a_front_is_written_whichever_call_of_the_writer_fails(rt: HostRuntime) {
+    // Each reply has 8 bytes, and each call of the reader gives a request.
+    for written in 0..24 {
+        let asked = written / 8 + 1;
+        let ended = end_of_writing(rt.alloc(), 1, written + 1);
+        let want = (
+            Err(SessionFault::WriteFault),
+            asked,
+            asked,
+            written as usize,
+        );
+        assert!(rt; ended == (want, true), "after {written} bytes");
     }
 }

@@ -2,7 +2,7 @@
 
 ghost use Rattle.std.specs.Prelude.{◌≡◌};
 
-use admission::{Destination, Event, Reply};
+use admission::{Destination, Event, ReloadRefusal, Reply};
 use command_reader::{Commands, read};
 use compiler::Tables;
 use gk_terms::{Address, Dialled, Name, TechPrefix, Units};
@@ -118,7 +118,7 @@ pub(crate) fn name_led_to<J: House, R: Wait>(
 }
 
 /// The name of the destination in a reply that admits a call.
-fn name_in(reply: &Reply) -> Option<Name> {
+pub(crate) fn name_in(reply: &Reply) -> Option<Name> {
     match reply {
         Reply::Admitted { destination, .. } => name_of(destination),
         _ => None,
@@ -131,5 +131,27 @@ fn name_of(destination: &Destination) -> Option<Name> {
         Destination::Gateway { id, .. } => Some(*id),
         Destination::Terminal { .. } => None,
         Destination::Zone { name, .. } => Some(*name),
+    }
+}
+
+/// Why a reload is refused, if it is.
+pub(crate) fn refusal_of_reload<J: House, R: Wait>(
+    rt: &R,
+    alloc: Global,
+    desk: &Desk<J>,
+    seat: &mut Seat<J>,
+) -> Option<ReloadRefusal> {
+    let commands = commands_of(alloc, TEXT)?;
+    match seat.reload(rt, alloc, desk, commands) {
+        Ok(_) => None,
+        Err(refusal) => Some(refusal),
+    }
+}
+
+/// The version by which the seat routes.
+pub(crate) fn version_seen<J: House>(seat: &mut Seat<J>, digits: &Dialled) -> Option<u32> {
+    match seat.route(digits) {
+        Ok(routed) => Some(routed.version.value()),
+        Err(_) => None,
     }
 }

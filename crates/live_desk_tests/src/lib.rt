@@ -10,8 +10,8 @@ mod hold_tests;
 #[cfg(test)]
 mod learned_tests;
 #[cfg(test)]
-mod refused_tests;
-#[cfg(test)]
 mod reload_tests;
+#[cfg(test)]
+mod storm_tests;
 #[cfg(test)]
 mod thread_tests;

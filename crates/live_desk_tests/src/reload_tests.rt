@@ -4,7 +4,8 @@ ghost use Rattle.std.specs.Prelude.{◌≡◌};
 ghost use Rattle.std.specs.Arc.{arc_value};
 
 use crate::given::{
-    OTHER, TEXT, blank_of, commands_of, gateway, name_led_to, tables_of, terminal, two_seats,
+    OTHER, TEXT, blank_of, commands_of, gateway, name_led_to, refusal_of_reload, tables_of,
+    terminal, two_seats,
 };
 use admission::{Limits, ReloadRefusal, STATED_LIMITS};
 use compiler::Tables;
@@ -99,20 +100,6 @@ fn version_of_reload<J: House, R: Wait>(
     match seat.reload(rt, alloc, desk, commands) {
         Ok((version, _)) => Some(version.value()),
         Err(_) => None,
-    }
-}
-
-/// Why a reload is refused, if it is.
-fn refusal_of_reload<J: House, R: Wait>(
-    rt: &R,
-    alloc: Global,
-    desk: &Desk<J>,
-    seat: &mut Seat<J>,
-) -> Option<ReloadRefusal> {
-    let commands = commands_of(alloc, TEXT)?;
-    match seat.reload(rt, alloc, desk, commands) {
-        Ok(_) => None,
-        Err(refusal) => Some(refusal),
     }
 }
 
