@@ -1,6 +1,6 @@
 -- Plans of numbered zones and rows, and what they mean.
-use Rattle.std.proofs.Common.{◌≡◌, ℕ, List, [], ◌∷◌, length, drop, map, slice_get, refl, sym, ap, ◌∙◌}
-use Rattle.std.specs.Prelude.{Option, Some, None, option_map, option_and_then, unwrap_or, bytes_eq, find}
+use Rattle.std.proofs.Common.{◌≡◌, ℕ, List, [], ◌∷◌, length, drop, map, slice_get, refl, sym, ap, subst, ◌∙◌}
+use Rattle.std.specs.Prelude.{Option, Some, None, IfSome, option_map, option_and_then, unwrap_or, bytes_eq, find}
 use Rattle.std.specs.Map.{keys_of}
 use Rattle.std.specs.Cmp.Lexicographic.{same_text}
 use Rattle.std.proofs.lemmas.List.Folds.{find_at}
@@ -145,12 +145,58 @@ row_of_place commands rows place pattern number h at kept =
           ∙ ap (λ o. Some (pattern, unwrap_or o first.0.1)) best.1;
     }
 
--- ---- the longest pattern
 fused : {X Y Z : Type 0} (f : Y → Z) (g : X → Y) (o : Option X)
     → option_map f (option_map g o) ≡ option_map (λ x. f (g x)) o
 fused f g None = refl
 fused f g (Some x) = refl
 
+module _ (commands : List Command) (rows : List NumberedRow)
+    (h : AreRows (zones_of commands) commands rows) (place : ℕ) where
+  -- the pattern that is kept at a place is that of the row of this number
+  pub pattern_at : option_map (λ (row : NumberedRow). row.0) (slice_get rows place)
+      ≡ option_map (λ (row : ZoneRow). row.0) (row_at commands place)
+  pattern_at =
+      sym (slice_get-map (λ (row : NumberedRow). row.0) rows place)
+      ∙ ap (λ ks. slice_get ks place) h.patterns
+      ∙ slice_get-map (λ (row : ZoneRow). row.0) (first_rows_of (rows_of commands)) place
+      ∙ sym (fused (λ (row : ZoneRow). row.0) (with_picked_zone commands)
+      (slice_get (first_rows_of (rows_of commands)) place))
+      ∙ ap (option_map (λ (row : ZoneRow). row.0))
+      (sym (slice_get-map (with_picked_zone commands) (first_rows_of (rows_of commands)) place))
+
+  -- what the plan for the zone of a row means
+  pub plan_of_place : (pattern : PatternParts) (number : ℕ) (technology : Option (List ℕ))
+      → slice_get rows place ≡ Some (pattern, number)
+      → zone_at_pattern rows pattern ≡ Some number
+      → IfSome (row_meant commands (Some place)) (λ used. target_of commands
+      (plan_to (kind_at (zones_of commands) number) number technology (Some place))
+      ≡ Some (by_row commands technology used))
+  plan_of_place pattern number technology at kept =
+      let row = row_of_place commands rows place pattern number h at kept in
+      let meant : row_meant commands (Some place) ≡ Some (Some (pattern, row.zone)) =
+      ap (option_map (λ (used : ZoneRow). Some used)) row.stands in
+      subst (λ (o : Option (Option ZoneRow)). IfSome o (λ used. target_of commands
+      (plan_to (kind_at (zones_of commands) number) number technology (Some place))
+      ≡ Some (by_row commands technology used))) (sym meant)
+      (ap (λ n. target_of commands
+      (plan_to (kind_at (zones_of commands) n) n technology (Some place))) (sym row.numbered)
+      ∙ plan_to_zone commands row.zone technology (Some place) (Some (pattern, row.zone)) meant)
+
+  -- a number past the rows has no row
+  pub no_row_at : (Meant : Option ZoneRow → Type 0) → slice_get rows place ≡ None
+      → IfSome (row_meant commands (Some place)) Meant
+  no_row_at Meant none = by (row_at commands place)
+      (sym pattern_at ∙ ap (option_map (λ (row : NumberedRow). row.0)) none)
+    where
+      by : (o : Option ZoneRow) → option_map (λ (row : ZoneRow). row.0) o ≡ None
+          → IfSome (option_map (λ (used : ZoneRow). Some used) o) Meant
+      by None e = tt
+      by (Some row) e = absurd (impossible e)
+        where
+          impossible : Some row.0 ≡ None → ⊥
+          impossible g = cc
+
+-- ---- the longest pattern
 -- nothing beside a pattern
 abbrev nothing : {V : Type 0} → PatternParts × V → ℕ
 nothing row = 0
@@ -250,20 +296,14 @@ module _ (commands : List Command) (rows : List NumberedRow)
       by None g = cc
       by (Some row) g = cc
 
-  -- the row that is used, and what the plan for its zone means
-  pub plan_by_hit : (hit : Hit) (pattern : PatternParts) (number : ℕ) (technology : Option (List ℕ))
+  -- the row of a hit is the one that is used
+  pub row_of_hit : (hit : Hit) (pattern : PatternParts) (number : ℕ)
       → best_hit (places_of rows) text ≡ Some hit
       → slice_get rows hit.value ≡ Some (pattern, number)
       → zone_at_pattern rows pattern ≡ Some number
-      → target_of commands (plan_to (kind_at (zones_of commands) number) number technology
-      (Some hit.value))
-      ≡ Some (by_row commands technology (row_for commands text))
-  plan_by_hit hit pattern number technology e at kept =
-      ap (λ n. target_of commands
-      (plan_to (kind_at (zones_of commands) n) n technology (Some hit.value))) (sym row.numbered)
-      ∙ plan_to_zone commands row.zone technology (Some hit.value) (Some (pattern, row.zone))
-      (ap (option_map (λ (used : ZoneRow). Some used)) row.stands)
-      ∙ ap (λ used. Some (by_row commands technology used)) (sym used)
+      → row_meant commands (Some hit.value) ≡ Some (row_for commands text)
+  row_of_hit hit pattern number e at kept =
+      ap (option_map (λ (used : ZoneRow). Some used)) row.stands ∙ ap (λ used. Some used) (sym used)
     where
       row : IsRow commands hit.value pattern number
       row = row_of_place commands rows hit.value pattern number h at kept

@@ -17,17 +17,19 @@ use Rattle.command_reader.proofs.accepted.AcceptedLemmas.{zones_few}
 use Rattle.gk_terms.specs.declared.limits.TheConstants.{MOST_ZONES}
 use Rattle.compiler.specs.declared.limits.ZoneLimits.{ZoneLimits}
 use Rattle.compiler.specs.declared.plans.TheConstants.{DEFAULT_GATEWAY_PRIORITY}
+use Rattle.compiler.specs.Pick.{picked}
 use Rattle.compiler.specs.Plan.{row_at, row_meant, target_of, by_row}
 use Rattle.compiler.specs.Priority.{entries_of, named_priority, AreNamedFor, priority_of}
 use Rattle.compiler.specs.Rows.{ZoneRow, rows_of, row_for, first_rows_of, with_picked_zone}
 use Rattle.compiler.specs.Technology.{technology_of, hopoffs_of}
 use Rattle.compiler.specs.Zones.{zone_meant, local_zone, view_at, view_of, view_of_name, number_in}
-use Rattle.compiler.specs.TablesIndex.{Zones, kind_at, best_number, plan_to, numbered_priority_of, NumberedRow, zone_at_pattern, AreRows, Technologies, IsFoundTechnology, IsLongest, Priorities, IsIndex}
+use Rattle.compiler.specs.TablesIndex.{Zones, kind_at, best_number, plan_to, numbered_priority_of, NumberedRow, zone_at_pattern, AreRows, Technologies, hopoff_at, IsFoundTechnology, IsLongest, Priorities, IsIndex}
 use Rattle.compiler.proofs.RowLemmas.{IsEquivalence-pattern}
 use Rattle.compiler.proofs.ZoneLemmas.{number_by_position}
 use Rattle.compiler.proofs.TechnologyLemmas.{longest_none, longest_some}
 use Rattle.compiler.proofs.GatewayLemmas.{numbered_is_named}
-use Rattle.compiler.proofs.PlanLemmas.{IsRow, row_of_place, key_from_map, item_from_map, no_hit, row_at_hit, plan_by_hit}
+use Rattle.compiler.proofs.PickLemmas.{best_number-picked}
+use Rattle.compiler.proofs.PlanLemmas.{IsRow, row_of_place, key_from_map, item_from_map, no_hit, row_at_hit, row_of_hit, pattern_at, plan_of_place, no_row_at}
 
 -- what a look-up gives is beside the first key that passes
 lookup_is_find : {K V : Type 0} (test : K → Bool) (es : List (K × V))
@@ -163,16 +165,40 @@ module _ {S : Type 0} {commands : List Command} {zones : Zones} {first_local : L
       row_at_hit commands rows index_rows text hit
       (ap (λ all. best_hit all text) (sym h.prefixes_are) ∙ e)
 
-  pub index_plan_by_hit : (text : List ℕ) (hit : Hit) (pattern : PatternParts) (number : ℕ)
-      (technology : Option (List ℕ)) → best_hit prefixes text ≡ Some hit
-      → slice_get rows hit.value ≡ Some (pattern, number)
+  pub index_row_of_hit : (text : List ℕ) (hit : Hit) → best_hit prefixes text ≡ Some hit
+      → row_meant commands (Some hit.value) ≡ Some (row_for commands text)
+  index_row_of_hit text hit e = by (slice_get rows hit.value) refl
+    where
+      by : (o : Option NumberedRow) → slice_get rows hit.value ≡ o
+          → row_meant commands (Some hit.value) ≡ Some (row_for commands text)
+      by None at = absurd (index_row_at_hit text hit e at)
+      by (Some row) at =
+          row_of_hit commands rows index_rows text hit row.0 row.1
+          (ap (λ all. best_hit all text) (sym h.prefixes_are) ∙ e) at
+          (lookup_from_place IsEquivalence-pattern rows hit.value row.0 row.1 h.distinct at)
+
+  pub index_pattern : (place : ℕ) → option_map (λ (row : NumberedRow). row.0) (slice_get rows place)
+      ≡ option_map (λ (row : ZoneRow). row.0) (row_at commands place)
+  index_pattern = pattern_at commands rows index_rows
+
+  pub index_plan_of_place : (place : ℕ) (pattern : PatternParts) (number : ℕ)
+      (technology : Option (List ℕ)) → slice_get rows place ≡ Some (pattern, number)
       → zone_at_pattern rows pattern ≡ Some number
-      → target_of commands (plan_to (kind_at (zones_of commands) number) number technology
-      (Some hit.value))
-      ≡ Some (by_row commands technology (row_for commands text))
-  index_plan_by_hit text hit pattern number technology e =
-      plan_by_hit commands rows index_rows text hit pattern number technology
-      (ap (λ all. best_hit all text) (sym h.prefixes_are) ∙ e)
+      → IfSome (row_meant commands (Some place)) (λ used. target_of commands
+      (plan_to (kind_at (zones_of commands) number) number technology (Some place))
+      ≡ Some (by_row commands technology used))
+  index_plan_of_place = plan_of_place commands rows index_rows
+
+  pub index_no_row : (place : ℕ) (Meant : Option ZoneRow → Type 0) → slice_get rows place ≡ None
+      → IfSome (row_meant commands (Some place)) Meant
+  index_no_row = no_row_at commands rows index_rows
+
+  pub index_hopoff_of : (prefix : List ℕ) → hopoff_at technologies prefix
+      ≡ option_map (number_in (zones_of commands)) (picked commands (hopoffs_of commands prefix))
+  index_hopoff_of prefix =
+      h.technologies_are.picked prefix
+      ∙ ap (λ all. best_number all (hopoffs_of commands prefix)) h.zones_are
+      ∙ best_number-picked commands (hopoffs_of commands prefix)
 
   pub index_longest_none : (digits : List ℕ) → IsLongest technologies digits None
       → technology_of commands digits ≡ None

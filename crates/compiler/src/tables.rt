@@ -4,11 +4,12 @@ ghost use Rattle.std.specs.Prelude.{◌≡◌, ◌<◌, ◌≤◌, true, length,
 ghost use Rattle.std.specs.Option.{option_copied};
 ghost use Rattle.command_reader.specs.Zones.{zones_of, first_local_of, is_local_option};
 ghost use Rattle.compiler.specs.Limit.{limits_of, limit_of, remote_limit_of};
-ghost use Rattle.compiler.specs.Plan.{plan_of, plan_after, target_of, row_meant, rejects_unknown, is_reject, by_row};
+ghost use Rattle.compiler.specs.Pick.{picked};
+ghost use Rattle.compiler.specs.Plan.{plan_of, plan_after, target_of, row_at, row_meant, rejects_unknown, is_reject, by_row};
 ghost use Rattle.compiler.specs.Priority.{priority_of, AreNamedFor, entries_of};
 ghost use Rattle.compiler.specs.Rows.{row_for};
 ghost use Rattle.compiler.specs.Technology.{technology_of, begins_with, hopoffs_of, default_technology_of};
-ghost use Rattle.compiler.specs.Zones.{zone_meant, local_zone, view_at, view_of_name, zone_at};
+ghost use Rattle.compiler.specs.Zones.{zone_meant, local_zone, view_at, view_of_name, zone_at, number_in};
 ghost use Rattle.compiler.specs.TablesIndex as Index;
 
 use crate::limit_table::{limits_at, remote_limit_in};
@@ -181,13 +182,57 @@ impl Tables {
         ensures { target_of self.now.commands result ≡ Some (by_row self.now.commands technology
             (row_for self.now.commands (drop from digits.now))) }
     {
-        let Some(hit) = self.prefixes.best(digits, from) else {
+        self.plan_of_row(technology, self.row(digits, from))
+    }
+
+    /// The row by which the digits from the place `from` on are sent: that of the longest pattern
+    /// of the `zone prefix` lines (Cisco) that matches them; none if no pattern does. Takes no
+    /// memory.
+    pub fn row(&self, digits: &Dialled, from: usize) -> Option<RowNo>
+        requires { from ≤ length digits.now }
+        ensures { row_meant self.now.commands result
+            ≡ Some (row_for self.now.commands (drop from digits.now)) }
+    {
+        match self.prefixes.best(digits, from) {
+            Some(hit) => Some(RowNo::new(hit.value)),
+            None => None,
+        }
+    }
+
+    /// The pattern of a row; nothing if the number is not one of these tables'.
+    pub fn pattern(&self, row: RowNo) -> Option<&Pattern>
+        ensures { option_copied result ≡ option_map (λ used. used.0) (row_at self.now.commands row) }
+    {
+        let (pattern, _) = self.rows.get_index(row.place() as usize)?;
+        Some(pattern)
+    }
+
+    /// Where a call goes by this row, or if no row was found, with this technology prefix taken off
+    /// its digits: to the row's zone; without a row nowhere under `arq reject-unknown-prefix`, and
+    /// else to the caller's zone. The number has to be one of these tables'; nothing is promised
+    /// for another. Takes no memory. This project's profile.
+    pub fn plan_of_row(&self, technology: Option<TechPrefix>, row: Option<RowNo>) -> Plan
+        ensures { IfSome (row_meant self.now.commands row) (λ used.
+            target_of self.now.commands result ≡ Some (by_row self.now.commands technology used)) }
+    {
+        let Some(number) = row else {
             return self.plan_without_row(technology);
         };
-        match self.rows.get_index(hit.value as usize) {
-            Some((_, zone)) => self.plan_to(*zone, technology, Some(RowNo::new(hit.value))),
+        match self.rows.get_index(number.place() as usize) {
+            Some((_, zone)) => self.plan_to(*zone, technology, row),
             None => self.plan_without_row(technology),
         }
+    }
+
+    /// The number of the hop-off zone of a technology prefix, of those that its `gw-type-prefix`
+    /// lines (Cisco) name: the first local one, else the remote one of least cost, of these the one
+    /// of greatest priority, and of these the first. None if it has no hop-off zone, or is not
+    /// declared. Takes no memory.
+    pub fn hopoff(&self, prefix: &TechPrefix) -> Option<ZoneNo>
+        ensures { result ≡ option_map (number_in (zones_of self.now.commands))
+            (picked self.now.commands (hopoffs_of self.now.commands prefix.now)) }
+    {
+        self.technologies.get(prefix).flatten()
     }
 
     /// Where a call goes if no zone prefix matches.
