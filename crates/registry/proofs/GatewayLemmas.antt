@@ -22,12 +22,12 @@ use Rattle.compiler.specs.Priority.{named_priority, AreNamedFor}
 use Rattle.compiler.proofs.TableLemmas.{priority_by_named}
 use Rattle.registry.specs.Endpoint.{EndpointParts}
 use Rattle.registry.specs.Gateway.{is_candidate, has_greater, gateway_by, gateway_of}
-use Rattle.registry.specs.Roll.{Numbered, at_number}
+use Rattle.registry.specs.NumberedEndpoints.{Numbered, at_number}
 use Rattle.registry.specs.Served.{found_serving}
-use Rattle.registry.specs.Listing.{NoneServes, IsNextServing}
+use Rattle.registry.specs.RegistryIndex.{NoneServes, IsNextServing}
 use Rattle.registry.specs.Chosen.{Named, IsBestGateway}
 use Rattle.registry.proofs.FindLemmas.{is_some-find}
-use Rattle.registry.proofs.RollLemmas.{distinct_numbers, later, first, each_entry}
+use Rattle.registry.proofs.NumberLemmas.{distinct_numbers, later, first, each_entry}
 use Rattle.registry.proofs.NamedLemmas.{all_looked_at}
 use Rattle.registry.proofs.UnnamedLemmas.{AllNamedBefore, found_unnamed, none_unnamed}
 

@@ -19,10 +19,10 @@ use Rattle.gk_terms.proofs.ChoiceLemmas.{find_passes}
 use Rattle.registry.specs.Endpoint.{EndpointParts, has_alias, share_alias}
 use Rattle.registry.specs.Registration.{has_id, alias_is_taken, with_endpoint, without_endpoint}
 use Rattle.registry.specs.RegistryIndex.{AliasNumbers, number_of_alias, found_with, aliases_of, lists, AreNumbersOfAliases, Forgets, LeadTo, IsIndexed}
-use Rattle.registry.specs.Roll.{Entries, Numbered, RollParts, at_number, by_id, is_number, found_with_id, IsChangedAt}
+use Rattle.registry.specs.NumberedEndpoints.{Entries, Numbered, NumberedParts, at_number, by_id, is_number, found_with_id, IsChangedAt}
 use Rattle.registry.proofs.FindLemmas.{found-none, also_passes}
 use Rattle.registry.proofs.LookUpLemmas.{Keyed, same_id, entry_missed}
-use Rattle.registry.proofs.RollLemmas.{same_number, number_itself, only_number}
+use Rattle.registry.proofs.NumberLemmas.{same_number, number_itself, only_number}
 
 -- ---- removal
 none_left : (id : List ℕ) (entries : Entries) → Keyed entries → NonePasses (bytes_eq id) entries
@@ -147,7 +147,8 @@ module _ (entries : Numbered) (alias_numbers : AliasNumbers) (owned : AreNumbers
           (shared f its (find (bytes_eq alias) e.aliases) refl)))
 
 -- after a removal: the aliases of the one that was found are forgotten
-pub indexed-remove : (old : RollParts) (new : Numbered) (alias_numbers rest : AliasNumbers) (id :
+pub indexed-remove : (old : NumberedParts) (new : Numbered) (alias_numbers rest : AliasNumbers) (id
+    :
     List ℕ)
     (number : ℕ) (found : Option EndpointParts)
     → IsIndexed old.entries alias_numbers → IsChangedAt old new id number found None
@@ -167,7 +168,7 @@ indexed-remove old new alias_numbers rest id number found h change forgets disti
 
 -- after a registration: the aliases of the one that was found are forgotten, and then the new ones
 -- lead to its number
-pub indexed-insert : (old : RollParts) (new : Numbered) (alias_numbers rest all : AliasNumbers)
+pub indexed-insert : (old : NumberedParts) (new : Numbered) (alias_numbers rest all : AliasNumbers)
     (e : EndpointParts) (number : ℕ) (found : Option EndpointParts)
     → IsIndexed old.entries alias_numbers → IsChangedAt old new e.id number found (Some e)
     → alias_is_taken (values_of old.entries) e ≡ false

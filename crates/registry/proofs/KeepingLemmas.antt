@@ -20,8 +20,8 @@ use Rattle.compiler.specs.declared.zones.ZoneView.{ZoneView}
 use Rattle.compiler.specs.Zones.{number_in, view_of, view_of_name, zone_at}
 use Rattle.registry.specs.Endpoint.{EndpointParts}
 use Rattle.registry.specs.Registration.{has_id, kept_zones, without_endpoint}
-use Rattle.registry.specs.Roll.{Numbered, Numbers, RollParts, endpoints_of, at_number, number_of_id, is_number, found_with_id, IsRoll, IsNumberFor, IsNextFrom, IsSetAt, NoneFrom}
-use Rattle.registry.proofs.RollLemmas.{distinct_numbers, each_entry, known_number, number_itself, same_number}
+use Rattle.registry.specs.NumberedEndpoints.{Numbered, Numbers, NumberedParts, endpoints_of, at_number, number_of_id, is_number, found_with_id, IsNumbered, IsNumberFor, IsNextFrom, IsSetAt, NoneFrom}
+use Rattle.registry.proofs.NumberLemmas.{distinct_numbers, each_entry, known_number, number_itself, same_number}
 use Rattle.registry.proofs.ServedLemmas.{not_above}
 
 -- ---- the zone of a name
@@ -52,13 +52,13 @@ abbrev LiesFrom : ℕ → ℕ → Type 0
 LiesFrom from number = (is_gt (nat_cmp from number) ≡ false) × ⊤
 
 module _ (entries : Numbered) (numbers : Numbers) (next : ℕ)
-    (roll : IsRoll entries numbers next) where
+    (sound : IsNumbered entries numbers next) where
   -- the number of an endpoint's ID is its own
   number_known : (n : ℕ) (e : EndpointParts) → at_number entries n ≡ Some e
       → number_of_id numbers e.id ≡ Some n
   number_known n e there =
       by (number_of_id numbers e.id) refl
-      (roll.numbered e.id n ∙ ap (found_with_id e.id) there ∙ nat_list_eq_equiv.refl e.id)
+      (sound.numbered e.id n ∙ ap (found_with_id e.id) there ∙ nat_list_eq_equiv.refl e.id)
     where
       by : (known : Option ℕ) → number_of_id numbers e.id ≡ known → is_number n known ≡ true
           → known ≡ Some n
@@ -74,12 +74,12 @@ module _ (entries : Numbered) (numbers : Numbers) (next : ℕ)
   is_next r from n e at first least fits =
       let here = subst (λ o. IfSome o
       (λ f. LiesFrom from f.0 × (at_number entries f.0 ≡ Some f.1))) at first in
-      let low = roll.below n e here.1 in
+      let low = sound.below n e here.1 in
       record {
         there = here.1;
         from_here = le_from_not_gt from n here.0.0;
         least = λ other more less. by other more less (at_number entries other) refl;
-        own = known_number entries numbers next roll e.id n (number_known n e here.1);
+        own = known_number entries numbers next sound e.id n (number_known n e here.1);
         below = low;
         room = omega (arith, low, fits);
       }
@@ -135,12 +135,14 @@ no_more_stay commands endpoints =
 
 -- ---- number by number
 -- the same stay as before, and each below this number is in a local zone
-pub record StayBelow (commands : List Command) (before now : RollParts) (from : ℕ) : Type 0 where
-  pub kept : kept_zones commands (endpoints_of now) ≡ kept_zones commands (endpoints_of before)
-  pub local : (number : ℕ) (e : EndpointParts) → number < from
-      → at_number now.entries number ≡ Some e → is_local commands e.zone ≡ true
+pub record StayBelow (commands : List Command) (before now : NumberedParts) (from : ℕ) : Type 0
+  where
+    pub kept : kept_zones commands (endpoints_of now) ≡ kept_zones commands (endpoints_of before)
+    pub local : (number : ℕ) (e : EndpointParts) → number < from
+        → at_number now.entries number ≡ Some e → is_local commands e.zone ≡ true
 
-module _ (commands : List Command) (before now : RollParts) (from number : ℕ) (e : EndpointParts)
+module _ (commands : List Command) (before now : NumberedParts) (from number : ℕ) (e :
+    EndpointParts)
     (h : StayBelow commands before now from) (found : IsNextFrom now from number e) where
   -- each other one up to this number is in a local zone
   others_local : (m : ℕ) (f : EndpointParts) → m < number + 1 → is_at (nat_cmp number) m ≡ false
@@ -157,7 +159,7 @@ module _ (commands : List Command) (before now : RollParts) (from number : ℕ) 
           (ap (is_at (nat_cmp number)) (sym one) ∙ number_itself number))
 
   -- it is in no local zone, and was taken out
-  pub one_goes : (new : RollParts) (id : List ℕ) → id ≡ e.id → is_local commands e.zone ≡ false
+  pub one_goes : (new : NumberedParts) (id : List ℕ) → id ≡ e.id → is_local commands e.zone ≡ false
       → IsStrictlySortedBy nat_cmp (keys_of now.entries)
       → endpoints_of new ≡ without_endpoint (endpoints_of now) id
       → ((m : ℕ) → IsNumberFor now id m → IsSetAt now.entries new.entries m None)
@@ -189,7 +191,7 @@ module _ (commands : List Command) (before now : RollParts) (from number : ℕ) 
       by m f low false q there = others_local m f low q there
 
 -- all were looked at
-pub all_looked_at : (commands : List Command) (before now : RollParts) (from : ℕ)
+pub all_looked_at : (commands : List Command) (before now : NumberedParts) (from : ℕ)
     → StayBelow commands before now from → IsStrictlySortedBy nat_cmp (keys_of now.entries)
     → NoneFrom now.entries from
     → endpoints_of now ≡ kept_zones commands (endpoints_of before)

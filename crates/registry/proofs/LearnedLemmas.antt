@@ -24,11 +24,11 @@ use Rattle.compiler.proofs.TechnologyLemmas.{IsMost, begins_from, begins_is, beg
 use Rattle.registry.specs.Endpoint.{EndpointParts, has_technology}
 use Rattle.registry.specs.Gateway.{is_gateway}
 use Rattle.registry.specs.Learned.{has_some, learned_prefixes, prefixes_given}
-use Rattle.registry.specs.Listing.{AreServed}
+use Rattle.registry.specs.RegistryIndex.{AreServed}
 use Rattle.registry.specs.Registration.{kept_zones}
-use Rattle.registry.specs.Roll.{Numbered, at_number}
+use Rattle.registry.specs.NumberedEndpoints.{Numbered, at_number}
 use Rattle.registry.specs.Served.{AreWithin, IsLongestServed, IsServed, NoneIsServed, Places, ZoneNumbers, found_in, found_serving, kept_for, longest_for}
-use Rattle.registry.proofs.RollLemmas.{distinct_numbers, each_entry}
+use Rattle.registry.proofs.NumberLemmas.{distinct_numbers, each_entry}
 
 -- ---- prefixes of one endpoint
 -- a prefix is among the list exactly if it is one of the endpoint's

@@ -6,12 +6,12 @@ pub mod SoundLemmas
 pub mod OwnerLemmas
 pub mod RegisteringLemmas
 pub mod ServedLemmas
-pub mod RollLemmas
-pub mod RollInsertion
-pub mod RollRemoval
-pub mod ListingLemmas
+pub mod NumberLemmas
+pub mod NumberInsertion
+pub mod NumberRemoval
+pub mod ServedChanges
 pub mod LearnedLemmas
-pub mod ShelfLemmas
+pub mod SeenLemmas
 pub mod KeepingLemmas
 pub mod CopyLemmas
 pub mod BriefTextLemmas

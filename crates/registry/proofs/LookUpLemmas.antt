@@ -14,7 +14,7 @@ use Rattle.std.proofs.lemmas.Map.Keys.{IsDistinct-tail}
 use Rattle.gk_terms.proofs.ChoiceLemmas.{find_passes}
 use Rattle.registry.specs.Endpoint.{EndpointParts}
 use Rattle.registry.specs.Registration.{has_id, endpoint_of, is_registered, same_address, id_is_taken}
-use Rattle.registry.specs.Roll.{Entries, Numbered, by_id, kept_endpoint_of}
+use Rattle.registry.specs.NumberedEndpoints.{Entries, Numbered, by_id, kept_endpoint_of}
 use Rattle.registry.proofs.FindLemmas.{is_some-find, found-some, found-none}
 
 -- ---- by ID

@@ -14,11 +14,11 @@ use Rattle.compiler.specs.declared.plans.TheConstants.{DEFAULT_GATEWAY_PRIORITY}
 use Rattle.compiler.specs.Priority.{named_priority}
 use Rattle.registry.specs.Endpoint.{EndpointParts}
 use Rattle.registry.specs.Gateway.{serves, is_candidate}
-use Rattle.registry.specs.Roll.{Numbered, at_number, by_id, found_with_id, IsNumberFor, kept_endpoint_of}
+use Rattle.registry.specs.NumberedEndpoints.{Numbered, at_number, by_id, found_with_id, IsNumberFor, kept_endpoint_of}
 use Rattle.registry.specs.Served.{found_serving}
 use Rattle.registry.specs.Chosen.{Named, is_other_than, IsBestGateway, IsBestAt, comes_first, first_of, is_first, is_greater}
 use Rattle.registry.proofs.LookUpLemmas.{Keyed-by_id, entry_id}
-use Rattle.registry.proofs.RollLemmas.{not_missed}
+use Rattle.registry.proofs.NumberLemmas.{not_missed}
 
 -- ---- numbers
 -- what is no better than one is no better than another that the one does not come before

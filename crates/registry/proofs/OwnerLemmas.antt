@@ -12,7 +12,7 @@ use Rattle.gk_terms.proofs.ChoiceLemmas.{find_passes}
 use Rattle.registry.specs.Endpoint.{EndpointParts, has_alias}
 use Rattle.registry.specs.Registration.{has_id, by_alias, alias_is_taken, ShareNoAlias}
 use Rattle.registry.specs.RegistryIndex.{AliasNumbers, number_of_alias, found_with, IsIndexed, owner_of, is_of_another}
-use Rattle.registry.specs.Roll.{Numbered, at_number}
+use Rattle.registry.specs.NumberedEndpoints.{Numbered, at_number}
 use Rattle.registry.proofs.FindLemmas.{is_some-find, found-none, missed, any_pair}
 use Rattle.registry.proofs.LookUpLemmas.{entry_missed, found_and}
 use Rattle.registry.proofs.SoundLemmas.{stands_at, leads, led}

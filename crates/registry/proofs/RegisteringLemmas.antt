@@ -8,8 +8,9 @@ use Rattle.command_reader.specs.declared.commands.Command.{Command}
 use Rattle.command_reader.specs.Zones.{is_local}
 use Rattle.compiler.specs.Zones.{zone_meant, local_zone}
 use Rattle.registry.specs.declared.faults.Duplicate.TheVariants.{Id, E164}
-use Rattle.registry.specs.declared.faults.RegistryFault.{RegistryFault}
-use Rattle.registry.specs.declared.faults.RegistryFault.TheVariants.{UnknownZone, DuplicateAlias, NotRegistered}
+use Rattle.registry.specs.declared.faults.PlacementFault.{PlacementFault}
+use Rattle.registry.specs.declared.faults.PlacementFault.TheVariants.{UnknownZone, DuplicateAlias}
+use Rattle.registry.specs.declared.faults.RegistryFault.TheVariants.{NotRegistered}
 use Rattle.registry.specs.Endpoint.{EndpointParts}
 use Rattle.registry.specs.Registration.{RegistryParts, placement_of, zone_unless, id_is_taken, alias_is_taken, without_endpoint, has_id, endpoint_of, unregistered_in, is_full_for, is_registered, with_endpoint}
 use Rattle.registry.specs.Registering.{placement_among}
@@ -17,7 +18,7 @@ use Rattle.registry.proofs.FindLemmas.{found-some, found-none}
 use Rattle.registry.proofs.IndexChanges.{put_at, put_later}
 
 -- the three tests, as they came out
-abbrev fault_by : Bool → Bool → Bool → Option RegistryFault
+abbrev fault_by : Bool → Bool → Bool → Option PlacementFault
 fault_by local id alias =
     if local
     then (if id then Some (DuplicateAlias Id)
@@ -32,7 +33,7 @@ placement_of_local commands endpoints e =
     by (is_local commands (zone_meant commands e.zone)) (id_is_taken endpoints e)
     (alias_is_taken endpoints e)
   where
-    found : Bool → Bool → Option (List ℕ) → Result (List ℕ) RegistryFault
+    found : Bool → Bool → Option (List ℕ) → Result (List ℕ) PlacementFault
     found id alias None = Err UnknownZone
     found id alias (Some zone) =
         if id then Err (DuplicateAlias Id)

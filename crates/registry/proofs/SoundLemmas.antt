@@ -10,9 +10,9 @@ use Rattle.std.proofs.lemmas.Map.Keys.{IsDistinct-head, IsDistinct-tail}
 use Rattle.registry.specs.Endpoint.{EndpointParts, has_alias}
 use Rattle.registry.specs.Registration.{HaveDifferentIds, ShareNoAlias}
 use Rattle.registry.specs.RegistryIndex.{AliasNumbers, number_of_alias, found_with, IsIndexed}
-use Rattle.registry.specs.Roll.{Entries, Numbered, at_number, by_id}
+use Rattle.registry.specs.NumberedEndpoints.{Entries, Numbered, at_number, by_id}
 use Rattle.registry.proofs.LookUpLemmas.{Keyed, Keyed-by_id, values-by_id, listed_entry}
-use Rattle.registry.proofs.RollLemmas.{StandsUnder, stands_under, distinct_numbers, only_number, number_found}
+use Rattle.registry.proofs.NumberLemmas.{StandsUnder, stands_under, distinct_numbers, only_number, number_found}
 
 -- an endpoint after the first has another ID
 other_id : (id : List ℕ) (entries : Entries) (f : EndpointParts) (j : ℕ) → Keyed entries

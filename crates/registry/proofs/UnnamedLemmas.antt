@@ -10,9 +10,9 @@ use Rattle.compiler.specs.declared.plans.TheConstants.{DEFAULT_GATEWAY_PRIORITY}
 use Rattle.compiler.specs.Priority.{named_priority}
 use Rattle.registry.specs.Endpoint.{EndpointParts}
 use Rattle.registry.specs.Gateway.{serves, is_candidate}
-use Rattle.registry.specs.Roll.{Numbered, at_number}
+use Rattle.registry.specs.NumberedEndpoints.{Numbered, at_number}
 use Rattle.registry.specs.Served.{found_serving}
-use Rattle.registry.specs.Listing.{NoneServes, IsNextServing}
+use Rattle.registry.specs.RegistryIndex.{NoneServes, IsNextServing}
 use Rattle.registry.specs.Chosen.{Named, is_other_than, IsBestGateway, IsBestAt}
 
 -- whether an ID is named

@@ -5,7 +5,7 @@ use Rattle.std.specs.List.{list_any}
 use Rattle.compiler.specs.Priority.{named_priority}
 use Rattle.registry.specs.Endpoint.{EndpointParts}
 use Rattle.registry.specs.Gateway.{is_candidate}
-use Rattle.registry.specs.Roll.{Numbered, at_number}
+use Rattle.registry.specs.NumberedEndpoints.{Numbered, at_number}
 
 -- the gateways that are named, each with its priority
 abbrev pub Named : Type 0

@@ -4,8 +4,7 @@ pub mod Registration
 pub mod RegistryIndex
 pub mod Registering
 pub mod Served
-pub mod Roll
-pub mod Listing
+pub mod NumberedEndpoints
 pub mod Learned
 pub mod Chosen
 pub mod GatewayLaws

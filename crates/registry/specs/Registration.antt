@@ -7,8 +7,10 @@ use Rattle.command_reader.specs.Zones.{is_local}
 use Rattle.compiler.specs.Zones.{zone_meant}
 use Rattle.registry.specs.declared.faults.Duplicate.{Duplicate}
 use Rattle.registry.specs.declared.faults.Duplicate.TheVariants.{Id, E164}
+use Rattle.registry.specs.declared.faults.PlacementFault.{PlacementFault}
+use Rattle.registry.specs.declared.faults.PlacementFault.TheVariants.{UnknownZone, DuplicateAlias}
 use Rattle.registry.specs.declared.faults.RegistryFault.{RegistryFault}
-use Rattle.registry.specs.declared.faults.RegistryFault.TheVariants.{UnknownZone, DuplicateAlias, TooMany, NotRegistered}
+use Rattle.registry.specs.declared.faults.RegistryFault.TheVariants as registry
 use Rattle.registry.specs.Endpoint.{EndpointParts, has_alias, share_alias}
 
 -- the endpoint with this ID
@@ -51,18 +53,18 @@ registration_refusal unknown_zone duplicate commands endpoints e =
 
 -- the same in the words of a registry
 abbrev pub registration_fault : List Command → List EndpointParts → EndpointParts
-    → Option RegistryFault
+    → Option PlacementFault
 registration_fault commands endpoints e =
     registration_refusal UnknownZone DuplicateAlias commands endpoints e
 
 -- the zone, unless there is a fault
-abbrev pub zone_unless : List ℕ → Option RegistryFault → Result (List ℕ) RegistryFault
+abbrev pub zone_unless : List ℕ → Option PlacementFault → Result (List ℕ) PlacementFault
 zone_unless zone (Some fault) = Err fault
 zone_unless zone None = Ok zone
 
 -- the local zone in which an endpoint may register, room aside, or the fault
 abbrev pub placement_of : List Command → List EndpointParts → EndpointParts
-    → Result (List ℕ) RegistryFault
+    → Result (List ℕ) PlacementFault
 placement_of commands endpoints e =
     zone_unless (zone_meant commands e.zone) (registration_fault commands endpoints e)
 
@@ -91,12 +93,17 @@ pub record RegistryParts : Type 0 where
 abbrev pub is_full_for : RegistryParts → EndpointParts → Bool
 is_full_for r e = not (is_registered r.endpoints e.id) && nat_le r.most (length r.endpoints)
 
+-- why an endpoint may not register, in the words of a registry
+abbrev pub registry_fault_of : PlacementFault → RegistryFault
+registry_fault_of UnknownZone = registry.UnknownZone
+registry_fault_of (DuplicateAlias duplicate) = registry.DuplicateAlias duplicate
+
 -- the registry with the endpoint in this zone, if there is room, or the fault that was found before
-abbrev pub registered_at : RegistryParts → EndpointParts → Result (List ℕ) RegistryFault
+abbrev pub registered_at : RegistryParts → EndpointParts → Result (List ℕ) PlacementFault
     → Result RegistryParts RegistryFault
-registered_at r e (Err fault) = Err fault
+registered_at r e (Err fault) = Err (registry_fault_of fault)
 registered_at r e (Ok zone) =
-    if is_full_for r e then Err TooMany
+    if is_full_for r e then Err registry.TooMany
     else Ok (record r { endpoints = with_endpoint r.endpoints (record e { zone = zone }) })
 
 -- the registry after a registration: one of the three refusals, then room
@@ -109,7 +116,7 @@ abbrev pub unregistered_in : RegistryParts → List ℕ → Result RegistryParts
 unregistered_in r id =
     if is_registered r.endpoints id
     then Ok (record r { endpoints = without_endpoint r.endpoints id })
-    else Err NotRegistered
+    else Err registry.NotRegistered
 
 -- the registry with those endpoints alone whose zone is a local one
 abbrev pub with_kept_zones : List Command → RegistryParts → RegistryParts

@@ -1,12 +1,13 @@
--- The map of aliases that stands beside the registered endpoints.
-use Rattle.std.specs.Prelude.{◌≡◌, ℕ, Bool, false, not, ◌&&◌, List, [], find, Option, Some, None, bytes_eq, if◌then◌else◌}
+-- The aliases, and the places that gateways serve, beside the endpoints by number.
+use Rattle.std.specs.Prelude.{◌≡◌, ◌<◌, ◌≤◌, ℕ, Bool, true, false, not, ◌&&◌, List, [], find, Option, Some, None, bytes_eq, if◌then◌else◌}
 use Rattle.std.specs.Ordering.{nat_cmp}
 use Rattle.std.specs.List.{IsDistinct, list_any}
 use Rattle.std.specs.List.Sorted.{IsStrictlySortedBy}
 use Rattle.std.specs.Map.{lookup, keys_of}
 use Rattle.registry.specs.Endpoint.{EndpointParts, has_alias}
 use Rattle.registry.specs.Registration.{has_id}
-use Rattle.registry.specs.Roll.{Numbered, at_number, by_id, is_number}
+use Rattle.registry.specs.Served.{Place, Places, serves_at, found_serving}
+use Rattle.registry.specs.NumberedEndpoints.{Numbered, at_number, by_id, is_number}
 
 -- the numbers by alias
 abbrev pub AliasNumbers : Type 0
@@ -66,3 +67,23 @@ owner_of endpoints alias = find (λ e. has_alias e alias) endpoints
 -- whether the alias is that of an endpoint with another ID
 abbrev pub is_of_another : List EndpointParts → List ℕ → List ℕ → Bool
 is_of_another endpoints id alias = list_any (λ e. not (has_id id e) && has_alias e alias) endpoints
+
+-- ---- the places that gateways serve
+-- a place is among the places exactly if the endpoint of its number serves there
+abbrev pub AreServed : Places → Numbered → Type 0
+AreServed places entries =
+    (place : Place)
+    → serves_at places place ≡ found_serving (at_number entries place.2) place.0 place.1
+
+-- from this number on, no gateway serves the zone with the prefix
+abbrev pub NoneServes : Numbered → List ℕ → List ℕ → ℕ → Type 0
+NoneServes entries zone prefix from =
+    (number : ℕ) → from ≤ number → found_serving (at_number entries number) zone prefix ≡ false
+
+-- the least number from here on of a gateway that serves the zone with the prefix
+pub record IsNextServing (entries : Numbered) (zone prefix : List ℕ)
+    (from number : ℕ) : Type 0 where
+  pub there : found_serving (at_number entries number) zone prefix ≡ true
+  pub from_here : from ≤ number
+  pub least : (other : ℕ) → from ≤ other → other < number
+      → found_serving (at_number entries other) zone prefix ≡ false

@@ -7,12 +7,12 @@ ghost use Rattle.std.specs.List.{IsDistinct};
 ghost use Rattle.std.specs.List.Sorted.{IsStrictlySortedBy};
 ghost use Rattle.std.specs.Map.{keys_of};
 ghost use Rattle.compiler.specs.Priority.{named_priority};
-ghost use Rattle.registry.specs.Roll.{endpoints_of};
+ghost use Rattle.registry.specs.NumberedEndpoints.{endpoints_of};
 ghost use Rattle.registry.specs.Gateway.{gateway_by, is_candidate};
 ghost use Rattle.registry.specs.Chosen.{IsBestGateway, comes_first, first_of, is_first, is_greater, is_other_than};
 
 use crate::endpoints::Endpoint;
-use crate::listing::Listing;
+use crate::registered::Endpoints;
 use crate::served::serves;
 use compiler::plans::DEFAULT_GATEWAY_PRIORITY;
 use gk_terms::{Name, TechPrefix};
@@ -22,49 +22,53 @@ use indexmap::IndexMap;
 /// these the one that registered first. Looks at each gateway that is named with a priority, and at
 /// the first one that is not.
 pub fn chosen<'a>(
-    listing: &'a Listing,
+    endpoints: &'a Endpoints,
     zone: &Name,
     prefix: &TechPrefix,
     named: &IndexMap<Name, u8>,
 ) -> Option<&'a Endpoint>
     ensures { option_copied result
-        ≡ gateway_by (named_priority named.now.entries) (endpoints_of listing.now)
+        ≡ gateway_by (named_priority named.now.entries) (endpoints_of endpoints.now)
         zone.now prefix.now }
 {
     if named.is_empty() {
-        return first_serving(listing, zone, prefix);
+        return first_serving(endpoints, zone, prefix);
     }
-    let unnamed = first_unnamed(listing, zone, prefix, named);
-    let (_, number) = best_named(listing, zone, prefix, named, unnamed)?;
-    listing.at_number(number)
+    let unnamed = first_unnamed(endpoints, zone, prefix, named);
+    let (_, number) = best_named(endpoints, zone, prefix, named, unnamed)?;
+    endpoints.at_number(number)
 }
 
 /// The same if none is named: the first gateway that serves the zone with the prefix.
-fn first_serving<'a>(listing: &'a Listing, zone: &Name, prefix: &TechPrefix) -> Option<&'a Endpoint>
+fn first_serving<'a>(
+    endpoints: &'a Endpoints,
+    zone: &Name,
+    prefix: &TechPrefix,
+) -> Option<&'a Endpoint>
     ensures { option_copied result
-        ≡ gateway_by (named_priority []) (endpoints_of listing.now) zone.now prefix.now }
+        ≡ gateway_by (named_priority []) (endpoints_of endpoints.now) zone.now prefix.now }
 {
     // So it is known that the numbers ascend.
-    let _next = listing.next();
-    let number = listing.next_serving(zone, prefix, 0)?;
-    listing.at_number(number)
+    let _next = endpoints.next();
+    let number = endpoints.next_serving(zone, prefix, 0)?;
+    endpoints.at_number(number)
 }
 
 /// The first gateway that is not named, with the default priority.
 fn first_unnamed(
-    listing: &Listing,
+    endpoints: &Endpoints,
     zone: &Name,
     prefix: &TechPrefix,
     named: &IndexMap<Name, u8>,
 ) -> Option<(u8, u32)>
-    ensures best { IsBestGateway listing.now.entries named.now.entries
+    ensures best { IsBestGateway endpoints.now.entries named.now.entries
         (is_other_than named.now.entries zone.now prefix.now (keys_of named.now.entries)) result }
-    ensures sorted { IsStrictlySortedBy nat_cmp (keys_of listing.now.entries) }
+    ensures sorted { IsStrictlySortedBy nat_cmp (keys_of endpoints.now.entries) }
 {
-    let end = listing.next();
+    let end = endpoints.next();
     let mut from = 0;
-    while let Some(number) = listing.next_serving(zone, prefix, from) {
-        let endpoint = listing.at_number(number)?;
+    while let Some(number) = endpoints.next_serving(zone, prefix, from) {
+        let endpoint = endpoints.at_number(number)?;
         if !named.contains_key(endpoint.id()) {
             return Some((DEFAULT_GATEWAY_PRIORITY, number));
         }
@@ -76,20 +80,20 @@ fn first_unnamed(
 
 /// The best of those that are named and of the one that is given.
 fn best_named(
-    listing: &Listing,
+    endpoints: &Endpoints,
     zone: &Name,
     prefix: &TechPrefix,
     named: &IndexMap<Name, u8>,
     unnamed: Option<(u8, u32)>,
 ) -> Option<(u8, u32)>
-    requires unnamed { IsBestGateway listing.now.entries named.now.entries
+    requires unnamed { IsBestGateway endpoints.now.entries named.now.entries
         (is_other_than named.now.entries zone.now prefix.now (keys_of named.now.entries)) unnamed }
-    ensures { IsBestGateway listing.now.entries named.now.entries
+    ensures { IsBestGateway endpoints.now.entries named.now.entries
         (is_candidate (named_priority named.now.entries) zone.now prefix.now) result }
 {
     let mut best = unnamed;
     for (id, priority) in named.iter() {
-        best = with_named(listing, zone, prefix, named, id, *priority, best);
+        best = with_named(endpoints, zone, prefix, named, id, *priority, best);
     }
     best
 }
@@ -97,7 +101,7 @@ fn best_named(
 /// The better of the one that is given and of the gateway with this ID and this priority. `named`
 /// is there for the contract.
 fn with_named(
-    listing: &Listing,
+    endpoints: &Endpoints,
     zone: &Name,
     prefix: &TechPrefix,
     named: &IndexMap<Name, u8>,
@@ -107,21 +111,21 @@ fn with_named(
 ) -> Option<(u8, u32)>
     requires { priority ≡ named_priority named.now.entries id.now }
     ensures { (rest : List (List ℕ)) → IsDistinct bytes_eq (id.now ∷ rest)
-        → IsBestGateway listing.now.entries named.now.entries
+        → IsBestGateway endpoints.now.entries named.now.entries
         (is_other_than named.now.entries zone.now prefix.now (id.now ∷ rest)) best
-        → IsBestGateway listing.now.entries named.now.entries
+        → IsBestGateway endpoints.now.entries named.now.entries
         (is_other_than named.now.entries zone.now prefix.now rest) result }
 {
     if is_greater(best, priority) {
         return best;
     }
-    let Some(number) = listing.number(id) else {
+    let Some(number) = endpoints.number(id) else {
         return best;
     };
     if is_first(best, (priority, number)) {
         return best;
     }
-    if serves(listing.at_number(number), zone, prefix) & (priority > 0) {
+    if serves(endpoints.at_number(number), zone, prefix) & (priority > 0) {
         Some(first_of(best, (priority, number)))
     } else {
         best

@@ -3,23 +3,24 @@
 ghost use Rattle.std.specs.Prelude.{◌≡◌};
 ghost use Rattle.command_reader.specs.Zones.{is_local};
 ghost use Rattle.registry.specs.Registration.{kept_zones};
-ghost use Rattle.registry.specs.Roll.{endpoints_of};
+ghost use Rattle.registry.specs.NumberedEndpoints.{endpoints_of};
 
-use crate::shelf::Shelf;
+use crate::registered::Endpoints;
 use compiler::Tables;
 use gk_terms::Name;
 
 /// Takes out each endpoint whose zone is not a local one. Takes no memory. Goes over all endpoints
 /// once, by their numbers.
-pub fn keep_zones(shelf: &mut Shelf, tables: &Tables)
-    ensures { endpoints_of shelf.new ≡ kept_zones tables.now.commands (endpoints_of shelf.old) }
+pub fn keep_zones(endpoints: &mut Endpoints, tables: &Tables)
+    ensures { endpoints_of endpoints.new ≡ kept_zones tables.now.commands (endpoints_of
+        endpoints.old) }
 {
     let mut from = 0;
-    while let Some((number, endpoint)) = shelf.next_from(from) {
+    while let Some((number, endpoint)) = endpoints.next_from(from) {
         from = number + 1;
         let id = *endpoint.id();
         if !is_local(tables, endpoint.zone()) {
-            drop(shelf.remove(&id));
+            drop(endpoints.remove(&id));
         }
     }
 }

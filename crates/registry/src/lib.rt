@@ -5,6 +5,7 @@
 pub mod brief_endpoint;
 mod brief_reading;
 mod brief_writing;
+mod changes;
 mod choosing;
 mod endpoint_number;
 pub mod endpoints;
@@ -13,14 +14,13 @@ mod gateway_numbers;
 mod held_endpoint;
 mod keeping;
 pub mod laws;
-mod listing;
+mod numbered_endpoints;
+mod registered;
 pub mod registry;
-mod roll;
 mod served;
 mod served_zones;
-mod shelf;
 
 pub use brief_endpoint::BriefEndpoint;
 pub use endpoints::{Endpoint, EndpointKind};
-pub use faults::{Duplicate, RegistryFault};
+pub use faults::{Duplicate, PlacementFault, RegistryFault};
 pub use registry::Registry;

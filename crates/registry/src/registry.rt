@@ -12,9 +12,9 @@ ghost use Rattle.registry.specs.Gateway.{gateway_of};
 ghost use Rattle.registry.specs.Registering.{placement_among};
 
 use crate::endpoints::Endpoint;
-use crate::faults::{Duplicate, RegistryFault};
+use crate::faults::{Duplicate, PlacementFault, RegistryFault};
 use crate::keeping;
-use crate::shelf::Shelf;
+use crate::registered::Endpoints;
 use compiler::{RowNo, Tables};
 use gk_terms::{Dialled, Name, TechPrefix};
 use indexmap::IndexMap;
@@ -25,7 +25,7 @@ use std::marker::Model;
 /// it as `RegistryParts`.
 #[derive(Drop)]
 pub struct Registry {
-    shelf: Shelf,
+    endpoints: Endpoints,
     most: u32,
     alloc: Global,
 }
@@ -33,13 +33,13 @@ pub struct Registry {
 impl Model for Registry {
     ghost use Rattle.std.specs.Prelude.{◌≤◌, length};
     ghost use Rattle.registry.specs.Registration.{RegistryParts};
-    ghost use Rattle.registry.specs.Roll.{endpoints_of};
+    ghost use Rattle.registry.specs.NumberedEndpoints.{endpoints_of};
 
     ghost Value = { RegistryParts };
 
-    ghost view = { λ r. record { endpoints = endpoints_of r.shelf; most = r.most } };
+    ghost view = { λ r. record { endpoints = endpoints_of r.endpoints; most = r.most } };
 
-    ghost invariant = { λ r. length (endpoints_of r.shelf) ≤ r.most };
+    ghost invariant = { λ r. length (endpoints_of r.endpoints) ≤ r.most };
 }
 
 impl Registry {
@@ -48,7 +48,7 @@ impl Registry {
         ensures { result ≡ record { endpoints = []; most = most } }
     {
         Registry {
-            shelf: Shelf::new(alloc),
+            endpoints: Endpoints::new(alloc),
             most,
             alloc,
         }
@@ -59,7 +59,7 @@ impl Registry {
         ensures value { result ≡ length self.now.endpoints }
         ensures sound { IsRegistry self.now }
     {
-        self.shelf.len()
+        self.endpoints.len()
     }
 
     /// The endpoint at this place in the order of registration, from 0. Its time grows with the
@@ -67,28 +67,28 @@ impl Registry {
     pub fn at(&self, place: usize) -> Option<&Endpoint>
         ensures { option_copied result ≡ slice_get self.now.endpoints place }
     {
-        self.shelf.at(place)
+        self.endpoints.at(place)
     }
 
     /// The endpoint with this ID.
     pub fn endpoint(&self, id: &Name) -> Option<&Endpoint>
         ensures { option_copied result ≡ endpoint_of self.now.endpoints id.now }
     {
-        self.shelf.endpoint(id)
+        self.endpoints.endpoint(id)
     }
 
     /// Whether an endpoint has this ID.
     pub fn is_registered(&self, id: &Name) -> bool
         ensures { result ≡ is_registered self.now.endpoints id.now }
     {
-        self.shelf.is_registered(id)
+        self.endpoints.is_registered(id)
     }
 
     /// The endpoint of that zone with that E.164 alias.
     pub fn by_alias(&self, zone: &Name, number: &Dialled) -> Option<&Endpoint>
         ensures { option_copied result ≡ by_alias self.now.endpoints zone.now number.now }
     {
-        self.shelf.by_alias(zone, number)
+        self.endpoints.by_alias(zone, number)
     }
 
     /// The gateway that serves the zone with the prefix, of the greatest priority for the row that
@@ -107,10 +107,10 @@ impl Registry {
             ≡ gateway_of tables.now.commands self.now.endpoints zone.now prefix.now used) }
     {
         match tables.gateways(row) {
-            Some(named) => self.shelf.chosen(zone, prefix, named),
+            Some(named) => self.endpoints.chosen(zone, prefix, named),
             None => {
                 let named = IndexMap::new(self.alloc);
-                self.shelf.chosen(zone, prefix, &named)
+                self.endpoints.chosen(zone, prefix, &named)
             }
         }
     }
@@ -130,7 +130,8 @@ impl Registry {
         ensures { result ≡ longest_learned
             (learned_prefixes tables.now.commands self.now.endpoints) digits.now longer_than }
     {
-        self.shelf.learned(tables, digits.as_bytes(), longer_than)
+        self.endpoints
+            .learned(tables, digits.as_bytes(), longer_than)
     }
 
     #[tactic(auto, using(crate::proofs::RegisteringLemmas::placement_of_local))]
@@ -138,7 +139,7 @@ impl Registry {
     /// endpoint means, or the first fault of `UnknownZone`, if that is not a local one,
     /// `DuplicateAlias(Id)`, if the ID is registered from another address, and
     /// `DuplicateAlias(E164)`, if an alias is another endpoint's, in whatever zone.
-    pub fn placement(&self, endpoint: &Endpoint, tables: &Tables) -> Result<Name, RegistryFault>
+    pub fn placement(&self, endpoint: &Endpoint, tables: &Tables) -> Result<Name, PlacementFault>
         ensures { result ≡ placement_of tables.now.commands self.now.endpoints endpoint.now }
     {
         self.placement_in(endpoint, tables.local_zone(endpoint.zone()))
@@ -153,7 +154,10 @@ impl Registry {
         ensures { ChangesUnlessMemory NoMemory self.old self.new
             (registered_in tables.now.commands self.old endpoint) result }
     {
-        let zone = self.placement(&endpoint, tables)?;
+        let zone = match self.placement(&endpoint, tables) {
+            Ok(local) => local,
+            Err(fault) => return Err(RegistryFault::from(fault)),
+        };
         if self.is_full_for(&endpoint) {
             return Err(RegistryFault::TooMany);
         }
@@ -175,7 +179,7 @@ impl Registry {
         }) }
         ensures err { OnErr result (self.new ≡ self.old) }
     {
-        match self.shelf.put(endpoint, &zone, self.alloc) {
+        match self.endpoints.put(endpoint, &zone, self.alloc) {
             Ok(()) => Ok(()),
             Err(error) => Err(error),
         }
@@ -187,7 +191,7 @@ impl Registry {
         ensures changes { Changes self.old self.new (unregistered_in self.old id.now) result }
         ensures given { IfOk result (λ e. endpoint_of self.old.endpoints id.now ≡ Some e) }
     {
-        match self.shelf.remove(id) {
+        match self.endpoints.remove(id) {
             Some(held) => Ok(held.into_endpoint()),
             None => Err(RegistryFault::NotRegistered),
         }
@@ -199,7 +203,7 @@ impl Registry {
     pub fn keep_zones(&mut self, tables: &Tables)
         ensures { self.new ≡ with_kept_zones tables.now.commands self.old }
     {
-        keeping::keep_zones(&mut self.shelf, tables);
+        keeping::keep_zones(&mut self.endpoints, tables);
     }
 
     /// An equal registry. `AllocError` comes only if memory runs out.
@@ -208,24 +212,24 @@ impl Registry {
     {
         let most = self.most;
         Ok(Registry {
-            shelf: self.shelf.copy(self.alloc)?,
+            endpoints: self.endpoints.copy(self.alloc)?,
             most,
             alloc: self.alloc,
         })
     }
 
     /// The zone that was looked up, if the endpoint may register in it, room aside.
-    fn placement_in(&self, endpoint: &Endpoint, zone: Option<Name>) -> Result<Name, RegistryFault>
+    fn placement_in(&self, endpoint: &Endpoint, zone: Option<Name>) -> Result<Name, PlacementFault>
         ensures { result ≡ placement_among self.now.endpoints endpoint.now zone }
     {
         let Some(zone) = zone else {
-            return Err(RegistryFault::UnknownZone);
+            return Err(PlacementFault::UnknownZone);
         };
-        if self.shelf.id_is_taken(endpoint) {
-            return Err(RegistryFault::DuplicateAlias(Duplicate::Id));
+        if self.endpoints.id_is_taken(endpoint) {
+            return Err(PlacementFault::DuplicateAlias(Duplicate::Id));
         }
-        if self.shelf.alias_is_taken(endpoint) {
-            return Err(RegistryFault::DuplicateAlias(Duplicate::E164));
+        if self.endpoints.alias_is_taken(endpoint) {
+            return Err(PlacementFault::DuplicateAlias(Duplicate::E164));
         }
         Ok(zone)
     }
@@ -234,6 +238,6 @@ impl Registry {
     fn is_full_for(&self, endpoint: &Endpoint) -> bool
         ensures { result ≡ is_full_for self.now endpoint.now }
     {
-        self.most as usize <= self.shelf.len() && !self.shelf.is_registered(endpoint.id())
+        self.most as usize <= self.endpoints.len() && !self.endpoints.is_registered(endpoint.id())
     }
 }

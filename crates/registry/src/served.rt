@@ -1,15 +1,16 @@
 //! Which gateways serve a zone with a technology prefix.
 
-ghost use Rattle.std.specs.Prelude.{◌≡◌, ◌≤◌, ℕ, List, [], length, true, false, Some, OnOk, OnErr, IfSome, MatchOption, is_some};
+ghost use Rattle.std.specs.Prelude.{◌≡◌, ◌≤◌, ℕ, List, [], length, true, false, Some, OnOk, OnErr, IsOk, IfSome, MatchOption, is_some};
 ghost use Rattle.std.specs.Option.{option_copied};
 ghost use Rattle.command_reader.specs.Zones.{is_local};
 ghost use Rattle.gk_terms.specs.TechPrefix.{is_tech_prefix};
-ghost use Rattle.registry.specs.Roll.{at_number};
+ghost use Rattle.registry.specs.Gateway.{is_gateway};
+ghost use Rattle.registry.specs.NumberedEndpoints.{at_number};
 ghost use Rattle.registry.specs.Served.{Puts, AddsPlaces, MayAddPlaces, TakesOut, Enters, MayEnter, KeepsOthers, Leaves, IsLongestServed, IsNext, IsServed, NoneIsServed, serves_at, found_empty, found_serving, kept_for, longest_for};
 
 use crate::endpoints::{Endpoint, EndpointKind};
 use crate::held_endpoint::HeldEndpoint;
-use crate::roll::Roll;
+use crate::numbered_endpoints::NumberedEndpoints;
 use crate::served_zones::ServedZones;
 use compiler::{Tables, technology_bytes};
 use gk_terms::limits::MOST_TECHNOLOGY;
@@ -165,10 +166,11 @@ impl Served {
     }
 
     /// Adds the places of the endpoint under this number. If memory runs out, some of them may have
-    /// been added.
+    /// been added; for a terminal, which has none, it never does.
     pub fn enter(&mut self, number: u32, held: &HeldEndpoint) -> Result<(), AllocError>
         ensures ok { OnOk result (Enters self.old self.new number held.now) }
         ensures err { OnErr result (MayEnter self.old self.new number held.now) }
+        ensures terminal { is_gateway held.now.kind ≡ false → IsOk result }
     {
         self.enter_endpoint(number, held.endpoint())
     }
@@ -177,6 +179,7 @@ impl Served {
     fn enter_endpoint(&mut self, number: u32, endpoint: &Endpoint) -> Result<(), AllocError>
         ensures ok { OnOk result (Enters self.old self.new number endpoint.now) }
         ensures err { OnErr result (MayEnter self.old self.new number endpoint.now) }
+        ensures terminal { is_gateway endpoint.now.kind ≡ false → IsOk result }
     {
         match endpoint.kind() {
             EndpointKind::Gateway => {
@@ -186,25 +189,25 @@ impl Served {
         }
     }
 
-    /// Takes out the places of this endpoint under this number, except those that the roll's
-    /// endpoint of that number serves too. The roll is read only for a gateway.
-    pub fn leave(&mut self, number: u32, gone: Option<&HeldEndpoint>, roll: &Roll)
+    /// Takes out the places of this endpoint under this number, except those that the endpoint of
+    /// that number serves too. The endpoints are read only for a gateway.
+    pub fn leave(&mut self, number: u32, gone: Option<&HeldEndpoint>, by_number: &NumberedEndpoints)
         ensures { Leaves self.old self.new number (option_copied gone.entry)
-            (at_number roll.now.entries number) }
+            (at_number by_number.now.entries number) }
     {
         if let Some(gone) = gone {
-            self.leave_one(number, gone.endpoint(), roll);
+            self.leave_one(number, gone.endpoint(), by_number);
         }
     }
 
     /// The same of an endpoint that there is.
-    fn leave_one(&mut self, number: u32, gone: &Endpoint, roll: &Roll)
+    fn leave_one(&mut self, number: u32, gone: &Endpoint, by_number: &NumberedEndpoints)
         ensures { Leaves self.old self.new number (Some gone.now)
-            (at_number roll.now.entries number) }
+            (at_number by_number.now.entries number) }
     {
         match gone.kind() {
             EndpointKind::Gateway => {
-                let kept = roll.at_number(number);
+                let kept = by_number.at_number(number);
                 self.take_out_each(*gone.zone(), gone.technologies(), number, kept);
             }
             EndpointKind::Terminal => {}

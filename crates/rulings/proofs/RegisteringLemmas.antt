@@ -1,11 +1,11 @@
 -- A registration that is carried out.
-use Rattle.std.proofs.Common.{◌≡◌, Bool, true, false, cond, List, None, refl, sym, ap, subst}
-use Rattle.std.specs.Prelude.{ℕ, Option, Ok, Err, Some, IsSome, if◌then◌else◌}
+use Rattle.std.proofs.Common.{◌≡◌, Bool, true, false, cond, List, None, refl, ap}
+use Rattle.std.specs.Prelude.{ℕ, Option, Ok, Err, Some, if◌then◌else◌}
 use Rattle.registry.specs.Endpoint.{EndpointParts}
 use Rattle.registry.specs.Registration.{RegistryParts, placement_of, zone_unless, is_registered, id_is_taken, alias_is_taken, without_endpoint, unregistered_in}
-use Rattle.registry.specs.declared.faults.RegistryFault.{RegistryFault}
+use Rattle.registry.specs.declared.faults.PlacementFault.{PlacementFault}
+use Rattle.registry.specs.declared.faults.PlacementFault.TheVariants as faults
 use Rattle.registry.specs.declared.faults.RegistryFault.TheVariants.{NotRegistered}
-use Rattle.registry.specs.declared.faults.RegistryFault.TheVariants as faults
 use Rattle.registry.specs.declared.faults.Duplicate.TheVariants.{Id, E164}
 use Rattle.command_reader.specs.Zones.{is_local}
 use Rattle.compiler.specs.Zones.{zone_meant}
@@ -24,7 +24,7 @@ unregisters r id h =
 -- ---- what a registry says of a registration, in the words of a reply
 module _ (s : State) (e : EndpointParts) where
   -- the three tests as they came out, in the words of a registry and in those of a reply
-  abbrev fault_by : Bool → Bool → Bool → Option RegistryFault
+  abbrev fault_by : Bool → Bool → Bool → Option PlacementFault
   fault_by local same taken =
       if local then
       (if same then Some (faults.DuplicateAlias Id) else
@@ -54,25 +54,24 @@ module _ (s : State) (e : EndpointParts) where
       by true false false h = (refl, cc)
 
   -- it has a fault, which is a refusal
-  pub refused_as : (fault : RegistryFault) → placement_of s.commands s.endpoints e ≡ Err fault
-      → (refusal_of fault ≡ register_refusal s e) × IsSome (refusal_of fault)
+  pub refused_as : (fault : PlacementFault) → placement_of s.commands s.endpoints e ≡ Err fault
+      → register_refusal s e ≡ Some (refusal_of fault)
   refused_as fault h =
       by (is_local s.commands (zone_meant s.commands e.zone)) (id_is_taken s.endpoints e)
       (alias_is_taken s.endpoints e) h
     where
-      known : (found : RegistryFault) → IsSome (refusal_of found)
+      known : (found : PlacementFault)
           → zone_unless (zone_meant s.commands e.zone) (Some found) ≡ Err fault
-          → (refusal_of fault ≡ refusal_of found) × IsSome (refusal_of fault)
-      known found refuses is =
-          let same : found ≡ fault = cc in
-          (sym (ap refusal_of same), subst (λ f. IsSome (refusal_of f)) same refuses)
+          → Some (refusal_of found) ≡ Some (refusal_of fault)
+      known found is =
+          let same : found ≡ fault = cc in ap (λ f. Some (refusal_of f)) same
 
       by : (local same taken : Bool)
           → zone_unless (zone_meant s.commands e.zone) (fault_by local same taken) ≡ Err fault
-          → (refusal_of fault ≡ refusal_by local same taken) × IsSome (refusal_of fault)
-      by false same taken h = known faults.UnknownZone refl h
-      by true true taken h = known (faults.DuplicateAlias Id) refl h
-      by true false true h = known (faults.DuplicateAlias E164) refl h
+          → refusal_by local same taken ≡ Some (refusal_of fault)
+      by false same taken h = known faults.UnknownZone h
+      by true true taken h = known (faults.DuplicateAlias Id) h
+      by true false true h = known (faults.DuplicateAlias E164) h
       by true false false h = let impossible : ⊥ = cc in absurd impossible
 
   -- no alias is another endpoint's, if nothing refuses it

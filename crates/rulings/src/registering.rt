@@ -1,24 +1,20 @@
 //! Registrations, as a machine asks a registry for them.
 
-ghost use Rattle.std.specs.Prelude.{◌≡◌, Some, true, IsSome};
+ghost use Rattle.std.specs.Prelude.{◌≡◌, true};
 ghost use Rattle.registry.specs.Registration.{is_registered, without_endpoint};
 ghost use Rattle.rulings.specs.Refusals as Refusals;
 
 use crate::replies::RegisterRefusal;
 use gk_terms::Name;
-use registry::{Registry, RegistryFault};
+use registry::{PlacementFault, Registry};
 
 /// The refusal of a registration, in the words of a reply.
-pub fn refusal_of(fault: RegistryFault) -> RegisterRefusal
-    requires { IsSome (Refusals.refusal_of fault) }
-    ensures { Refusals.refusal_of fault ≡ Some result }
+pub fn refusal_of(fault: PlacementFault) -> RegisterRefusal
+    ensures { result ≡ Refusals.refusal_of fault }
 {
     match fault {
-        RegistryFault::UnknownZone => RegisterRefusal::UnknownZone,
-        RegistryFault::DuplicateAlias(duplicate) => RegisterRefusal::DuplicateAlias(duplicate),
-        RegistryFault::TooMany | RegistryFault::NoMemory | RegistryFault::NotRegistered => {
-            unreachable!()
-        }
+        PlacementFault::UnknownZone => RegisterRefusal::UnknownZone,
+        PlacementFault::DuplicateAlias(duplicate) => RegisterRefusal::DuplicateAlias(duplicate),
     }
 }
 

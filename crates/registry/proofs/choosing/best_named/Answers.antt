@@ -10,7 +10,7 @@ use Rattle.registry.proofs.choosing.best_named.Goals as goal
 
 pub loop-id-init : goal.loop-id-init
 loop-id-init c =
-    let entries = c.args.listing.now.entries in
+    let entries = c.args.endpoints.now.entries in
     let named = c.args.named.now.entries in
     let pairs = c.into_iter-id-iterator.ensures.into_iter_gives ∙ c.iter-id-items.ensures.rest in
     record {
@@ -32,7 +32,7 @@ with_named-best-requires c =
 
 pub loop-id-preserved : goal.loop-id-preserved
 loop-id-preserved c =
-    let entries = c.args.listing.now.entries in
+    let entries = c.args.endpoints.now.entries in
     let named = c.args.named.now.entries in
     let id = c.in-Some.id.now in
     let rest = c.next.new.self in
@@ -52,7 +52,7 @@ loop-id-preserved c =
 
 pub returns : goal.returns
 returns c =
-    let entries = c.args.listing.now.entries in
+    let entries = c.args.endpoints.now.entries in
     let named = c.args.named.now.entries in
     all_looked_at entries named c.args.zone.now c.args.prefix.now c.loop-id.best
     (subst (λ pairs. IsBestGateway entries named

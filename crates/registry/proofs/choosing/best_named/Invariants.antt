@@ -11,6 +11,6 @@ abbrev pub invariant-loop-id : goal.invariant-loop-id
 invariant-loop-id l = record {
   different : IsDistinct bytes_eq (keys_of l.id-iterator);
   ranked : AllByRecursion (λ e. e.1 ≡ named_priority l.named.entries e.0) l.id-iterator;
-  best : IsBestGateway l.listing.entries l.named.entries
+  best : IsBestGateway l.endpoints.entries l.named.entries
       (is_other_than l.named.entries l.zone l.prefix (keys_of l.id-iterator)) l.best;
 }

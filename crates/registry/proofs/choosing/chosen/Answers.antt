@@ -5,7 +5,7 @@ use Rattle.registry.proofs.choosing.chosen.Goals as goal
 
 pub returns-in_err-number : goal.returns-in_err-number
 returns-in_err-number c =
-    let entries = c.args.listing.now.entries in
+    let entries = c.args.endpoints.now.entries in
     ap option_copied c.from_residual.ensures
     ∙ sym (best_is_chosen entries c.first_unnamed-unnamed.ensures.sorted c.args.named.now.entries
     c.args.zone.now c.args.prefix.now c.best_named.result c.best_named.ensures
@@ -13,7 +13,7 @@ returns-in_err-number c =
 
 pub returns : goal.returns
 returns c =
-    let entries = c.args.listing.now.entries in
+    let entries = c.args.endpoints.now.entries in
     c.at_number.ensures
     ∙ sym (best_is_chosen entries c.first_unnamed-unnamed.ensures.sorted c.args.named.now.entries
     c.args.zone.now c.args.prefix.now c.best_named.result c.best_named.ensures

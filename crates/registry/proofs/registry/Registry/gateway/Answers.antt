@@ -3,7 +3,7 @@ use Rattle.std.specs.Option.{option_copied}
 use Rattle.compiler.specs.Plan.{row_meant}
 use Rattle.compiler.specs.Priority.{named_priority}
 use Rattle.registry.specs.Gateway.{gateway_by}
-use Rattle.registry.specs.Roll.{endpoints_of}
+use Rattle.registry.specs.NumberedEndpoints.{endpoints_of}
 use Rattle.registry.proofs.GatewayLemmas.{by_row}
 use Rattle.registry.proofs.registry.Registry.gateway.Goals as goal
 
@@ -24,7 +24,7 @@ returns-in-None c =
     c.args.self.now.endpoints c.args.zone.now c.args.prefix.now []
     (option_copied c.chosen-in-None.result)
     (c.chosen-in-None.ensures
-    ∙ ap (λ named. gateway_by (named_priority named) (endpoints_of c.self.inside.shelf)
+    ∙ ap (λ named. gateway_by (named_priority named) (endpoints_of c.self.inside.endpoints)
     c.args.zone.now c.args.prefix.now) c.new-named.ensures.empty
     ∙ ap (λ r. gateway_by (named_priority []) r.endpoints c.args.zone.now c.args.prefix.now)
     c.self.view_is)

@@ -1,5 +1,5 @@
 use Rattle.std.proofs.Common.{◌≡◌, false, length, ap, ◌∙◌, arith}
-use Rattle.registry.specs.Roll.{endpoints_of}
+use Rattle.registry.specs.NumberedEndpoints.{endpoints_of}
 use Rattle.registry.specs.Registration.{RegistryParts, is_full_for}
 use Rattle.registry.proofs.RegisteringLemmas.{fits}
 use Rattle.registry.proofs.registry.Registry.put.Goals as goal
@@ -9,7 +9,7 @@ pub invariant_of-self : goal.invariant_of-self
 invariant_of-self c = elim c.match-put.branch [
   | in-Ok w ↦
       let before : RegistryParts = record {
-        endpoints = (endpoints_of c.self.inside.shelf);
+        endpoints = (endpoints_of c.self.inside.endpoints);
         most = c.self.inside.most;
       } in
       let room : is_full_for before c.args.endpoint.now ≡ false =

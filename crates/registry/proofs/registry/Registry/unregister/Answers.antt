@@ -1,5 +1,5 @@
 use Rattle.std.proofs.Common.{length, ap, sym, subst, ◌∙◌, arith}
-use Rattle.registry.specs.Roll.{endpoints_of}
+use Rattle.registry.specs.NumberedEndpoints.{endpoints_of}
 use Rattle.registry.specs.Registration.{RegistryParts, unregistered_in}
 use Rattle.gk_terms.specs.Outcome.{Changes}
 use Rattle.registry.proofs.RegisteringLemmas.{fewer, unregistered, not_registered}
@@ -8,7 +8,7 @@ use Rattle.registry.proofs.registry.Registry.unregister.Goals.{in-Some, in-None}
 
 pub invariant_of-self : goal.invariant_of-self
 invariant_of-self c =
-    let shorter = fewer c.args.id.now (endpoints_of c.self.inside.shelf) in
+    let shorter = fewer c.args.id.now (endpoints_of c.self.inside.endpoints) in
     let left = ap length c.remove.ensures.without in
     let within = c.self.invariant in
     omega (arith, shorter, left, within)
@@ -17,7 +17,7 @@ pub returns-clause-changes : goal.returns-clause-changes
 returns-clause-changes c =
     let id = c.args.id.now in
     let before : RegistryParts = record {
-      endpoints = (endpoints_of c.self.inside.shelf);
+      endpoints = (endpoints_of c.self.inside.endpoints);
       most = c.self.inside.most;
     } in
     let after : RegistryParts = record {
