@@ -12,7 +12,7 @@ import recording
 import serving
 import table
 import trying
-from loads.catalogue import LOADS
+from loads.catalogue import COLLIDING, COLLIDING_LOADS, LOADS
 from measuring import Measure, measured
 
 # The loads that have a table of their own.
@@ -42,10 +42,11 @@ def main():
     words.add_argument("--load")
     asked = words.parse_args()
     loads = [load for load in LOADS if asked.load in (None, load.name)]
+    loads += [load for load in COLLIDING_LOADS if asked.load in (COLLIDING, load.name)]
     others = [other for other in OTHERS if asked.load in (None, other.NAME)]
     if not loads and not others:
-        names = ", ".join([load.name for load in LOADS] + [other.NAME for other in OTHERS])
-        sys.exit(f"bench: no load is called {asked.load}; there are {names}")
+        names = [load.name for load in LOADS] + [other.NAME for other in OTHERS] + [COLLIDING]
+        sys.exit(f"bench: no load is called {asked.load}; there are {', '.join(names)}")
 
     begun = time.monotonic()
     measure = Measure(asked.measure, asked.program, asked.folder)

@@ -1,9 +1,19 @@
 """The loads, and the sizes at which each is measured."""
 
 from dataclasses import dataclass
+from functools import partial
 from typing import Callable
 
-from loads import decisions, gateways, learned, network, registrations, reloads, small_site
+from loads import (
+    colliding,
+    decisions,
+    gateways,
+    learned,
+    network,
+    registrations,
+    reloads,
+    small_site,
+)
 from loads.writer import Writer
 
 REQUESTS = (30000, 100000, 300000)
@@ -97,4 +107,30 @@ LOADS = [
         (100000, 300000, 1000000),
         (10000, 30000, 60000),
     ),
+]
+
+
+def of_plain_and_alike(name, ask, owning=False):
+    """A load of plain IDs, and the same of IDs that all have one hash."""
+    return [
+        Load(
+            f"{kind} {name}",
+            "IDs",
+            partial(colliding.write, name_of=name_of, ask=ask, owning=owning),
+            (1000, 3000, 10000),
+            (300, 1000, 3000),
+            (20000,),
+            (4000,),
+        )
+        for kind, name_of in (("plain", colliding.plain), ("alike", colliding.alike))
+    ]
+
+
+# These are measured only if one of them, or all by this name, is asked for.
+COLLIDING = "colliding IDs"
+COLLIDING_LOADS = [
+    *of_plain_and_alike("again", colliding.again),
+    *of_plain_and_alike("leaving", colliding.leave),
+    *of_plain_and_alike("calling", colliding.call),
+    *of_plain_and_alike("owning", colliding.call, owning=True),
 ]

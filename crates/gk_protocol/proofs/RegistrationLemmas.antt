@@ -1,5 +1,5 @@
 -- The options of a registration, read and added word by word.
-use Rattle.std.proofs.Common.{◌≡◌, ℕ, ◌+◌, ◌≤◌, Bool, true, false, not, ◌||◌, ◌⊎◌, inl, inr, List, [], ◌∷◌, ◌++◌, length, refl, sym, ap, ◌∙◌, cond, length-append, arith}
+use Rattle.std.proofs.Common.{◌≡◌, ℕ, ◌+◌, ◌≤◌, Bool, true, false, not, ◌||◌, ◌⊎◌, inl, inr, List, [], ◌∷◌, ◌++◌, length, refl, sym, ap, ◌∙◌, cond, length-append, append_assoc, arith}
 use Rattle.std.specs.Prelude.{◌==◌, take, drop, Option, Some, None, Result, Ok, Err, option_map, codes, bytes_eq, filter, is_ok}
 use Rattle.std.specs.List.{filter_map, list_any}
 use Rattle.std.specs.Option.{ok_or}
@@ -18,7 +18,7 @@ use Rattle.gk_protocol.specs.declared.registrations.OptionsLeft.{OptionsLeft}
 use Rattle.gk_protocol.specs.declared.registrations.RegistrationOption.{RegistrationOption}
 use Rattle.gk_protocol.specs.declared.registrations.RegistrationOption.TheVariants.{Alias, Technology}
 use Rattle.gk_protocol.specs.Registrations.{option_if_left, registration_option_of, registration_options_at, left_after, all_options, each_once, alias_given, technology_given, with_options_at, begins_with_option}
-use Rattle.gk_protocol.specs.RegistrationOptions.{IsBare, HasRoomFor, with_text, with_registration_option}
+use Rattle.gk_protocol.specs.RegistrationOptions.{IsBare, HasFrontOf, HasRoomFor, with_text, with_registration_option}
 
 -- ---- texts, each once
 -- whether a text is none of these
@@ -200,12 +200,17 @@ one_added left endpoint word words option is =
     by (Err fault) = refl
 
 -- ---- so far
--- the options added and those to come give what all options give, the ID stays, there is room for
--- those that may still stand, and the first could be read or is still to come
+-- the words before the rest gave the options that were added, whatever follows; so these and those
+-- to come give what all options give. The ID stays, there is room for those that may still stand,
+-- and the first could be read or is still to come
 pub record AreAddedSoFar
     (bare : EndpointParts) (words : List (List ℕ)) (left : OptionsLeft) (endpoint : EndpointParts)
     (rest : List (List ℕ))
     : Type 0 where
+  pub front : List (List ℕ)
+  pub split : words ≡ front ++ rest
+  pub goes_on : (more : List (List ℕ))
+      → added_at left endpoint more ≡ with_options_at bare (front ++ more)
   pub same : added_at left endpoint rest ≡ with_options_at bare words
   pub id : endpoint.id ≡ bare.id
   pub aliases : length endpoint.aliases + left.aliases ≤ MOST_ALIASES
@@ -216,6 +221,9 @@ pub record AreAddedSoFar
 pub none_read : (bare : EndpointParts) (words : List (List ℕ)) → IsBare bare
     → AreAddedSoFar bare words all_options bare words
 none_read bare words is = record {
+  front = [];
+  split = refl;
+  goes_on = λ more. all_added bare more is;
   same = all_added bare words is;
   id = refl;
   aliases = rw (is.aliases) (omega arith);
@@ -306,6 +314,13 @@ pub one_read : (bare : EndpointParts) (words : List (List ℕ)) (left : OptionsL
     further
 one_read bare words left endpoint rest further word option u split is =
     record {
+      front = u.front ++ word ∷ [];
+      split =
+          u.split ∙ ap (λ t. u.front ++ t) split
+          ∙ sym (append_assoc u.front (word ∷ []) further);
+      goes_on = λ more.
+          sym (one_added left endpoint word more option is) ∙ u.goes_on (word ∷ more)
+          ∙ ap (with_options_at bare) (sym (append_assoc u.front (word ∷ []) more));
       same =
           sym (one_added left endpoint word further option is)
           ∙ ap (added_at left endpoint) (sym split) ∙ u.same;
@@ -342,3 +357,17 @@ one_read bare words left endpoint rest further word option u split is =
           one_text endpoint.technologies prefix,
           some_left left word (Technology prefix) is,
         )
+
+-- reading stopped at the next word
+pub stopped_at : (bare : EndpointParts) (words : List (List ℕ)) (left : OptionsLeft)
+    (endpoint : EndpointParts) (rest further : List (List ℕ)) (word : List ℕ)
+    → AreAddedSoFar bare words left endpoint rest → rest ≡ word ∷ further
+    → HasFrontOf bare words endpoint
+stopped_at bare words left endpoint rest further word u split = record {
+  front = u.front;
+  word = word;
+  rest = further;
+  split = u.split ∙ ap (λ t. u.front ++ t) split;
+  added =
+      ap (with_options_at bare) (sym (append-nil u.front)) ∙ sym (u.goes_on []);
+}

@@ -1,6 +1,6 @@
 -- How src/registrations adds the options of a registration, one word after another. Only the
 -- contracts of its private functions need this: what the options mean is in specs/Registrations.
-use Rattle.std.specs.Prelude.{◌≡◌, ◌<◌, ℕ, List, [], ◌∷◌, ◌++◌, length, Some, Err, IsTrue, bytes_eq, if◌then◌else◌}
+use Rattle.std.specs.Prelude.{◌≡◌, ◌<◌, ℕ, List, [], ◌∷◌, ◌++◌, length, Some, Ok, Err, IsTrue, bytes_eq, if◌then◌else◌}
 use Rattle.std.specs.List.{list_any}
 use Rattle.gk_terms.specs.declared.limits.TheConstants.{MOST_ALIASES, MOST_TECHNOLOGIES}
 use Rattle.registry.specs.Endpoint.{EndpointParts}
@@ -33,6 +33,16 @@ with_registration_option endpoint (Technology prefix) =
     record endpoint { technologies = with_text endpoint.technologies prefix }
 
 -- ---- all of them
+-- reading stopped at one of these words: those before it are options, and the endpoint has these
+-- and no others
+pub record HasFrontOf (bare : EndpointParts) (words : List (List ℕ)) (endpoint : EndpointParts)
+    : Type 0 where
+  pub front : List (List ℕ)
+  pub word : List ℕ
+  pub rest : List (List ℕ)
+  pub split : words ≡ front ++ word ∷ rest
+  pub added : with_options_at bare front ≡ Ok endpoint
+
 -- why the options of a registration with this sequence number and ID cannot be read: the first
 -- fault, or memory ran out
 abbrev pub AreNoOptionsAt : ℕ → EndpointParts → List (List ℕ) → NoRequest → Type 0

@@ -1,6 +1,6 @@
 //! Requests about registrations: `RRQ`, with its options, and `URQ`.
 
-ghost use Rattle.std.specs.Prelude.{◌≡◌, None, Ok, MatchResult, option_map};
+ghost use Rattle.std.specs.Prelude.{◌≡◌, None, Ok, MatchResult, OnErr, option_map};
 ghost use Rattle.gk_terms.specs.Dialled.{dialled_of};
 ghost use Rattle.gk_terms.specs.TechPrefix.{tech_prefix_of};
 ghost use Rattle.gk_terms.specs.Outcome.{ChangesUnlessMemory};
@@ -9,7 +9,7 @@ ghost use Rattle.gk_protocol.specs.RequestFields.{Reads};
 ghost use Rattle.gk_protocol.specs.Hearing.{HearsRequest, LacksOptions};
 ghost use Rattle.gk_protocol.specs.Requests.{unregister_at};
 ghost use Rattle.gk_protocol.specs.Registrations as Spec;
-ghost use Rattle.gk_protocol.specs.RegistrationOptions.{IsBare, HasRoomFor, with_registration_option, AreNoOptionsAt, IsNoRegistrationAt};
+ghost use Rattle.gk_protocol.specs.RegistrationOptions.{IsBare, HasRoomFor, with_registration_option, HasFrontOf, AreNoOptionsAt, IsNoRegistrationAt};
 
 use crate::answerer::Answerer;
 use crate::answers::Answer;
@@ -162,16 +162,19 @@ pub(crate) fn unregister<A: Answerer>(
 }
 
 /// Adds the aliases and technology prefixes of the options of a registration with this sequence
-/// number. After an `Err` nothing is promised of the endpoint.
+/// number. After an `Err` the endpoint has those of the words before the one at which reading
+/// stopped; its caller lets it go.
 fn add_options(
     sequence: u32,
     endpoint: &mut Endpoint,
     words: &mut Words<'_>,
 ) -> Result<(), NoRequest>
     requires { IsBare endpoint.old }
-    ensures { MatchResult result
+    ensures read { MatchResult result
         (λ _. Spec.with_options_at endpoint.old (words_of words.old) ≡ Ok endpoint.new)
         (AreNoOptionsAt sequence endpoint.old (words_of words.old)) }
+    ensures stopped { OnErr result
+        (HasFrontOf endpoint.old (words_of words.old) endpoint.new) }
 {
     let mut left = OptionsLeft {
         aliases: MOST_ALIASES,
@@ -242,8 +245,8 @@ fn left_after(left: &OptionsLeft, option: &RegistrationOption) -> OptionsLeft
     }
 }
 
-/// Adds an option of a registration with this sequence number, or says that memory ran out. There
-/// is room for it, since options are counted as written.
+/// Adds an option of a registration with this sequence number, or says that memory ran out, and
+/// changes nothing. There is room for it, since options are counted as written.
 fn add_option(
     endpoint: &mut Endpoint,
     option: &RegistrationOption,
@@ -252,7 +255,8 @@ fn add_option(
     requires { HasRoomFor endpoint.old option.now }
     ensures { MatchResult result
         (λ _. endpoint.new ≡ with_registration_option endpoint.old option.now)
-        (λ none. none ≡ NoRequest.NoMemory sequence endpoint.old.id) }
+        (λ none. (none ≡ NoRequest.NoMemory sequence endpoint.old.id)
+        × (endpoint.new ≡ endpoint.old)) }
 {
     match add(endpoint, option) {
         Ok(()) => Ok(()),

@@ -1,6 +1,7 @@
 use Rattle.std.proofs.Common.{sym}
 use Rattle.gk_terms.specs.Text.{words_of}
-use Rattle.gk_protocol.proofs.RegistrationLemmas.{none_read, room_for, one_read}
+use Rattle.command_reader.proofs.PrintingLemmas.{OnErr-from}
+use Rattle.gk_protocol.proofs.RegistrationLemmas.{none_read, room_for, one_read, stopped_at}
 use Rattle.gk_protocol.proofs.registrations.add_options.Goals as goal
 
 pub loop-word-init : goal.loop-word-init
@@ -21,3 +22,18 @@ loop-word-preserved c =
     (words_of c.loop-word.word-iterator.now) (words_of c.next.new.self.now) c.in-Some.word.now
     c.in_ok-option.option c.loop-word.invariant c.in-Some.ensures.steps
     (sym c.in_ok-option.ensures))
+
+pub returns-in_err-option-clause-stopped : goal.returns-in_err-option-clause-stopped
+returns-in_err-option-clause-stopped c =
+    OnErr-from c.from_residual.result _
+    (stopped_at c.args.endpoint.now (words_of c.args.words.now) c.loop-word.left
+    c.loop-word.endpoint (words_of c.loop-word.word-iterator.now) (words_of c.next.new.self.now)
+    c.in-Some.word.now c.loop-word.invariant c.in-Some.ensures.steps)
+
+pub returns-in_err-add_option-clause-stopped : goal.returns-in_err-add_option-clause-stopped
+returns-in_err-add_option-clause-stopped c =
+    rw (c.in_err-add_option.ensures.1)
+    (OnErr-from c.from_residual-in_err-add_option.result _
+    (stopped_at c.args.endpoint.now (words_of c.args.words.now) c.loop-word.left
+    c.loop-word.endpoint (words_of c.loop-word.word-iterator.now) (words_of c.next.new.self.now)
+    c.in-Some.word.now c.loop-word.invariant c.in-Some.ensures.steps))
