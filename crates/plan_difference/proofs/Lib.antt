@@ -1,0 +1,12 @@
+pub mod Beginnings
+pub mod Completeness
+pub mod EntryLemmas
+pub mod Finding
+pub mod GatherLemmas
+pub mod Lookups
+pub mod Plans
+pub mod Priorities
+pub mod SetLaws
+pub mod TextLemmas
+pub mod Theorem
+pub mod WalkLemmas

@@ -1,0 +1,143 @@
+-- The sets that are found are exactly those of the digits that are planned otherwise.
+use Rattle.std.proofs.Common.{◌≡◌, ℕ, zero, suc, List, [], ◌∷◌, slice_get, refl, sym, ap, subst, ◌∙◌}
+use Rattle.std.specs.Prelude.{Option, Some, None, unwrap_or}
+use Rattle.std.specs.Map.{keys_of}
+use Rattle.digit_patterns.specs.PatternParts.{PatternParts}
+use Rattle.command_reader.specs.declared.commands.Command.{Command}
+use Rattle.plan_difference.specs.declared.number_sets.NumberSet.{NumberSet}
+use Rattle.plan_difference.specs.Difference.{IsDifference, StandsAt}
+use Rattle.plan_difference.specs.Entries.{Entry, Entries, EntryAt, AreOnce, AreSampled, Grows}
+use Rattle.plan_difference.specs.Gathered.{AreGathered, IsSettled, Has, HasPrefixes, HasPatterns, AreLiteral, AreClean, joint}
+use Rattle.plan_difference.specs.Sets.{set_of}
+use Rattle.plan_difference.specs.Walk.{Heads, SettlesStem, SettlesPatterns, SettlesHead}
+use Rattle.plan_difference.proofs.Completeness.{in_entries}
+use Rattle.plan_difference.proofs.Plans.{same_of_set}
+use Rattle.plan_difference.proofs.WalkLemmas.{stem_on, patterns_on}
+
+-- ---- entries and their sets
+set_stands : (entries : Entries) (place : ℕ) (set : NumberSet) (digits : List ℕ)
+    → EntryAt entries place set digits → StandsAt (keys_of entries) place set
+set_stands [] place set digits e = absurd (let bad : ⊥ = cc in bad)
+set_stands (entry ∷ entries) zero set digits e =
+    ap (λ o. Some (unwrap_or o entry).0) e
+set_stands (entry ∷ entries) (suc place) set digits e = set_stands entries place set digits e
+
+record Sampled (entries : Entries) (place : ℕ) (set : NumberSet) : Type 0 where
+  pub digits : List ℕ
+  pub stands : EntryAt entries place set digits
+
+entry_stands : (entries : Entries) (place : ℕ) (set : NumberSet)
+    → StandsAt (keys_of entries) place set → Sampled entries place set
+entry_stands [] place set e = absurd (let bad : ⊥ = cc in bad)
+entry_stands (entry ∷ entries) zero set e =
+    let same : entry.0 ≡ set = ap (λ o. unwrap_or o set) e in
+    record { digits = entry.1; stands = ap (λ s. some_entry (entry_of s)) same }
+  where
+    some_entry : Entry → Option Entry
+    some_entry one = Some one
+
+    entry_of : NumberSet → Entry
+    entry_of s = (s, entry.1)
+entry_stands (entry ∷ entries) (suc place) set e =
+    let there = entry_stands entries place set e in
+    record { digits = there.digits; stands = there.stands }
+
+-- ---- the theorem
+module _ (old new : List Command) (heads : Heads) (patterns : List PatternParts)
+    (entries : Entries) (once : AreOnce entries) (sampled : AreSampled old new entries)
+    (gathered : AreGathered old new heads patterns)
+    (settled : IsSettled old new entries heads patterns) where
+  pub is_difference : IsDifference old new (keys_of entries)
+  is_difference = record {
+    complete = λ digits dialled differs.
+        let there =
+        in_entries old new heads patterns gathered entries settled digits dialled differs in
+        record {
+          place = there.place;
+          set = set_of old new digits;
+          stands = set_stands entries there.place (set_of old new digits) there.digits there.stands;
+          covers = (dialled, refl);
+        };
+    sound = λ place set digits stands covers same.
+        let there = entry_stands entries place set stands in
+        let sample = sampled place set there.digits there.stands in
+        sample.differs (same_of_set old new digits there.digits
+        (covers.1 ∙ sym sample.covers.1) same);
+    once = λ place other set other_set digits stands other_stands covers other_covers.
+        let there = entry_stands entries place set stands in
+        let other_there = entry_stands entries other other_set other_stands in
+        let equal : other_set ≡ set = sym other_covers.1 ∙ covers.1 in
+        once place other set there.digits other_there.digits there.stands
+        (subst (λ s. EntryAt entries other s other_there.digits) equal other_there.stands);
+    witness = λ place set stands.
+        let there = entry_stands entries place set stands in
+        record {
+          digits = there.digits;
+          covers = (sampled place set there.digits there.stands).covers;
+        };
+  }
+
+-- no set at first
+pub none_sampled : (old new : List Command) → AreSampled old new []
+none_sampled old new place set digits e = absurd (let bad : ⊥ = cc in bad)
+
+-- the joint group first, and then the others
+pub settled_after : (old new : List Command) (heads : Heads) (patterns : List PatternParts)
+    (between after : Entries) → Grows old new between after
+    → SettlesStem old new between heads joint []
+    → SettlesPatterns old new between heads joint [] patterns
+    → ((place : ℕ) (head : Option (List ℕ)) → slice_get heads place ≡ Some head
+    → SettlesHead old new after patterns head)
+    → IsSettled old new after heads patterns
+settled_after old new heads patterns between after grows alone by_patterns each = record {
+  alone = stem_on old new between after grows heads joint [] alone;
+  joint_patterns = patterns_on old new between after grows heads joint [] patterns by_patterns;
+  each_head = each;
+}
+
+-- what the parts of the whole say
+module _ (old new : List Command) (heads : Heads) (patterns : List PatternParts)
+    (first between after : Entries) (start : first ≡ [])
+    (one : Grows old new first between) (two : Grows old new between after) where
+  pub all_sampled : AreSampled old new after
+  all_sampled =
+      two.sampled (one.sampled (subst (AreSampled old new) (sym start) (none_sampled old new)))
+
+  pub whole : AreOnce after → AreGathered old new heads patterns
+      → SettlesStem old new between heads joint []
+      → SettlesPatterns old new between heads joint [] patterns
+      → ((place : ℕ) (head : Option (List ℕ)) → slice_get heads place ≡ Some head
+      → SettlesHead old new after patterns head)
+      → IsDifference old new (keys_of after)
+  whole once gathered alone by_patterns each =
+      is_difference old new heads patterns after once all_sampled gathered
+      (settled_after old new heads patterns between after two alone by_patterns each)
+
+  -- the same of lists that are lent as slices
+  pub whole_by : AreOnce after → Has heads None → HasPrefixes heads old → HasPrefixes heads new
+      → HasPatterns patterns old → HasPatterns patterns new
+      → (joint_heads own_heads : Heads) (joint_patterns own_patterns : List PatternParts)
+      → joint_heads ≡ heads → joint_patterns ≡ patterns → own_heads ≡ heads
+      → own_patterns ≡ patterns
+      → SettlesStem old new between joint_heads joint []
+      → SettlesPatterns old new between joint_heads joint [] joint_patterns
+      → AreLiteral joint_patterns
+      → ((place : ℕ) (head : Option (List ℕ)) → slice_get own_heads place ≡ Some head
+      → SettlesHead old new after own_patterns head)
+      → AreClean own_heads → IsDifference old new (keys_of after)
+  whole_by once none p q r s hs ks ps qs e f g h alone by_patterns literal each clean =
+      whole once (record {
+        none = none;
+        old_prefixes = p;
+        new_prefixes = q;
+        old_patterns = r;
+        new_patterns = s;
+        literal = subst AreLiteral f literal;
+        clean = subst AreClean g clean;
+      }) (subst (λ l. SettlesStem old new between l joint []) e alone)
+      (subst (λ l. SettlesPatterns old new between l joint [] patterns) e
+      (subst (SettlesPatterns old new between hs joint []) f by_patterns))
+      (subst (λ l. (place : ℕ) (head : Option (List ℕ)) → slice_get l place ≡ Some head
+      → SettlesHead old new after patterns head) g
+      (subst (λ l. (place : ℕ) (head : Option (List ℕ)) → slice_get ks place ≡ Some head
+      → SettlesHead old new after l head) h each))

@@ -1,0 +1,21 @@
+use Rattle.plan_difference.proofs.Theorem.{all_sampled, whole_by}
+use Rattle.plan_difference.proofs.differences.difference.Goals as goal
+
+pub returns-clause-difference : goal.returns-clause-difference
+returns-clause-difference c =
+    whole_by c.args.old.now.commands c.args.new.now.commands c.in_ok-heads.heads.items
+    c.in_ok-patterns.patterns.items c.new-sets.result c.add_joint.new.sets c.add_groups.new.sets
+    c.new-sets.ensures c.in_ok-add_joint.ensures.grows c.in_ok-add_groups.ensures.grows
+    c.len-count.ensures.once c.in_ok-heads.ensures.none c.in_ok-heads.ensures.old
+    c.in_ok-heads.ensures.new c.in_ok-patterns.ensures.old c.in_ok-patterns.ensures.new
+    c.deref.result.now c.deref-3.result.now c.deref-2.result.now c.deref-4.result.now
+    c.deref.ensures.value c.deref-2.ensures.value c.deref-3.ensures.value c.deref-4.ensures.value
+    c.in_ok-add_joint.ensures.alone c.in_ok-add_joint.ensures.joint_patterns
+    c.in_ok-add_joint.ensures.literal c.in_ok-add_groups.ensures.settles
+    c.in_ok-add_groups.ensures.clean
+
+pub returns-clause-samples : goal.returns-clause-samples
+returns-clause-samples c =
+    all_sampled c.args.old.now.commands c.args.new.now.commands c.in_ok-heads.heads.items
+    c.in_ok-patterns.patterns.items c.new-sets.result c.add_joint.new.sets c.add_groups.new.sets
+    c.new-sets.ensures c.in_ok-add_joint.ensures.grows c.in_ok-add_groups.ensures.grows

@@ -1,0 +1,22 @@
+//! Which dialled digits two configurations plan otherwise.
+#![tactic(auto)]
+
+mod adding;
+mod classing;
+pub mod destinations;
+pub mod differences;
+mod gathering;
+mod groups;
+mod held_sets;
+pub mod laws;
+pub mod number_sets;
+mod sameness;
+pub mod sets;
+mod texts;
+mod walk;
+
+pub use destinations::{Destination, destination_of};
+pub use differences::difference;
+pub use number_sets::{Group, NumberSet};
+pub use sameness::is_same;
+pub use sets::Sets;
