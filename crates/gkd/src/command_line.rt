@@ -2,9 +2,10 @@
 
 ghost use Rattle.std.specs.Prelude.{◌≤◌, IfOk};
 
+use crate::explaining::Question;
 use clap::{Arg, ArgAction, ArgMatches, Command, Error};
 use gk_terms::limits::{MOST_SEATS, MOST_WORKERS};
-use gk_terms::read_number;
+use gk_terms::{Dialled, Name, read_number};
 use std::alloc::{AllocError, Global};
 
 /// The version of the program, as `--version` prints it.
@@ -46,8 +47,23 @@ pub enum Task<'a> {
         /// 1 to 32.
         seats: u32,
     },
+    /// `explain FILE DIGITS [--zone NAME] [--endpoints FILE]`: to say step by step why the digits
+    /// go where they go.
+    Explain(Question<'a>),
     /// The word after this option is not a number in its range.
     BadNumber(BadNumber<'a>),
+    /// A word is not what its place asks for.
+    BadWord(BadWord<'a>),
+}
+
+/// A word that is not what its place asks for.
+#[derive(Clone, Copy, Debug, PartialEq, Eq)]
+pub struct BadWord<'a> {
+    pub word: &'a str,
+    /// The place, as help shows it.
+    pub place: &'a str,
+    /// What the word is not.
+    pub what: &'a str,
 }
 
 /// A word that is not a number in the range of its option.
@@ -74,6 +90,7 @@ pub fn task_of<'a>(alloc: Global, words: &'a [String]) -> Result<Task<'a>, Error
 fn task_in<'a>(matches: &ArgMatches<'a>) -> Task<'a> {
     match matches.subcommand() {
         Some(("check", check)) => check_in(check),
+        Some(("explain", explain)) => explain_in(explain),
         Some(("run", run)) => run_in(run),
         Some(("serve", serve)) => serve_in(serve),
         Some(("trial", trial)) => trial_in(trial),
@@ -100,6 +117,37 @@ fn check_in<'a>(matches: &ArgMatches<'a>) -> Task<'a> {
         file: word_in(matches, "FILE"),
         prints: matches.get_flag("print"),
     }
+}
+
+/// `explain` with its files, its digits and its zone.
+fn explain_in<'a>(matches: &ArgMatches<'a>) -> Task<'a> {
+    let word = word_in(matches, "DIGITS");
+    let Ok(digits) = Dialled::read(word.as_bytes()) else {
+        return Task::BadWord(BadWord {
+            word,
+            place: "<DIGITS>",
+            what: "dialled digits",
+        });
+    };
+    let zone = match matches.get_str("zone") {
+        Some(word) => match Name::read(word.as_bytes()) {
+            Ok(zone) => Some(zone),
+            Err(_) => {
+                return Task::BadWord(BadWord {
+                    word,
+                    place: "--zone <NAME>",
+                    what: "a name",
+                });
+            }
+        },
+        None => None,
+    };
+    Task::Explain(Question {
+        file: word_in(matches, "FILE"),
+        digits,
+        zone,
+        endpoints: matches.get_str("endpoints"),
+    })
 }
 
 /// `trial` with its files and its workers.
@@ -158,6 +206,7 @@ fn commands<'a>(alloc: Global) -> Result<Command<'a>, AllocError> {
         .version(VERSION)
         .disable_help_subcommand(true)
         .subcommand(check_command(alloc)?)?
+        .subcommand(explain_command(alloc)?)?
         .subcommand(run_command(alloc)?)?
         .subcommand(serve_command(alloc)?)?
         .subcommand(trial_command(alloc)?)
@@ -223,6 +272,25 @@ fn trial_command<'a>(alloc: Global) -> Result<Command<'a>, AllocError> {
         .arg(calls)?
         .arg(endpoints)?
         .arg(workers)
+}
+
+/// `explain FILE DIGITS [--zone NAME] [--endpoints FILE]`.
+fn explain_command<'a>(alloc: Global) -> Result<Command<'a>, AllocError> {
+    let digits = Arg::new(alloc, "DIGITS")
+        .help("What is dialled: 1 to 32 of 0 to 9, # and *")
+        .required(true);
+    let zone = named(alloc, "zone", "NAME").help(
+        "The zone of the caller; without it the first local zone",
+    );
+    let endpoints = named(alloc, "endpoints", "FILE").help(
+        "The endpoints that are registered: one RRQ line for each",
+    );
+    Command::new(alloc, "explain")
+        .about("Says step by step why a call to these digits goes where it goes")
+        .arg(file(alloc))?
+        .arg(digits)?
+        .arg(zone)?
+        .arg(endpoints)
 }
 
 /// The file of a configuration.

@@ -1,11 +1,12 @@
 //! `gkd`: the gatekeeper. Without words it reads a configuration and then requests from standard
 //! input, and writes a reply to each request on standard output. `gkd run FILE` reads the
 //! configuration from a file, `gkd check FILE` says whether one is accepted, `gkd trial FILE`
-//! reports what one would have answered to recorded calls, and `gkd serve FILE` serves many
-//! sessions over TCP.
+//! reports what one would have answered to recorded calls, `gkd explain FILE` says why digits go
+//! where they go, and `gkd serve FILE` serves many sessions over TCP.
 #![tactic(auto)]
 
 mod command_line;
+mod explaining;
 mod files;
 pub mod laws;
 mod recorded_rows;
@@ -16,9 +17,10 @@ mod serving;
 mod trial_files;
 
 use clap::error::ErrorKind;
-use command_line::{BadNumber, Task, task_of};
+use command_line::{BadNumber, BadWord, Task, task_of};
 use configuration_reader::check;
 use configuration_reader::check::CheckFault;
+use explaining::explain_file;
 use gk_lines::Noted;
 use run_files::{run_file, run_input};
 use saying::{UNWRITTEN, cannot_read, fail, refuse_configuration};
@@ -71,7 +73,9 @@ fn carry_out<
             try_files(rt, &files, workers)
         }
         Task::Serve { file, port, seats } => serve_file(rt, file, port, seats),
+        Task::Explain(question) => explain_file(rt, &question),
         Task::BadNumber(bad) => refuse_number(rt, &bad),
+        Task::BadWord(bad) => refuse_word(rt, &bad),
     }
 }
 
@@ -105,6 +109,13 @@ fn refuse(rt: &HostRuntime, error: &clap::Error) -> io::Result<ExitCode> {
 fn refuse_number<R: Eprint>(rt: &R, bad: &BadNumber<'_>) -> io::Result<ExitCode> {
     let BadNumber { word, option, most } = *bad;
     eprintln!(rt; "error: invalid value '{word}' for '{option}': not a number from 1 to {most}")?;
+    Ok(ExitCode::from(2))
+}
+
+/// Says that a word is not what its place asks for.
+fn refuse_word<R: Eprint>(rt: &R, bad: &BadWord<'_>) -> io::Result<ExitCode> {
+    let BadWord { word, place, what } = *bad;
+    eprintln!(rt; "error: invalid value '{word}' for '{place}': not {what}")?;
     Ok(ExitCode::from(2))
 }
 

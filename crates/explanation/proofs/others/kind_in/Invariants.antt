@@ -1,0 +1,10 @@
+use Rattle.std.proofs.Common.{◌≡◌, None, take, fold}
+use Rattle.std.specs.Option.{option_or}
+use Rattle.command_reader.specs.Zones.{declared_by}
+use Rattle.explanation.specs.Lists.{kind_if}
+use Rattle.explanation.proofs.others.kind_in.Given as goal
+
+abbrev pub invariant-loop-command : goal.invariant-loop-command
+invariant-loop-command l =
+    l.found ≡ fold (λ found command. option_or found (kind_if l.name (declared_by command))) None
+    (take l.command-index l.commands)

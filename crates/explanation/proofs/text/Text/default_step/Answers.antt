@@ -1,0 +1,4 @@
+use Rattle.explanation.proofs.text.Text.default_step.Goals as goal
+
+pub returns : goal.returns
+returns c = c.step.ensures
