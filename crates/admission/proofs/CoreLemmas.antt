@@ -138,9 +138,9 @@ module _ (machine : MachineParts) (history : RecordParts) (reserved : Bool)
       pub verdict_is : ruling.verdict ≡ verdict_of (state_for machine history) event
       verdict_is = ap (λ (r : Ruling). r.verdict) ruled
 
--- if nothing changes
+-- if nothing changes but the room of the record
 pub core_still : (machine new : MachineParts) (history more : RecordParts) (reserved : Bool)
-    → new ≡ machine → more ≡ history
+    → new ≡ machine → more ≡ record history { room = more.room }
     → core_with new.limits more reserved ≡ core_with machine.limits history reserved
 core_still machine new history more reserved still same =
     ap₂ (λ (m : MachineParts) h. core_with m.limits h reserved) still same

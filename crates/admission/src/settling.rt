@@ -1,6 +1,6 @@
 //! What is done for an event that no count refuses, before its entry is put: room and effect.
 
-ghost use Rattle.std.specs.Prelude.{◌≡◌, ◌≤◌, ◌<◌, ◌+◌, ◌^◌, true, false, None, length, OnOk, OnErr, IfOk, IsOk};
+ghost use Rattle.std.specs.Prelude.{◌≡◌, ◌≤◌, ◌<◌, ◌+◌, ◌-◌, ◌^◌, true, false, None, length, OnOk, OnErr, IfOk, IsOk};
 ghost use Rattle.rulings.specs.Events.{event_meant};
 ghost use Rattle.rulings.specs.Ruling.{ruling_of};
 ghost use Rattle.rulings.specs.State.{under};
@@ -16,8 +16,9 @@ use std::alloc::AllocError;
 #[tactic(auto, unfolding(rulings::specs::Step::state_after))]
 /// Makes room in the record for the entry of an event that no count refuses, and carries out the
 /// effect of the ruling. The answer is the number of that entry, for which there is a place now. If
-/// memory runs out, nothing changes; it never does for a release, nor for a reload whose place is
-/// `reserved`.
+/// memory runs out, nothing changes, but for some room in the record that may have been made; it
+/// never does for an effect that takes none and has a place, as that of a release and of a reload
+/// whose place is `reserved`, nor for one that takes none as long as the record has room.
 pub(crate) fn prepare(
     history: &mut Record,
     machine: &mut Machine,
@@ -46,8 +47,12 @@ pub(crate) fn prepare(
     ensures places { OnOk result (length machine.new.calls + 1 ≤ history.new.kept) }
     ensures kept { OnOk result (history.new.kept + reserved
         ≡ history.old.kept + places_needed effect.now) }
-    ensures err { OnErr result ((machine.new ≡ machine.old) × (history.new ≡ history.old)
+    ensures err { OnErr result ((machine.new ≡ machine.old)
+        × (history.new ≡ record history.old { room = history.new.room })
         × IsFallible (event_meant event.now)) }
+    ensures room { history.old.room ≤ history.new.room }
+    ensures lacking { OnErr result (takes_memory effect.now ≡ false
+        → history.old.room < history.old.kept + (places_needed effect.now - reserved)) }
     ensures unfailing { takes_memory effect.now ≡ false
         → places_needed effect.now ≤ reserved → IsOk result }
 {

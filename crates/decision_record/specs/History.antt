@@ -145,12 +145,13 @@ abbrev pub generations : CoreParts → List (List Command)
 generations core = generations_of core.opening.commands core.entries
 
 -- ---- the record
--- the commands that were in force before the first entry, the entries, and how many further ones
--- find room without memory
+-- the commands that were in force before the first entry, the entries, how many places are kept for
+-- further ones, and how many there is room for: none of these takes memory
 pub record RecordParts : Type 0 where
   pub opening : List Command
   pub entries : List PlainEntry
   pub kept : ℕ
+  pub room : ℕ
 
 -- the commands in force after its entries
 abbrev pub in_force : RecordParts → List Command

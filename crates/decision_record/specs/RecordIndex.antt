@@ -1,5 +1,5 @@
 -- How a record is held. A reader of the contracts need not know it.
-use Rattle.std.specs.Prelude.{◌≡◌, ◌≤◌, ℕ, List, length, map, filter_map, Option, Some}
+use Rattle.std.specs.Prelude.{◌≡◌, ◌≤◌, ℕ, min, List, length, map, filter_map, Option, Some}
 use Rattle.command_reader.specs.declared.commands.Command.{Command}
 use Rattle.pieces.specs.Pieces.{PiecesParts}
 use Rattle.registry.specs.Endpoint.{EndpointParts}
@@ -33,6 +33,12 @@ abbrev pub entries_told
     → List PlainEntry
 entries_told slots aside registrations reloads =
     filter_map (slot_meant aside.items registrations.items reloads.entries) slots.items
+
+-- for how many further entries each of the four has room
+abbrev pub room_in
+    : PiecesParts Slot → PiecesParts WholeEntry → PiecesParts EndpointParts → ReloadsParts → ℕ
+room_in slots aside registrations reloads =
+    min (min slots.room aside.room) (min registrations.room reloads.room)
 
 -- the slots mean these entries, none of the other lists is longer than them, and all four have room
 -- for the kept places

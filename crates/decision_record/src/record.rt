@@ -21,8 +21,8 @@ use std::marker::Model;
 use std::sync::Arc;
 
 /// The recorded events in order, and the tables that they put in force. A contract sees the events
-/// by their values alone, after the commands that were in force before them, and how many further
-/// ones find room without memory: the places that are kept.
+/// by their values alone, after the commands that were in force before them; how many places are
+/// kept for further ones; and how many there is room for without memory, which are no fewer.
 ///
 /// `slots` has one slot for each entry, in the bytes that its kind needs. The endpoint of a
 /// registration stands in `registrations` if the reply names no other zone, and its slot has its
@@ -47,7 +47,7 @@ pub struct Record {
 impl Model for Record {
     ghost use Rattle.std.specs.Arc.{arc_value};
     ghost use Rattle.decision_record.specs.History.{RecordParts};
-    ghost use Rattle.decision_record.specs.RecordIndex.{entries_told, IsStored, IsLastReload};
+    ghost use Rattle.decision_record.specs.RecordIndex.{entries_told, room_in, IsStored, IsLastReload};
 
     ghost Value = { RecordParts };
 
@@ -55,6 +55,7 @@ impl Model for Record {
       opening = (arc_value r.opening).commands;
       entries = entries_told r.slots r.aside r.registrations r.reloads;
       kept = r.kept;
+      room = room_in r.slots r.aside r.registrations r.reloads;
     } };
 
     ghost invariant = { λ r. IsStored r.slots r.aside r.registrations r.reloads
@@ -66,8 +67,12 @@ impl Model for Record {
 impl Record {
     /// No entries after these tables, and no place kept.
     pub fn new(alloc: Global, opening: Arc<Tables>) -> Record
-        ensures { result
-            ≡ record { opening = (arc_value opening).commands; entries = []; kept = 0 } }
+        ensures { result ≡ record {
+          opening = (arc_value opening).commands;
+          entries = [];
+          kept = 0;
+          room = 0;
+        } }
     {
         Record {
             opening,

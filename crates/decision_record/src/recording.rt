@@ -1,10 +1,10 @@
 //! How entries are put at the end of a record, in places that were kept.
 
-ghost use Rattle.std.specs.Prelude.{◌≡◌, ◌<◌, ◌≤◌, ◌+◌, ◌-◌, ◌^◌, ◌++◌, ◌∷◌, [], length, OnOk, OnErr, IsOk, IsSome, None};
+ghost use Rattle.std.specs.Prelude.{◌≡◌, ◌<◌, ◌≤◌, ◌+◌, ◌-◌, ◌^◌, ◌++◌, ◌∷◌, [], length, OnOk, OnErr, IsSome, None};
 ghost use Rattle.std.specs.List.{cons_option};
 ghost use Rattle.rulings.specs.Events.{plain, put_in_force, Reloading};
 ghost use Rattle.decision_record.specs.Slots.{entry_meant, other_entry, register_entry};
-ghost use Rattle.decision_record.specs.RecordIndex.{IsRoomier};
+ghost use Rattle.decision_record.specs.RecordIndex.{IsRoomier, room_in};
 ghost use Rattle.decision_record.specs.Told.{told_entry};
 ghost use Rattle.pieces.specs.declared.list.TheConstants.{PIECE_ITEMS};
 ghost use Rattle.std.specs.Arc.{arc_value};
@@ -24,13 +24,19 @@ use std::alloc::AllocError;
 use std::sync::Arc;
 
 impl Record {
-    /// Keeps this many further places: at most 2, as an event needs. If memory runs out, nothing
-    /// changes; it never does for none.
+    /// Keeps this many further places: at most 2, as an event needs. `AllocError` comes only if
+    /// memory runs out and there is no room for so many; then nothing changes, but for some room
+    /// that may have been made. It never comes for none.
     pub fn keep(&mut self, places: usize) -> Result<(), AllocError>
         requires { places ≤ 2 }
-        ensures ok { OnOk result (self.new
-            ≡ record self.old { kept = self.old.kept + places }) }
-        ensures err { OnErr result ((self.new ≡ self.old) × (1 ≤ places)) }
+        ensures ok { OnOk result (self.new ≡ record self.old {
+          kept = self.old.kept + places;
+          room = self.new.room;
+        }) }
+        ensures err { OnErr result (self.new ≡ record self.old { room = self.new.room }) }
+        ensures room { self.old.room ≤ self.new.room }
+        ensures lacking { OnErr result ((1 ≤ places)
+            × (self.old.room < self.old.kept + places)) }
     {
         if places == 0 {
             return Ok(());
@@ -61,10 +67,12 @@ impl Record {
     pub fn push_registration(&mut self, endpoint: BriefEndpoint, replied: &ShortReply)
         requires kept { 1 ≤ self.old.kept }
         requires few { length self.old.entries < 2 ^ 32 }
-        ensures { self.new ≡ record self.old {
+        ensures entered { self.new ≡ record self.old {
           entries = self.old.entries ++ register_entry replied.now endpoint ∷ [];
           kept = self.old.kept - 1;
+          room = self.new.room;
         } }
+        ensures room { self.old.room ≤ self.new.room + 1 }
     {
         let place = self.registrations.len() as u32;
         self.slots.push(&Slot::of_registration(replied, place));
@@ -78,10 +86,12 @@ impl Record {
         requires kept { 1 ≤ self.old.kept }
         requires few { length self.old.entries < 2 ^ 32 }
         requires other { put_in_force (plain event) ≡ None }
-        ensures { self.new ≡ record self.old {
+        ensures entered { self.new ≡ record self.old {
           entries = self.old.entries ++ told_entry (plain event) told.now ∷ [];
           kept = self.old.kept - 1;
+          room = self.new.room;
         } }
+        ensures room { self.old.room ≤ self.new.room + 1 }
     {
         let place = self.aside.len() as u32;
         self.slots.push(&Slot::Aside { place });
@@ -99,11 +109,13 @@ impl Record {
     pub fn push_reloaded(&mut self, tables: Arc<Tables>, reply: &Reply)
         requires kept { 1 ≤ self.old.kept }
         requires few { length self.old.entries < 2 ^ 32 }
-        ensures { self.new ≡ record self.old {
+        ensures entered { self.new ≡ record self.old {
           entries = self.old.entries
               ++ other_entry (Reloading (arc_value tables).commands) reply.now ∷ [];
           kept = self.old.kept - 1;
+          room = self.new.room;
         } }
+        ensures room { self.old.room ≤ self.new.room + 1 }
     {
         let place = self.reloads.len() as u32;
         self.slots.push(&Slot::Reload { place });
@@ -119,10 +131,12 @@ impl Record {
         requires kept { 1 ≤ self.old.kept }
         requires few { length self.old.entries < 2 ^ 32 }
         requires meant { IsSome (entry_meant [] [] [] slot.now) }
-        ensures { self.new ≡ record self.old {
+        ensures entered { self.new ≡ record self.old {
           entries = self.old.entries ++ cons_option (entry_meant [] [] [] slot.now) [];
           kept = self.old.kept - 1;
+          room = self.new.room;
         } }
+        ensures room { self.old.room ≤ self.new.room + 1 }
     {
         self.slots.push(slot);
         self.kept -= 1;
@@ -148,8 +162,8 @@ fn reserve_each(
         × (reloads.new.last ≡ reloads.old.last) × (reloads.old.room ≤ reloads.new.room) }
     ensures ok { OnOk result ((places ≤ slots.new.room) × (places ≤ aside.new.room)
         × (places ≤ registrations.new.room) × (places ≤ reloads.new.room)) }
-    ensures room { places ≤ slots.old.room → places ≤ aside.old.room
-        → places ≤ registrations.old.room → places ≤ reloads.old.room → IsOk result }
+    ensures err { OnErr result
+        (room_in slots.old aside.old registrations.old reloads.old < places) }
 {
     slots.reserve(places)?;
     aside.reserve(places)?;

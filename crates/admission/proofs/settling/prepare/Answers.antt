@@ -24,12 +24,12 @@ apply-requires-clause-counted c =
 
 pub returns-in_err-keep-clause-err : goal.returns-in_err-keep-clause-err
 returns-in_err-keep-clause-err c =
-    let err = c.in_err-keep.ensures.err in
+    let is = c.in_err-keep.ensures in
     let needed = sym (ap places_needed c.requires.ruled) ∙ sym c.places_needed-needed.ensures in
     let one : 1 ≤ places_needed (ruling_of _ _).effect =
-    omega (arith, err.1, c.saturating_sub-more.ensures, needed) in
+    omega (arith, is.lacking.0, c.saturating_sub-more.ensures, needed) in
     OnErr-from c.from_residual.result _
-    (refl, err.0, ruled_lacks _ _ _ refl c.requires.recordable c.requires.recorded one)
+    (refl, is.err, ruled_lacks _ _ _ refl c.requires.recordable c.requires.recorded one)
 
 pub returns-clause-places : goal.returns-clause-places
 returns-clause-places c =

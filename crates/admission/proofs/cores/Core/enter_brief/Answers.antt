@@ -39,14 +39,15 @@ invariant_of-self c =
     kept_on _ _ _ _ c.self.invariant (recorded_unrefused _ _ recorded)
     (recorded_verdict_of _ _ recorded) c.prepare.new.machine c.push_registration.new.self
     c.in-Ok.ensures.state
-    (ap (λ (h : RecordParts). h.opening) c.push_registration.ensures ∙ c.in-Ok.ensures.opening)
-    (ap (λ (h : RecordParts). h.entries) c.push_registration.ensures
+    (ap (λ (h : RecordParts). h.opening) c.push_registration.ensures.entered
+    ∙ c.in-Ok.ensures.opening)
+    (ap (λ (h : RecordParts). h.entries) c.push_registration.ensures.entered
     ∙ ap₂ (λ es e. es ++ e ∷ []) c.in-Ok.ensures.entries
     (ap (register_entry c.args.replied.now) c.in_ok-brief.ensures.same ∙ c.requires.entry
     ∙ ap (λ s. entry_of s (Events.event_meant c.args.event.now)) (sym stands)))
     (omega (
       arith,
-      ap (λ (h : RecordParts). h.kept) c.push_registration.ensures,
+      ap (λ (h : RecordParts). h.kept) c.push_registration.ensures.entered,
       c.in-Ok.ensures.places,
     ))
     c.is_of_an_accepted_configuration.ensures
@@ -59,8 +60,9 @@ returns-in-Ok-clause-ok c =
     (records _ _ _ _ c.self.invariant (recorded_unrefused _ _ recorded)
     (recorded_verdict_of _ _ recorded) c.prepare.new.machine c.push_registration.new.self
     c.in-Ok.ensures.state
-    (ap (λ (h : RecordParts). h.opening) c.push_registration.ensures ∙ c.in-Ok.ensures.opening)
-    (ap (λ (h : RecordParts). h.entries) c.push_registration.ensures
+    (ap (λ (h : RecordParts). h.opening) c.push_registration.ensures.entered
+    ∙ c.in-Ok.ensures.opening)
+    (ap (λ (h : RecordParts). h.entries) c.push_registration.ensures.entered
     ∙ ap₂ (λ es e. es ++ e ∷ []) c.in-Ok.ensures.entries
     (ap (register_entry c.args.replied.now) c.in_ok-brief.ensures.same ∙ c.requires.entry
     ∙ ap (λ s. entry_of s (Events.event_meant c.args.event.now)) (sym stands)))

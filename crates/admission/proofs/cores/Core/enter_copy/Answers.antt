@@ -39,12 +39,16 @@ invariant_of-self c =
     kept_on _ _ _ _ c.self.invariant (recorded_unrefused _ _ recorded)
     (recorded_verdict_of _ _ recorded) c.prepare.new.machine c.push_whole.new.self
     c.in-Ok.ensures.state
-    (ap (λ (h : RecordParts). h.opening) c.push_whole.ensures ∙ c.in-Ok.ensures.opening)
-    (ap (λ (h : RecordParts). h.entries) c.push_whole.ensures
+    (ap (λ (h : RecordParts). h.opening) c.push_whole.ensures.entered ∙ c.in-Ok.ensures.opening)
+    (ap (λ (h : RecordParts). h.entries) c.push_whole.ensures.entered
     ∙ ap₂ (λ es e. es ++ e ∷ []) c.in-Ok.ensures.entries
     (ap (λ e. told_entry e c.args.told.now) c.in_ok-copy.ensures.same ∙ c.requires.told
     ∙ ap (λ s. entry_of s (Events.event_meant c.args.event.now)) (sym stands)))
-    (omega (arith, ap (λ (h : RecordParts). h.kept) c.push_whole.ensures, c.in-Ok.ensures.places))
+    (omega (
+      arith,
+      ap (λ (h : RecordParts). h.kept) c.push_whole.ensures.entered,
+      c.in-Ok.ensures.places,
+    ))
     c.is_of_an_accepted_configuration.ensures
 
 pub returns-in-Ok-clause-ok : goal.returns-in-Ok-clause-ok
@@ -55,8 +59,8 @@ returns-in-Ok-clause-ok c =
     (records _ _ _ _ c.self.invariant (recorded_unrefused _ _ recorded)
     (recorded_verdict_of _ _ recorded) c.prepare.new.machine c.push_whole.new.self
     c.in-Ok.ensures.state
-    (ap (λ (h : RecordParts). h.opening) c.push_whole.ensures ∙ c.in-Ok.ensures.opening)
-    (ap (λ (h : RecordParts). h.entries) c.push_whole.ensures
+    (ap (λ (h : RecordParts). h.opening) c.push_whole.ensures.entered ∙ c.in-Ok.ensures.opening)
+    (ap (λ (h : RecordParts). h.entries) c.push_whole.ensures.entered
     ∙ ap₂ (λ es e. es ++ e ∷ []) c.in-Ok.ensures.entries
     (ap (λ e. told_entry e c.args.told.now) c.in_ok-copy.ensures.same ∙ c.requires.told
     ∙ ap (λ s. entry_of s (Events.event_meant c.args.event.now)) (sym stands)))

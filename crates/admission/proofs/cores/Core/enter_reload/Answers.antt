@@ -46,13 +46,13 @@ invariant_of-self g c =
     kept_on _ _ _ event c.self.invariant (recorded_unrefused _ _ recorded)
     (recorded_verdict_of _ _ recorded) c.prepare.new.machine c.push_reloaded.new.self
     (rw (c.deref.ensures) at c.in-Ok.ensures.state)
-    (ap (λ (h : RecordParts). h.opening) c.push_reloaded.ensures ∙ c.in-Ok.ensures.opening)
-    (ap (λ (h : RecordParts). h.entries) c.push_reloaded.ensures
+    (ap (λ (h : RecordParts). h.opening) c.push_reloaded.ensures.entered ∙ c.in-Ok.ensures.opening)
+    (ap (λ (h : RecordParts). h.entries) c.push_reloaded.ensures.entered
     ∙ ap₂ (λ es e. es ++ e ∷ []) c.in-Ok.ensures.entries
     (reload_entry _ _ _ c.requires.verdict ∙ ap (λ s. entry_of s event) (sym stands)))
     (omega (
       arith,
-      ap (λ (h : RecordParts). h.kept) c.push_reloaded.ensures,
+      ap (λ (h : RecordParts). h.kept) c.push_reloaded.ensures.entered,
       c.in-Ok.ensures.places,
     ))
     (rw (c.deref.ensures) at c.is_of_an_accepted_configuration.ensures)
@@ -65,8 +65,8 @@ returns-in-Ok-clause-reserved g c =
     λ _. (records _ _ _ event c.self.invariant (recorded_unrefused _ _ recorded)
     (recorded_verdict_of _ _ recorded) c.prepare.new.machine c.push_reloaded.new.self
     (rw (c.deref.ensures) at c.in-Ok.ensures.state)
-    (ap (λ (h : RecordParts). h.opening) c.push_reloaded.ensures ∙ c.in-Ok.ensures.opening)
-    (ap (λ (h : RecordParts). h.entries) c.push_reloaded.ensures
+    (ap (λ (h : RecordParts). h.opening) c.push_reloaded.ensures.entered ∙ c.in-Ok.ensures.opening)
+    (ap (λ (h : RecordParts). h.entries) c.push_reloaded.ensures.entered
     ∙ ap₂ (λ es e. es ++ e ∷ []) c.in-Ok.ensures.entries
     (reload_entry _ _ _ c.requires.verdict ∙ ap (λ s. entry_of s event) (sym stands)))
     _ _ _ c.self.view_is refl refl).new_is
@@ -82,8 +82,9 @@ returns-in-Ok-clause-reply g c =
           (records _ _ _ event c.self.invariant (recorded_unrefused _ _ recorded)
           (recorded_verdict_of _ _ recorded) c.prepare.new.machine c.push_reloaded.new.self
           (rw (c.deref.ensures) at c.in-Ok.ensures.state)
-          (ap (λ (h : RecordParts). h.opening) c.push_reloaded.ensures ∙ c.in-Ok.ensures.opening)
-          (ap (λ (h : RecordParts). h.entries) c.push_reloaded.ensures
+          (ap (λ (h : RecordParts). h.opening) c.push_reloaded.ensures.entered
+          ∙ c.in-Ok.ensures.opening)
+          (ap (λ (h : RecordParts). h.entries) c.push_reloaded.ensures.entered
           ∙ ap₂ (λ es e. es ++ e ∷ []) c.in-Ok.ensures.entries
           (reload_entry _ _ _ c.requires.verdict ∙ ap (λ s. entry_of s event) (sym stands)))
           _ _ _ c.self.view_is refl refl).new_is,

@@ -39,12 +39,16 @@ invariant_of-self c =
     kept_on _ _ _ _ c.self.invariant (recorded_unrefused _ _ recorded)
     (recorded_verdict_of _ _ recorded) c.prepare.new.machine c.push_slot.new.self
     c.in-Ok.ensures.state
-    (ap (λ (h : RecordParts). h.opening) c.push_slot.ensures ∙ c.in-Ok.ensures.opening)
-    (ap (λ (h : RecordParts). h.entries) c.push_slot.ensures
+    (ap (λ (h : RecordParts). h.opening) c.push_slot.ensures.entered ∙ c.in-Ok.ensures.opening)
+    (ap (λ (h : RecordParts). h.entries) c.push_slot.ensures.entered
     ∙ ap₂ (λ es o. es ++ cons_option o []) c.in-Ok.ensures.entries
     (c.requires.slot ∙ ap (λ s. Some (entry_of s (Events.event_meant c.args.event.now))) (sym
     stands)))
-    (omega (arith, ap (λ (h : RecordParts). h.kept) c.push_slot.ensures, c.in-Ok.ensures.places))
+    (omega (
+      arith,
+      ap (λ (h : RecordParts). h.kept) c.push_slot.ensures.entered,
+      c.in-Ok.ensures.places,
+    ))
     c.is_of_an_accepted_configuration.ensures
 
 pub returns-in-Ok-clause-ok : goal.returns-in-Ok-clause-ok
@@ -55,8 +59,8 @@ returns-in-Ok-clause-ok c =
     (records _ _ _ _ c.self.invariant (recorded_unrefused _ _ recorded)
     (recorded_verdict_of _ _ recorded) c.prepare.new.machine c.push_slot.new.self
     c.in-Ok.ensures.state
-    (ap (λ (h : RecordParts). h.opening) c.push_slot.ensures ∙ c.in-Ok.ensures.opening)
-    (ap (λ (h : RecordParts). h.entries) c.push_slot.ensures
+    (ap (λ (h : RecordParts). h.opening) c.push_slot.ensures.entered ∙ c.in-Ok.ensures.opening)
+    (ap (λ (h : RecordParts). h.entries) c.push_slot.ensures.entered
     ∙ ap₂ (λ es o. es ++ cons_option o []) c.in-Ok.ensures.entries
     (c.requires.slot ∙ ap (λ s. Some (entry_of s (Events.event_meant c.args.event.now))) (sym
     stands)))

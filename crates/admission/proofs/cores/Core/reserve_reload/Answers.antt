@@ -38,5 +38,5 @@ returns-in-Err-clause-err c =
     reload_lacks_memory _ _ _ c.self.invariant _ c.self.view_is _ (ruling_meant c.reload.result)
     c.reload.ensures (sym c.reload_refusal.ensures ∙ c.in_default.is) _
     (ap (λ (h : RecordParts).
-    core_with c.self.inside.machine.limits h c.self.inside.reserved) c.in-Err.ensures.err.0
+    core_with c.self.inside.machine.limits h c.self.inside.reserved) c.in-Err.ensures.err
     ∙ c.self.view_is)

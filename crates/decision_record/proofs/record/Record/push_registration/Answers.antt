@@ -1,8 +1,10 @@
-use Rattle.std.proofs.Common.{◌≤◌, ◌-◌, ◌++◌, [], ◌∷◌, length, refl, sym, ap, subst, ◌∙◌, arith}
+use Rattle.std.proofs.Common.{◌≤◌, ◌-◌, ℕ, ◌++◌, [], ◌∷◌, length, refl, sym, ap, subst, ◌∙◌, arith}
 use Rattle.std.specs.Arc.{arc_value}
 use Rattle.decision_record.specs.History.{RecordParts}
 use Rattle.decision_record.specs.Slots.{register_entry}
-use Rattle.decision_record.specs.RecordIndex.{entries_told, IsStored, IsLastReload}
+use Rattle.decision_record.specs.RecordIndex.{entries_told, room_in, IsStored, IsLastReload}
+use Rattle.pieces.specs.Pieces.{PiecesParts}
+use Rattle.registry.specs.Endpoint.{EndpointParts}
 use Rattle.decision_record.specs.declared.slots.Slot.{Slot}
 use Rattle.decision_record.proofs.StoredLemmas.{registration_stored, told_are, stored_told, slots_counted}
 use Rattle.decision_record.proofs.ReloadLemmas.{none_more}
@@ -55,14 +57,31 @@ invariant_of-self c = (
       (sym (told_are _ _ _ _ _ _ (stored c))) (last c),
 )
 
-pub returns : goal.returns
-returns c =
+-- for how many there is room then
+abbrev room : (c : goal.After-self-1) → ℕ
+room c =
+    room_in c.push.new.self c.self.inside.aside c.push-2.new.self
+    c.self.inside.reloads
+
+pub returns-clause-entered : goal.returns-clause-entered
+returns-clause-entered c =
     ap (λ es. record {
       opening = (arc_value c.self.inside.opening).commands;
       entries = es;
       kept = c.self.inside.kept - 1;
+      room = room c;
     }) (told_are _ _ _ _ _ _ (stored c))
     ∙ ap (λ (h : RecordParts). record h {
       entries = h.entries ++ register_entry c.args.replied.now c.args.endpoint ∷ [];
       kept = h.kept - 1;
+      room = room c;
     }) c.self.view_is
+
+pub returns-clause-room : goal.returns-clause-room
+returns-clause-room c =
+    omega (
+      arith,
+      ap (λ (h : RecordParts). h.room) c.self.view_is,
+      ap (λ (n : PiecesParts Slot). n.room) c.push.ensures,
+      ap (λ (n : PiecesParts EndpointParts). n.room) c.push-2.ensures,
+    )
