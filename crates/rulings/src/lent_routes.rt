@@ -3,7 +3,6 @@
 ghost use Rattle.std.specs.Prelude.{◌≡◌};
 ghost use Rattle.rulings.specs.Lent as Spec;
 ghost use Rattle.rulings.specs.Routing.{destination_of};
-ghost use Rattle.rulings.specs.Ruling.{answerer_of};
 
 use crate::routes::{Destination, Route, RouteRefusal};
 use compiler::ZoneNo;
@@ -39,18 +38,6 @@ impl DestinationKind {
                 name: name.copied(),
                 address,
             },
-        }
-    }
-}
-
-impl DestinationKind {
-    /// The ID of the gateway or terminal, if it is one.
-    pub fn answerer(self, name: &Name) -> Option<Name>
-        ensures { (address : _) → result ≡ answerer_of (Spec.destination_meant self name.now address) }
-    {
-        match self {
-            DestinationKind::Gateway | DestinationKind::Terminal => Some(*name),
-            DestinationKind::Zone => None,
         }
     }
 }

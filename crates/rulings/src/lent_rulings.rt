@@ -1,7 +1,8 @@
 //! Rulings that lend what they name, so that a ruling is small while it is handed on.
 
-ghost use Rattle.std.specs.Prelude.{◌≡◌};
+ghost use Rattle.std.specs.Prelude.{◌≡◌, true, None};
 ghost use Rattle.rulings.specs.Lent as Spec;
+ghost use Rattle.rulings.specs.declared.rulings.Effect.TheVariants as effects;
 ghost use Rattle.rulings.specs.Step.{is_granted, is_recorded, places_needed, opens_call};
 
 use crate::lent_routes::DestinationKind;
@@ -333,7 +334,10 @@ impl LentRuling<'_> {
                 owner: **owner,
                 source: Some(**source),
                 target: **target,
-                answerer: kind.answerer(name),
+                answerer: match kind {
+                    DestinationKind::Gateway | DestinationKind::Terminal => Some(**name),
+                    DestinationKind::Zone => None,
+                },
             }),
             LentRuling::Answering {
                 call,
@@ -341,15 +345,7 @@ impl LentRuling<'_> {
                 zone,
                 units,
                 ..
-            } => Effect::Open(OpenCall {
-                number: *call,
-                units: *units,
-                remote: true,
-                owner: **owner,
-                source: None,
-                target: **zone,
-                answerer: None,
-            }),
+            } => answering(*call, owner, zone, *units),
             LentRuling::Changed { call, id, units } => Effect::Resize {
                 call: *call,
                 id: **id,
@@ -371,4 +367,29 @@ impl LentRuling<'_> {
             | LentRuling::ReleaseRefused { .. } => Effect::Nothing,
         }
     }
+}
+
+/// Of an answer to a call from another gatekeeper: the call is open.
+#[cold]
+#[inline(never)]
+fn answering(call: u32, owner: &Name, zone: &Name, units: Units) -> Effect
+    ensures { result ≡ effects.Open (record {
+      number = call;
+      owner = owner.now;
+      source = None;
+      target = zone.now;
+      remote = true;
+      units = units;
+      answerer = None;
+    }) }
+{
+    Effect::Open(OpenCall {
+        number: call,
+        units,
+        remote: true,
+        owner: *owner,
+        source: None,
+        target: *zone,
+        answerer: None,
+    })
 }

@@ -314,7 +314,12 @@ impl Machine {
                 let reason = ChangeRefusal::NotYours;
                 LentRuling::ChangeRefused { call, reason }
             }
-            Some(held) => self.change_to(tables, id, call, &OpenCall { units, ..*held }),
+            Some(held) => {
+                // One copy of the whole: `..*held` would copy it field by field.
+                let mut changed = *held;
+                changed.units = units;
+                self.change_to(tables, id, call, &changed)
+            }
         }
     }
 
