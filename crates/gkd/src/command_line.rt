@@ -9,7 +9,7 @@ use gk_terms::{Dialled, Name, read_number};
 use std::alloc::{AllocError, Global};
 
 /// The version of the program, as `--version` prints it.
-const VERSION: &str = "0.3.0";
+const VERSION: &str = "0.4.0";
 
 /// What `gkd` is asked to do.
 #[derive(Clone, Copy, Debug, PartialEq, Eq)]
@@ -50,6 +50,11 @@ pub enum Task<'a> {
     /// `explain FILE DIGITS [--zone NAME] [--endpoints FILE]`: to say step by step why the digits
     /// go where they go.
     Explain(Question<'a>),
+    /// `diff OLD NEW`: to print which digits two configurations plan otherwise.
+    Diff {
+        old: &'a str,
+        new: &'a str,
+    },
     /// The word after this option is not a number in its range.
     BadNumber(BadNumber<'a>),
     /// A word is not what its place asks for.
@@ -90,6 +95,7 @@ pub fn task_of<'a>(alloc: Global, words: &'a [String]) -> Result<Task<'a>, Error
 fn task_in<'a>(matches: &ArgMatches<'a>) -> Task<'a> {
     match matches.subcommand() {
         Some(("check", check)) => check_in(check),
+        Some(("diff", diff)) => diff_in(diff),
         Some(("explain", explain)) => explain_in(explain),
         Some(("run", run)) => run_in(run),
         Some(("serve", serve)) => serve_in(serve),
@@ -116,6 +122,14 @@ fn check_in<'a>(matches: &ArgMatches<'a>) -> Task<'a> {
     Task::Check {
         file: word_in(matches, "FILE"),
         prints: matches.get_flag("print"),
+    }
+}
+
+/// `diff` with its files.
+fn diff_in<'a>(matches: &ArgMatches<'a>) -> Task<'a> {
+    Task::Diff {
+        old: word_in(matches, "OLD"),
+        new: word_in(matches, "NEW"),
     }
 }
 
@@ -206,6 +220,7 @@ fn commands<'a>(alloc: Global) -> Result<Command<'a>, AllocError> {
         .version(VERSION)
         .disable_help_subcommand(true)
         .subcommand(check_command(alloc)?)?
+        .subcommand(diff_command(alloc)?)?
         .subcommand(explain_command(alloc)?)?
         .subcommand(run_command(alloc)?)?
         .subcommand(serve_command(alloc)?)?
@@ -272,6 +287,23 @@ fn trial_command<'a>(alloc: Global) -> Result<Command<'a>, AllocError> {
         .arg(calls)?
         .arg(endpoints)?
         .arg(workers)
+}
+
+/// `diff OLD NEW`.
+fn diff_command<'a>(alloc: Global) -> Result<Command<'a>, AllocError> {
+    let old = Arg::new(alloc, "OLD")
+        .help("The configuration that is in force")
+        .required(true);
+    let new = Arg::new(alloc, "NEW")
+        .help("The one that is to come")
+        .required(true);
+    Command::new(alloc, "diff")
+        .about(
+            "Prints which digits two configurations plan otherwise. The status is 0 if there are \
+            none, 1 if there are some, and 2 in case of trouble",
+        )
+        .arg(old)?
+        .arg(new)
 }
 
 /// `explain FILE DIGITS [--zone NAME] [--endpoints FILE]`.

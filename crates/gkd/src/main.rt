@@ -2,10 +2,12 @@
 //! input, and writes a reply to each request on standard output. `gkd run FILE` reads the
 //! configuration from a file, `gkd check FILE` says whether one is accepted, `gkd trial FILE`
 //! reports what one would have answered to recorded calls, `gkd explain FILE` says why digits go
-//! where they go, and `gkd serve FILE` serves many sessions over TCP.
+//! where they go, `gkd diff OLD NEW` which digits two configurations plan otherwise, and
+//! `gkd serve FILE` serves many sessions over TCP.
 #![tactic(auto)]
 
 mod command_line;
+mod differing;
 mod explaining;
 mod files;
 pub mod laws;
@@ -20,6 +22,7 @@ use clap::error::ErrorKind;
 use command_line::{BadNumber, BadWord, Task, task_of};
 use configuration_reader::check;
 use configuration_reader::check::CheckFault;
+use differing::diff_files;
 use explaining::explain_file;
 use gk_lines::Noted;
 use run_files::{run_file, run_input};
@@ -74,6 +77,7 @@ fn carry_out<
         }
         Task::Serve { file, port, seats } => serve_file(rt, file, port, seats),
         Task::Explain(question) => explain_file(rt, &question),
+        Task::Diff { old, new } => diff_files(rt, old, new),
         Task::BadNumber(bad) => refuse_number(rt, &bad),
         Task::BadWord(bad) => refuse_word(rt, &bad),
     }

@@ -1,0 +1,63 @@
+//! `gkd diff`: which dialled digits two configurations plan otherwise, from files.
+
+use crate::files::configuration_in;
+use crate::saying::UNWRITTEN;
+use compiler::Tables;
+use configuration_reader::configuration::ConfigurationFault;
+use difference_report::{ReportFault, write_difference};
+use gk_lines::Noted;
+use std::alloc::AllocGlobal;
+use std::io;
+use std::process::ExitCode;
+use std::rt::Runtime;
+
+/// The status of `gkd diff` if it cannot tell whether the configurations differ, as that of diff(1).
+const TROUBLE: u8 = 2;
+
+/// Prints the sets of digits that the configurations in two files plan otherwise, or the first
+/// fault: of the old one, of the new one, and then of the report. The status is that of diff(1): 0 if
+/// they plan all digits alike and have the same default technology, 1 if they do not.
+pub fn diff_files<R: Runtime + AllocGlobal>(rt: &R, old: &str, new: &str) -> io::Result<ExitCode> {
+    let old_tables = match tables_in(rt, old)? {
+        Some(tables) => tables,
+        None => return Ok(ExitCode::from(TROUBLE)),
+    };
+    let new_tables = match tables_in(rt, new)? {
+        Some(tables) => tables,
+        None => return Ok(ExitCode::from(TROUBLE)),
+    };
+    print_difference(rt, &old_tables, &new_tables)
+}
+
+/// The tables of the configuration in a file; none, once its fault is said on standard error.
+fn tables_in<R: Runtime + AllocGlobal>(rt: &R, file: &str) -> io::Result<Option<Tables>> {
+    match configuration_in(rt, file) {
+        Ok(commands) => match Tables::compile(rt.alloc(), commands) {
+            Ok(tables) => return Ok(Some(tables)),
+            Err(_) => eprintln!(rt; "gkd: no memory")?,
+        },
+        Err(ConfigurationFault::Line(fault)) => eprintln!(rt; "gkd: {file}: {fault}")?,
+        Err(ConfigurationFault::Read(_)) => eprintln!(rt; "gkd: cannot read {file}")?,
+    }
+    Ok(None)
+}
+
+/// Prints the difference of these tables to standard output.
+fn print_difference<R: Runtime + AllocGlobal>(
+    rt: &R,
+    old: &Tables,
+    new: &Tables,
+) -> io::Result<ExitCode> {
+    match write_difference(rt.alloc(), old, new, &mut Noted::new(io::writer(rt))) {
+        Ok(false) => Ok(ExitCode::SUCCESS),
+        Ok(true) => Ok(ExitCode::from(1)),
+        Err(ReportFault::WriteFault) => trouble(rt, UNWRITTEN),
+        Err(ReportFault::NoMemory) => trouble(rt, "no memory"),
+    }
+}
+
+/// Says on standard error why there is no answer.
+fn trouble<R: Eprint>(rt: &R, why: &str) -> io::Result<ExitCode> {
+    eprintln!(rt; "gkd: {why}")?;
+    Ok(ExitCode::from(TROUBLE))
+}
