@@ -1,17 +1,20 @@
 -- The gateway that is chosen stands first among the candidates by priority.
-use Rattle.std.proofs.Common.{◌≡◌, ℕ, zero, suc, ◌<◌, ◌≤◌, Bool, true, false, cond, nat_lt, List, [], ◌∷◌, ◌++◌, Some, refl, ap, ◌∙◌, arith}
-use Rattle.std.specs.Prelude.{Option, ◌==◌, slice_get, if◌then◌else◌}
+use Rattle.std.proofs.Common.{◌≡◌, ℕ, zero, suc, ◌<◌, ◌≤◌, Bool, true, false, ◌&&◌, cond, nat_lt, List, [], ◌∷◌, ◌++◌, Some, refl, sym, ap, ◌∙◌, arith}
+use Rattle.std.specs.Prelude.{Option, None, ◌==◌, slice_get, if◌then◌else◌}
+use Rattle.std.specs.List.{list_all}
 use Rattle.std.proofs.lemmas.Bool.{and_parts, and_from}
 use Rattle.std.proofs.lemmas.Bool.Decides.{nat_tests}
+use Rattle.std.proofs.lemmas.List.Folds.{list_all-append}
 use Rattle.command_reader.specs.declared.commands.Command.{Command}
 use Rattle.compiler.specs.Priority.{priority_of}
 use Rattle.compiler.specs.Rows.{ZoneRow}
 use Rattle.registry.specs.Endpoint.{EndpointParts}
-use Rattle.registry.specs.Gateway.{is_candidate, serves}
-use Rattle.registry.proofs.GatewayLaws.{chosen_from_computed}
+use Rattle.registry.specs.Gateway.{gateway_of, is_candidate, serves}
+use Rattle.registry.proofs.GatewayLaws.{chosen_from_computed, none_computed}
 use Rattle.explanation.specs.declared.steps.Candidate.{Candidate}
-use Rattle.explanation.specs.Laws.{ChosenStandsFirst}
-use Rattle.explanation.specs.Steps.{candidates_of, of_priority, ranked_below}
+use Rattle.explanation.specs.Laws.{ChosenStandsFirst, StandsFirst}
+use Rattle.explanation.specs.Steps.{candidates_of, of_priority, ranked, ranked_below}
+use Rattle.explanation.proofs.PriorityLemmas.{priority_within}
 
 -- those of lesser priorities, if the first of them is of this priority
 module _ (all : List Candidate) (first : Candidate) (p : ℕ)
@@ -118,16 +121,66 @@ module _ (commands : List Command) (zone prefix : List ℕ) (row : Option ZoneRo
           (and_from (serves zone prefix e) (nat_lt 0 (rank e)) it more) in
           let bad : ⊥ = grind (arith, nat_tests) in absurd bad
 
+  -- if no gateway is chosen, each that serves has priority 0
+  none_above_zero : (es : List EndpointParts)
+      → ((k : ℕ) (e : EndpointParts) → slice_get es k ≡ Some e → able e ≡ false)
+      → list_all (λ c. c.priority == 0) (all es) ≡ true
+  none_above_zero [] none = refl
+  none_above_zero (e ∷ es) none =
+      by (serves zone prefix e) refl (none_above_zero es (λ k f there. none (suc k) f there))
+    where
+      by : (b : Bool) → serves zone prefix e ≡ b → list_all (λ c. c.priority == 0) (all es) ≡ true
+          → list_all (λ c. c.priority == 0)
+          ((if b then as_candidate e ∷ [] else []) ++ all es) ≡ true
+      by false is rest = rest
+      by true is rest =
+          let low : nat_lt 0 (rank e) ≡ false =
+          sym (ap (λ b. b && nat_lt 0 (rank e)) is) ∙ none 0 e refl in
+          let ranks : (rank e == 0) ≡ true = grind (arith, nat_tests) in
+          and_from (rank e == 0) (list_all (λ c. c.priority == 0) (all es)) ranks rest
+
+-- what passes for all of a list passes for all that are ranked
+passes_of_priority : (test : Candidate → Bool) (p : ℕ) (all : List Candidate)
+    → list_all test all ≡ true → list_all test (of_priority all p) ≡ true
+passes_of_priority test p [] h = refl
+passes_of_priority test p (c ∷ cs) h =
+    let parts = and_parts (test c) (list_all test cs) h in
+    by (c.priority == p) parts.0 (passes_of_priority test p cs parts.1)
+  where
+    by : (b : Bool) → test c ≡ true → list_all test (of_priority cs p) ≡ true
+        → list_all test (cond b (c ∷ of_priority cs p) (of_priority cs p)) ≡ true
+    by true passes rest = and_from (test c) (list_all test (of_priority cs p)) passes rest
+    by false passes rest = rest
+
+passes_ranked : (test : Candidate → Bool) (n : ℕ) (all : List Candidate)
+    → list_all test all ≡ true → list_all test (ranked_below n all) ≡ true
+passes_ranked test zero all h = refl
+passes_ranked test (suc n) all h =
+    list_all-append test (of_priority all n) (ranked_below n all)
+    ∙ and_from (list_all test (of_priority all n)) (list_all test (ranked_below n all))
+    (passes_of_priority test n all h) (passes_ranked test n all h)
+
 pub chosen_first : ChosenStandsFirst
-chosen_first commands endpoints zone prefix row e is within =
-    let c = chosen_from_computed (priority_of commands row) endpoints zone prefix e is in
-    let p = priority_of commands row e.id in
-    let parts = and_parts (serves zone prefix e) (nat_lt 0 p) c.candidate in
-    let more = parts.1 in
-    let some : 0 < p = grind (arith, nat_tests) in
-    let few : p < 11 = omega (arith, within) in
-    first_below (candidates_of commands endpoints zone prefix row)
-    (record { id = e.id; priority = p }) p
-    (λ q above. none_above commands zone prefix row q p endpoints above c.greatest)
-    (first_of_priority commands zone prefix row p c.place endpoints e some c.listed parts.0 refl
-    c.first) 11 few
+chosen_first commands endpoints zone prefix row accepted =
+    by (gateway_of commands endpoints zone prefix row) refl
+  where
+    by : (o : Option EndpointParts) → gateway_of commands endpoints zone prefix row ≡ o
+        → StandsFirst commands row o (ranked (candidates_of commands endpoints zone prefix row))
+    by None is =
+        passes_ranked (λ c. c.priority == 0) 11
+        (candidates_of commands endpoints zone prefix row)
+        (none_above_zero commands zone prefix row endpoints
+        (none_computed (priority_of commands row) endpoints zone prefix is))
+    by (Some e) is =
+        let c = chosen_from_computed (priority_of commands row) endpoints zone prefix e is in
+        let p = priority_of commands row e.id in
+        let parts = and_parts (serves zone prefix e) (nat_lt 0 p) c.candidate in
+        let more = parts.1 in
+        let some : 0 < p = grind (arith, nat_tests) in
+        let within = priority_within commands row e.id accepted in
+        let few : p < 11 = omega (arith, within) in
+        first_below (candidates_of commands endpoints zone prefix row)
+        (record { id = e.id; priority = p }) p
+        (λ q above. none_above commands zone prefix row q p endpoints above c.greatest)
+        (first_of_priority commands zone prefix row p c.place endpoints e some c.listed parts.0 refl
+        c.first) 11 few

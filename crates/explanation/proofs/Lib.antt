@@ -1,6 +1,8 @@
 pub mod FirstLemmas
 pub mod FoundLemmas
 pub mod HeldLemmas
+pub mod LeadLemmas
+pub mod PriorityLemmas
 pub mod SearchLemmas
 pub mod TechnologyLemmas
 pub mod WordLemmas

@@ -107,13 +107,13 @@ why_later true cost other_cost priority other_priority =
 why_later false cost other_cost priority other_priority =
     if nat_lt other_priority priority
     then codes ", priority " ++ decimal other_priority ++ codes " below " ++ decimal priority
-    else codes ", later in line order"
+    else codes ", named later"
 
 abbrev pub why_not : ZoneKind → ZoneKind → List ℕ
-why_not kinds.Local kinds.Local = codes ", later in line order"
+why_not kinds.Local kinds.Local = codes ", named later"
 why_not kinds.Local (kinds.Remote address cost priority) =
     codes ", remote, and a local zone comes first"
-why_not (kinds.Remote address cost priority) kinds.Local = codes ", later in line order"
+why_not (kinds.Remote address cost priority) kinds.Local = codes ", named later"
 why_not (kinds.Remote address cost priority) (kinds.Remote other other_cost other_priority) =
     why_later (nat_lt cost other_cost) cost other_cost priority other_priority
 

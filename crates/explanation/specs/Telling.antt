@@ -25,7 +25,7 @@ step_if_any name [] = []
 step_if_any name (b ∷ bs) = step_line name (b ∷ bs)
 
 -- ---- the technology prefix
--- what else it may be if the endpoints are not known
+-- what a gateway may give if the endpoints are not known
 abbrev pub or_learned : Bool → List ℕ → List ℕ
 or_learned true words = []
 or_learned false words = words
@@ -39,17 +39,17 @@ source_of commands givers prefix =
 
 abbrev pub technology_value : List Command → Bool → List (List ℕ) → Option (List ℕ) → List ℕ
 technology_value commands known givers None =
-    codes "none" ++ or_learned known (codes " declared, or one that a gateway gives")
+    codes "none" ++ or_learned known (codes " declared (a gateway may give one)")
 technology_value commands known givers (Some prefix) =
     prefix ++ source_of commands givers prefix
-    ++ or_learned known (codes ", or a longer one that a gateway gives")
+    ++ or_learned known (codes " (a gateway may give a longer one)")
 
 -- ---- the zone
 -- the digits by which a pattern is looked for, if a technology prefix was taken off
 abbrev pub rest_line : List ℕ → Option (List ℕ) → List ℕ
 rest_line digits None = []
 rest_line digits (Some prefix) =
-    step_line (codes "digits after it") (listed (drop (length prefix) digits))
+    step_line (codes "digits left") (listed (drop (length prefix) digits))
 
 -- the zone by its name; empty if there is none
 abbrev pub name_of : Reached → List ℕ
@@ -89,17 +89,21 @@ zone_line (reached.Remote zone) = step_line (codes "zone") (zone ++ codes ", rem
 zone_line (reached.Local zone) = step_line (codes "zone") (zone ++ codes ", local")
 
 -- ---- the endpoint
--- that no endpoint has the digits as an alias; or which one would be looked for
+-- that no endpoint has the digits as an alias; or, if none is known, which one is looked for
 abbrev pub no_alias_value : Explanation → List ℕ
 no_alias_value e =
-    if e.known then codes "none"
-    else (codes "an endpoint of " ++ name_of e.reached ++ codes " with the alias " ++ e.digits)
+    if e.known then codes "no endpoint"
+    else
+    (codes "not known, an endpoint of " ++ name_of e.reached ++ codes " with the alias " ++ e.digits
+    ++ codes " is looked for")
 
--- the gateways, or which ones would be looked for
+-- the gateways; or, if no endpoint is known, which ones are looked for
 abbrev pub gateways_value : Explanation → List ℕ → List ℕ
 gateways_value e prefix =
     if e.known then listed (candidates_text e.gateways.items)
-    else (codes "those of " ++ name_of e.reached ++ codes " with the technology prefix " ++ prefix)
+    else
+    (codes "not known, those of " ++ name_of e.reached ++ codes " with the technology prefix "
+    ++ prefix ++ codes " are looked for")
 
 abbrev pub search_lines : List Command → Explanation → Search → List ℕ
 search_lines commands e search.Nobody = []
@@ -115,27 +119,35 @@ search_lines commands e search.NoDefault =
     ++ step_line (codes "default technology") (codes "none")
 
 -- ---- the route
--- whether it does not rest on endpoints that are not known
-abbrev pub is_settled : Bool → Reached → Bool
-is_settled known reached.Nowhere = true
-is_settled known (reached.Remote zone) = true
-is_settled known (reached.Local zone) = known
+-- that in a local zone an endpoint is looked for, before what comes of it if there is none
+abbrev pub endpoint_asked : Reached → List ℕ
+endpoint_asked reached.Nowhere = []
+endpoint_asked (reached.Remote zone) = []
+endpoint_asked (reached.Local zone) = codes "an endpoint of " ++ zone ++ codes ", else "
 
--- the route; or what it is by the tables alone
+-- the route; or, if no endpoint is known, what it is by the configuration alone: a technology
+-- prefix that a gateway gives may lead elsewhere, whatever zone is reached
 abbrev pub route_value : Explanation → List ℕ
 route_value e =
-    if is_settled e.known e.reached then route_text e.route
-    else (codes "an endpoint of " ++ name_of e.reached ++ codes ", else " ++ route_text e.route)
+    if e.known then route_text e.route
+    else
+    (codes "by the configuration alone, " ++ endpoint_asked e.reached ++ route_text e.route)
 
 -- ---- the limits
--- whether there is a destination, or may be one
+-- whether it is for an endpoint that is not known to decide, by the configuration alone
+abbrev pub is_open : Bool → Reached → Bool
+is_open known reached.Nowhere = false
+is_open known (reached.Remote zone) = false
+is_open known (reached.Local zone) = not known
+
+-- whether there is a destination, or an endpoint that is not known may be one
 abbrev pub may_be_held : Bool → Route → Bool
-may_be_held is_settled (routes.To destination) = true
-may_be_held is_settled (routes.Refused refusal) = not is_settled
+may_be_held is_open (routes.To destination) = true
+may_be_held is_open (routes.Refused refusal) = is_open
 
 abbrev pub limits_line : Explanation → List ℕ
 limits_line e =
-    if may_be_held (is_settled e.known e.reached) e.route
+    if may_be_held (is_open e.known e.reached) e.route
     then step_line (codes "limits") (listed (limits_text e.limits.items))
     else []
 

@@ -19,10 +19,12 @@ use std::alloc::{AllocError, Global};
 
 /// Why the digits go where they go for a caller of this zone, each step by the calls that an
 /// admission rests on. The endpoints are those that are registered; without them it is what the
-/// configuration alone says, as if none were. `AllocError` if memory runs out.
+/// configuration alone says, as if none were: a technology prefix that a gateway gives may lead
+/// elsewhere. `AllocError` if memory runs out.
 ///
 /// This is for an operator who asks at a terminal, and no request waits for it: its time grows with
-/// the lines of the configuration and with the square of the number of the endpoints.
+/// the lines of the configuration and with the square of the number of the endpoints. That of its
+/// text grows with the number of the zones times that of the lines.
 pub fn explain(
     alloc: Global,
     tables: &Tables,

@@ -129,7 +129,7 @@ impl Text {
                     ..
                 },
             ) => self.add_why_later(*cost, *other_cost, *priority, *other_priority),
-            (_, ZoneKind::Local) => self.add(b", later in line order"),
+            (_, ZoneKind::Local) => self.add(b", named later"),
         }
     }
 
@@ -156,7 +156,7 @@ impl Text {
             self.add(b" below ")?;
             return self.number(u64::from(priority));
         }
-        self.add(b", later in line order")
+        self.add(b", named later")
     }
 }
 

@@ -68,7 +68,8 @@ pub struct Explanation {
     pub caller: Name,
     /// What was dialled.
     pub digits: Dialled,
-    /// Whether the registered endpoints are known. If not, none is.
+    /// Whether the registered endpoints are known. If not, the steps are those of none, and a
+    /// technology prefix that a gateway gives may lead elsewhere.
     pub known: bool,
     /// The technology prefix of the digits.
     pub technology: Option<TechPrefix>,

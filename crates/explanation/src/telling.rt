@@ -147,7 +147,7 @@ impl Text {
             Some(prefix) => {
                 let mut rest = Text::new(alloc);
                 rest.add(after(digits.as_bytes(), prefix.as_bytes().len()))?;
-                self.step(b"digits after it", rest.or_none()?.as_bytes())
+                self.step(b"digits left", rest.or_none()?.as_bytes())
             }
             None => Ok(()),
         }
@@ -214,7 +214,8 @@ impl Text {
         }
     }
 
-    /// Adds that no endpoint has the digits as an alias, or which one would be looked for.
+    /// Adds that no endpoint has the digits as an alias; or, if none is known, which one is looked
+    /// for.
     fn add_no_alias(&mut self, alloc: Global, said: &Explanation) -> Result<(), AllocError>
         ensures { OnOk result (self.new
             ≡ self.old ++ Spec.step_line (codes "alias") (Spec.no_alias_value said.now)) }
@@ -223,7 +224,8 @@ impl Text {
         self.step(b"alias", value.as_bytes())
     }
 
-    /// Adds the gateways among which one is chosen, or which ones would be looked for.
+    /// Adds the gateways among which one is chosen; or, if no endpoint is known, which ones are
+    /// looked for.
     fn add_gateways(
         &mut self,
         alloc: Global,
@@ -237,7 +239,7 @@ impl Text {
         self.step(b"gateways", value.as_bytes())
     }
 
-    /// Adds the route, or what it is by the tables alone.
+    /// Adds the route; or, if no endpoint is known, what it is by the configuration alone.
     fn add_route(&mut self, alloc: Global, said: &Explanation) -> Result<(), AllocError>
         ensures { OnOk result (self.new
             ≡ self.old ++ Spec.step_line (codes "route") (Spec.route_value said.now)) }
@@ -246,11 +248,32 @@ impl Text {
         self.step(b"route", value.as_bytes())
     }
 
-    /// Adds the limits, if there is a destination, or may be one.
+    /// Adds that an endpoint is looked for, if the zone is a local one, before what comes of it if
+    /// there is none.
+    fn add_endpoint_asked(&mut self, reached: &Reached) -> Result<(), AllocError>
+        ensures { OnOk result (self.new ≡ self.old ++ Spec.endpoint_asked reached.now) }
+    {
+        match reached {
+            Reached::Nowhere | Reached::Remote(_) => Ok(()),
+            Reached::Local(zone) => self.add_endpoint_of(zone),
+        }
+    }
+
+    /// Adds that an endpoint of this zone is looked for.
+    fn add_endpoint_of(&mut self, zone: &Name) -> Result<(), AllocError>
+        ensures { OnOk result (self.new
+            ≡ self.old ++ codes "an endpoint of " ++ zone.now ++ codes ", else ") }
+    {
+        self.add(b"an endpoint of ")?;
+        self.add(zone.as_bytes())?;
+        self.add(b", else ")
+    }
+
+    /// Adds the limits, if there is a destination, or an endpoint that is not known may be one.
     fn add_limits(&mut self, alloc: Global, said: &Explanation) -> Result<(), AllocError>
         ensures { OnOk result (self.new ≡ self.old ++ Spec.limits_line said.now) }
     {
-        if may_be_held(is_settled(said.known, &said.reached), &said.route) {
+        if may_be_held(is_open(said.known, &said.reached), &said.route) {
             let list = lists::limits(alloc, said.limits.as_slice())?.or_none()?;
             self.step(b"limits", list.as_bytes())?;
         }
@@ -271,14 +294,14 @@ fn technology_value(
     match &said.technology {
         None => {
             value.add(b"none")?;
-            value.add_or_learned(said.known, b" declared, or one that a gateway gives")?;
+            value.add_or_learned(said.known, b" declared (a gateway may give one)")?;
             Ok(value)
         }
         Some(prefix) => {
             value.add(prefix.as_bytes())?;
             let source = source(alloc, commands, said.givers.as_slice(), prefix)?;
             value.add(source.as_bytes())?;
-            value.add_or_learned(said.known, b", or a longer one that a gateway gives")?;
+            value.add_or_learned(said.known, b" (a gateway may give a longer one)")?;
             Ok(value)
         }
     }
@@ -332,42 +355,45 @@ fn text_of(alloc: Global, bytes: &[u8]) -> Result<Text, AllocError>
     Ok(text)
 }
 
-/// Which endpoints of a zone would be looked for.
+/// Which endpoints of a zone are looked for, by what.
 fn looked_for(
     alloc: Global,
     who: &[u8],
     zone: &[u8],
     by: &[u8],
     what: &[u8],
+    end: &[u8],
 ) -> Result<Text, AllocError>
-    ensures { IfOk result (λ text. text ≡ who.now ++ zone.now ++ by.now ++ what.now) }
+    ensures { IfOk result (λ text. text ≡ who.now ++ zone.now ++ by.now ++ what.now ++ end.now) }
 {
     let mut text = Text::new(alloc);
     text.add(who)?;
     text.add(zone)?;
     text.add(by)?;
     text.add(what)?;
+    text.add(end)?;
     Ok(text)
 }
 
-/// That no endpoint has the digits as an alias, or which one would be looked for.
+/// That no endpoint has the digits as an alias; or, if none is known, which one is looked for.
 fn no_alias_value(alloc: Global, said: &Explanation) -> Result<Text, AllocError>
     ensures { IfOk result (λ value. value ≡ Spec.no_alias_value said.now) }
 {
     if said.known {
-        text_of(alloc, b"none")
+        text_of(alloc, b"no endpoint")
     } else {
         looked_for(
             alloc,
-            b"an endpoint of ",
+            b"not known, an endpoint of ",
             name_of(&said.reached),
             b" with the alias ",
             said.digits.as_bytes(),
+            b" is looked for",
         )
     }
 }
 
-/// The gateways among which one is chosen, or which ones would be looked for.
+/// The gateways among which one is chosen; or, if no endpoint is known, which ones are looked for.
 fn gateways_value(
     alloc: Global,
     said: &Explanation,
@@ -380,30 +406,36 @@ fn gateways_value(
     } else {
         looked_for(
             alloc,
-            b"those of ",
+            b"not known, those of ",
             name_of(&said.reached),
             b" with the technology prefix ",
             prefix.as_bytes(),
+            b" are looked for",
         )
     }
 }
 
-/// The route, or what it is by the tables alone.
+/// The route; or, if no endpoint is known, what it is by the configuration alone.
 fn route_value(alloc: Global, said: &Explanation) -> Result<Text, AllocError>
     ensures { IfOk result (λ value. value ≡ Spec.route_value said.now) }
 {
     let shown = format!(in alloc; "{}", said.route)?;
-    if is_settled(said.known, &said.reached) {
+    if said.known {
         text_of(alloc, shown.as_bytes())
     } else {
-        looked_for(
-            alloc,
-            b"an endpoint of ",
-            name_of(&said.reached),
-            b", else ",
-            shown.as_bytes(),
-        )
+        route_alone(alloc, &said.reached, shown.as_bytes())
     }
+}
+
+/// What a route is by the configuration alone.
+fn route_alone(alloc: Global, reached: &Reached, route: &[u8]) -> Result<Text, AllocError>
+    ensures { IfOk result (λ value. value ≡ codes "by the configuration alone, "
+        ++ Spec.endpoint_asked reached.now ++ route.now) }
+{
+    let mut value = text_of(alloc, b"by the configuration alone, ")?;
+    value.add_endpoint_asked(reached)?;
+    value.add(route)?;
+    Ok(value)
 }
 
 /// Whether a command declares the prefix.
@@ -472,22 +504,22 @@ fn name_of(reached: &Reached) -> &[u8]
     }
 }
 
-/// Whether the route does not rest on endpoints that are not known.
-fn is_settled(known: bool, reached: &Reached) -> bool
-    ensures { result ≡ Spec.is_settled known reached.now }
+/// Whether it is for an endpoint that is not known to decide, by the configuration alone.
+fn is_open(known: bool, reached: &Reached) -> bool
+    ensures { result ≡ Spec.is_open known reached.now }
 {
     match reached {
-        Reached::Nowhere | Reached::Remote(_) => true,
-        Reached::Local(_) => known,
+        Reached::Nowhere | Reached::Remote(_) => false,
+        Reached::Local(_) => !known,
     }
 }
 
-/// Whether there is a destination, or may be one.
-fn may_be_held(is_settled: bool, route: &Route) -> bool
-    ensures { result ≡ Spec.may_be_held is_settled route.now }
+/// Whether there is a destination, or an endpoint that is not known may be one.
+fn may_be_held(is_open: bool, route: &Route) -> bool
+    ensures { result ≡ Spec.may_be_held is_open route.now }
 {
     match route {
         Route::To(_) => true,
-        Route::Refused(_) => !is_settled,
+        Route::Refused(_) => is_open,
     }
 }

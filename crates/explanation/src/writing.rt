@@ -28,8 +28,7 @@ pub enum ExplainFault {
 
 /// Writes why the digits go where they go for a caller of this zone, a line for each step that is
 /// taken. The endpoints are those that are registered; without them it is what the configuration
-/// alone says, and what would be looked for. `WriteFault` comes exactly if the writer fails in this
-/// call.
+/// alone says, and what is looked for. `WriteFault` comes exactly if the writer fails in this call.
 pub fn write_explanation<W: Sink>(
     alloc: Global,
     tables: &Tables,

@@ -312,7 +312,7 @@ fn explain_command<'a>(alloc: Global) -> Result<Command<'a>, AllocError> {
         .help("What is dialled: 1 to 32 of 0 to 9, # and *")
         .required(true);
     let zone = named(alloc, "zone", "NAME").help(
-        "The zone of the caller; without it the first local zone",
+        "The zone of the caller; `-` or without it the first local zone",
     );
     let endpoints = named(alloc, "endpoints", "FILE").help(
         "The endpoints that are registered: one RRQ line for each",
