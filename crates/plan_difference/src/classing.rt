@@ -11,7 +11,7 @@ use digit_patterns::Pattern;
 use gk_terms::{Dialled, TechPrefix};
 
 /// The set to which the digits belong.
-pub(crate) fn set_of(old: &Tables, new: &Tables, digits: &Dialled) -> NumberSet
+pub fn set_of(old: &Tables, new: &Tables, digits: &Dialled) -> NumberSet
     ensures { result ≡ set_of old.now.commands new.now.commands digits.now }
 {
     let old_technology = old.declared(digits);

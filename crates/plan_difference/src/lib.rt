@@ -15,6 +15,7 @@ pub mod sets;
 mod texts;
 mod walk;
 
+pub use classing::set_of;
 pub use destinations::{Destination, destination_of};
 pub use differences::difference;
 pub use number_sets::{Group, NumberSet};

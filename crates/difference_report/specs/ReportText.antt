@@ -1,0 +1,106 @@
+-- The text of `gkd diff`: the sets in their groups, the default technologies if they differ, and
+-- how many sets there are.
+use Rattle.std.specs.Prelude.{ℕ, ◌==◌, Bool, false, ◌&&◌, ◌||◌, not, List, [], ◌∷◌, ◌++◌, length, fold, Option, Some, None, codes, decimal, bytes_eq, if◌then◌else◌}
+use Rattle.std.specs.Option.{option_eq}
+use Rattle.command_reader.specs.declared.commands.Command.{Command}
+use Rattle.compiler.specs.Technology.{default_technology_of}
+use Rattle.plan_difference.specs.declared.number_sets.Group.{Group}
+use Rattle.plan_difference.specs.Entries.{Entry, Entries, group_of}
+use Rattle.difference_report.specs.Headings.{heading}
+use Rattle.difference_report.specs.PlanWords.{set_line}
+use Rattle.difference_report.specs.SetText.{set_text}
+use Rattle.difference_report.specs.Shape.{greater}
+
+-- ---- blocks of lines
+-- a group of sets, and how many characters its widest set has
+pub record BlockParts : Type 0 where
+  pub group : Group
+  pub width : ℕ
+
+-- whether two groups are the same
+abbrev pub same_group : Group → Group → Bool
+same_group group other =
+    option_eq bytes_eq group.old other.old && option_eq bytes_eq group.new other.new
+
+-- a width, or that of a set if it is greater and the set is of the group
+abbrev pub wider : (old new : List Command) → Group → ℕ → Entry → ℕ
+wider old new group width entry =
+    if same_group (group_of entry.0) group then greater width (length (set_text old new entry))
+    else width
+
+-- the width of the widest set of a group
+abbrev pub width_of : (old new : List Command) → Entries → Group → ℕ
+width_of old new entries group = fold (wider old new group) 0 entries
+
+-- whether a group goes on
+abbrev pub goes_on : Option BlockParts → Group → Bool
+goes_on None group = false
+goes_on (Some block) group = same_group block.group group
+
+-- the block of the next set: the one before it, if that is of the same group
+abbrev pub next_block : (old new : List Command) → Entries → Option BlockParts → Group
+    → BlockParts
+next_block old new entries None group =
+    record { group = group; width = width_of old new entries group }
+next_block old new entries (Some block) group =
+    if same_group block.group group then block
+    else record { group = group; width = width_of old new entries group }
+
+-- the heading, if another group begins
+abbrev pub heading_if : (old new : List Command) → Entries → Option BlockParts → Group
+    → List ℕ
+heading_if old new entries before group =
+    if goes_on before group then [] else heading old new entries group
+
+-- the lines of a set after such a block
+abbrev pub entry_text : (old new : List Command) → Entries → Option BlockParts → Entry
+    → List ℕ
+entry_text old new entries before entry =
+    heading_if old new entries before (group_of entry.0)
+    ++ set_line old new (next_block old new entries before (group_of entry.0)).width entry
+
+-- the text and its last block, and one more set
+abbrev pub with_entry : (old new : List Command) → Entries → List ℕ × Option BlockParts
+    → Entry → List ℕ × Option BlockParts
+with_entry old new entries so_far entry = (
+  so_far.0 ++ entry_text old new entries so_far.1 entry,
+  Some (next_block old new entries so_far.1 (group_of entry.0)),
+)
+
+abbrev pub sets_text : (old new : List Command) → Entries → List ℕ
+sets_text old new entries = (fold (with_entry old new entries) ([], None) entries).0
+
+-- ---- the last lines
+abbrev pub technology_text : Option (List ℕ) → List ℕ
+technology_text None = codes "none"
+technology_text (Some prefix) = prefix
+
+-- whether the default technologies are the same
+abbrev pub same_default : (old new : List Command) → Bool
+same_default old new =
+    option_eq bytes_eq (default_technology_of old) (default_technology_of new)
+
+abbrev pub technology_change : Option (List ℕ) → Option (List ℕ) → List ℕ
+technology_change old new =
+    technology_text old ++ codes " -> " ++ technology_text new ++ 10 ∷ []
+
+abbrev pub default_change : Option (List ℕ) → Option (List ℕ) → List ℕ
+default_change old new = codes "default technology: " ++ technology_change old new
+
+abbrev pub default_line : (old new : List Command) → List ℕ
+default_line old new =
+    if same_default old new then []
+    else default_change (default_technology_of old) (default_technology_of new)
+
+abbrev pub count_line : ℕ → List ℕ
+count_line count =
+    decimal count ++ (if count == 1 then codes " set" else codes " sets") ++ 10 ∷ []
+
+-- ---- the whole
+abbrev pub report_text : (old new : List Command) → Entries → List ℕ
+report_text old new entries =
+    sets_text old new entries ++ default_line old new ++ count_line (length entries)
+
+-- whether there is more than the last line
+abbrev pub is_different : (old new : List Command) → Entries → Bool
+is_different old new entries = not (length entries == 0) || not (same_default old new)

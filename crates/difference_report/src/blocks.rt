@@ -1,0 +1,123 @@
+//! Blocks of lines: the sets of one group.
+
+ghost use Rattle.std.specs.Prelude.{◌≡◌, IfOk, OnOk, IfSome, slice_get, length, bytes_eq};
+ghost use Rattle.difference_report.specs.ReportText as Spec;
+
+use crate::set_text::set_text;
+use crate::shape::greater;
+use crate::shared_prefixes::is_same;
+use compiler::Tables;
+use plan_difference::{Group, Sets};
+use std::alloc::{AllocError, Global};
+use std::marker::Model;
+
+/// A group of sets whose lines stand together, and how many characters its widest set has. A
+/// contract sees both.
+#[derive(Clone, Copy)]
+pub(crate) struct Block {
+    group: Group,
+    width: usize,
+}
+
+impl Model for Block {
+    ghost use Rattle.difference_report.specs.ReportText.{BlockParts};
+
+    ghost Value = { BlockParts };
+
+    ghost view = { λ b. record { group = b.group; width = b.width } };
+
+    ghost inverse = { λ v. record { group = v.group; width = v.width } };
+}
+
+impl Block {
+    ghost use Rattle.std.specs.Prelude.{◌≡◌};
+
+    /// How many characters the widest set has.
+    pub(crate) fn width(&self) -> usize
+        ensures { result ≡ self.now.width }
+    {
+        self.width
+    }
+}
+
+/// Whether a group goes on.
+pub(crate) fn goes_on(before: &Option<Block>, group: &Group) -> bool
+    ensures { result ≡ Spec.goes_on before.now group.now }
+{
+    match before {
+        Some(block) => is_same_group(&block.group, group),
+        None => false,
+    }
+}
+
+/// The block of the next set, of this group: the one before it, if that is of the same group.
+pub(crate) fn next_block(
+    alloc: Global,
+    old: &Tables,
+    new: &Tables,
+    sets: &Sets,
+    before: &Option<Block>,
+    group: &Group,
+) -> Result<Block, AllocError>
+    ensures { IfOk result (λ block. block ≡ Spec.next_block old.now.commands
+        new.now.commands sets.now before.now group.now) }
+{
+    if let Some(block) = before {
+        if is_same_group(&block.group, group) {
+            return Ok(*block);
+        }
+    }
+    Ok(Block {
+        group: *group,
+        width: width_of(alloc, old, new, sets, group)?,
+    })
+}
+
+/// Whether two groups are the same.
+fn is_same_group(group: &Group, other: &Group) -> bool
+    ensures { result ≡ Spec.same_group group.now other.now }
+{
+    is_same(&group.old, &other.old) && is_same(&group.new, &other.new)
+}
+
+/// The width of the widest set of a group.
+fn width_of(
+    alloc: Global,
+    old: &Tables,
+    new: &Tables,
+    sets: &Sets,
+    group: &Group,
+) -> Result<usize, AllocError>
+    ensures { IfOk result (λ width. width
+        ≡ Spec.width_of old.now.commands new.now.commands sets.now group.now) }
+{
+    let mut width = 0;
+    for place in 0..sets.len() {
+        width = wider(alloc, old, new, sets, group, width, place)?;
+    }
+    Ok(width)
+}
+
+/// A width, or that of the set at a place if it is greater and the set is of the group.
+fn wider(
+    alloc: Global,
+    old: &Tables,
+    new: &Tables,
+    sets: &Sets,
+    group: &Group,
+    width: usize,
+    place: usize,
+) -> Result<usize, AllocError>
+    ensures { IfOk result (λ wide. IfSome (slice_get sets.now place)
+        (λ entry. wide
+        ≡ Spec.wider old.now.commands new.now.commands group.now width entry)) }
+{
+    let Some((set, digits)) = sets.get(place) else {
+        return Ok(width);
+    };
+    if !is_same_group(&set.group(), group) {
+        return Ok(width);
+    }
+    let text = set_text(alloc, old, new, set, digits)?;
+    Ok(greater(width, text.len()))
+}

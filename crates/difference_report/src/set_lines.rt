@@ -1,0 +1,94 @@
+//! The lines of sets.
+
+ghost use Rattle.std.specs.Prelude.{◌≡◌, ◌++◌, OnOk};
+ghost use Rattle.compiler.specs.Plan.{plan_of};
+ghost use Rattle.plan_difference.specs.Destination.{destination_of};
+ghost use Rattle.difference_report.specs.PlanWords as Spec;
+
+use crate::headings::is_own;
+use crate::plan_words::{add_gateways, add_side};
+use crate::set_text::set_text;
+use crate::texts::add_repeated;
+use compiler::Tables;
+use gk_terms::Dialled;
+use plan_difference::{Destination, NumberSet, destination_of};
+use std::alloc::{AllocError, Global};
+
+/// Adds the line of a set, with the plans of these digits of it. The sets of its group are that
+/// wide.
+pub(crate) fn add_set_line(
+    text: &mut Vec<u8>,
+    alloc: Global,
+    old: &Tables,
+    new: &Tables,
+    width: usize,
+    set: &NumberSet,
+    digits: &Dialled,
+) -> Result<(), AllocError>
+    ensures { OnOk result (text.new.items ≡ text.old.items
+        ++ Spec.set_line old.now.commands new.now.commands width (set.now, digits.now)) }
+{
+    let shown = set_text(alloc, old, new, set, digits)?;
+    text.extend_from_slice(b"  ")?;
+    add_filled(text, width, &shown)?;
+    text.extend_from_slice(b"  ")?;
+    add_change(
+        text,
+        alloc,
+        set,
+        &shown,
+        &destination(old, digits),
+        &destination(new, digits),
+    )?;
+    text.extend_from_slice(b"\n")
+}
+
+/// Where digits are planned to.
+fn destination(tables: &Tables, digits: &Dialled) -> Destination
+    ensures { result ≡ destination_of (plan_of tables.now.commands digits.now) }
+{
+    destination_of(tables, &tables.plan(digits))
+}
+
+/// Adds a text, filled up with spaces.
+fn add_filled(text: &mut Vec<u8>, width: usize, shown: &[u8]) -> Result<(), AllocError>
+    ensures { OnOk result (text.new.items ≡ text.old.items ++ Spec.filled width shown.now) }
+{
+    text.extend_from_slice(shown)?;
+    add_repeated(text, b' ', width.saturating_sub(shown.len()))
+}
+
+/// Adds both plans of a set, which is written as it is shown.
+fn add_change(
+    text: &mut Vec<u8>,
+    alloc: Global,
+    set: &NumberSet,
+    shown: &[u8],
+    old: &Destination,
+    new: &Destination,
+) -> Result<(), AllocError>
+    ensures { OnOk result (text.new.items
+        ≡ text.old.items ++ Spec.change_words shown.now set.now old.now new.now) }
+{
+    let own = is_own(&set.group());
+    add_side(
+        text,
+        alloc,
+        own,
+        shown,
+        old,
+        &set.old_technology,
+        &set.old_row,
+    )?;
+    text.extend_from_slice(b" -> ")?;
+    add_side(
+        text,
+        alloc,
+        own,
+        shown,
+        new,
+        &set.new_technology,
+        &set.new_row,
+    )?;
+    add_gateways(text, alloc, own, old, new)
+}
