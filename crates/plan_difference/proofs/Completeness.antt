@@ -1,7 +1,7 @@
 -- All digits that are planned otherwise are in a set that is found.
 use Rattle.std.proofs.Common.{◌≡◌, ℕ, zero, suc, ◌==◌, ◌&&◌, ◌||◌, ◌+◌, ◌<◌, ◌≤◌, ◌⊎◌, inl, inr, Bool, true, false, cond, nat_lt, nat_le, List, [], ◌∷◌, ◌++◌, length, length-append, drop, tests, take-append-drop, append_assoc, append-nil, slice_get, refl, sym, ap, subst, ◌∙◌, arith, true≢false}
 use Rattle.std.specs.Prelude.{Option, Some, None, option_map, is_some, replicate, bytes_eq, unwrap_or}
-use Rattle.std.specs.List.{list_all, starts_with}
+use Rattle.std.specs.List.{list_all, starts_with, filter}
 use Rattle.std.specs.Cmp.Lexicographic.{same_text}
 use Rattle.std.proofs.lemmas.Bool.{and_parts, eqb-true}
 use Rattle.std.proofs.lemmas.Bool.Decides.{nat_tests}
@@ -18,11 +18,10 @@ use Rattle.compiler.proofs.TechnologyLemmas.{begins_is}
 use Rattle.compiler.proofs.LearnedLemmas.{is_longest, is_none}
 use Rattle.plan_difference.specs.declared.number_sets.NumberSet.{NumberSet}
 use Rattle.plan_difference.specs.declared.number_sets.Group.{Group}
-use Rattle.plan_difference.specs.Difference.{SamePlan}
-use Rattle.plan_difference.specs.Entries.{Entries, IsIn, group_of}
+use Rattle.plan_difference.specs.Entries.{Entries, IsIn, IsEntered, group_of, group_by}
 use Rattle.plan_difference.specs.Sets.{set_of, set_by, is_joint, hops_off, hopoff_of, row_after, pattern_used}
 use Rattle.plan_difference.specs.Walk.{starred, text_of, longer_of, Heads, IsPick, Settles, SettlesGroup}
-use Rattle.plan_difference.specs.Gathered.{AreGathered, IsSettled, Has, HasPrefixes, HasPatterns, AreLiteral, AreClean, joint}
+use Rattle.plan_difference.specs.Gathered.{AreGathered, IsSettled, Has, HasPrefixes, HasPatterns, AreLiteral, AreClean, joint, is_joint_head}
 use Rattle.plan_difference.proofs.Beginnings.{begins}
 use Rattle.plan_difference.proofs.Finding.{declared_within}
 use Rattle.plan_difference.proofs.Lookups.{PrefixesStay, LiteralsStay, FindsSame, finds_same, same_technology_found, drop_front}
@@ -360,17 +359,31 @@ own_pick old new head group stem stars digits pick =
     by (suc place) e = absurd (let bad : ⊥ = cc in bad)
 
 -- a joint set names no technology prefix, and another one those that are found
-group_by : (j : Bool) (s t : Option (List ℕ)) (p q : Option PatternParts)
-    → group_of (set_by j s t p q)
-    ≡ cond j joint (record { old = s; new = t })
-group_by true s t p q = refl
-group_by false s t p q = refl
+pub group_is : (j : Bool) (s t : Option (List ℕ)) (p q : Option PatternParts)
+    → group_of (set_by j s t p q) ≡ group_by j s t
+group_is true s t p q = refl
+group_is false s t p q = refl
+
+-- a technology prefix that is listed and passes is among those that pass
+has_kept : {X : Type 0} (test : X → Bool) (xs : List X) (place : ℕ) (x : X)
+    → slice_get xs place ≡ Some x → test x ≡ true → Has (filter test xs) x
+has_kept test [] place x at h = absurd (let bad : ⊥ = cc in bad)
+has_kept {X} test (y ∷ ys) zero x at h =
+    subst (λ t. Has (cond t (y ∷ filter test ys) (filter test ys)) x)
+    (sym (ap (λ o. test (unwrap_or o y)) at ∙ h)) (record { place = 0; stands = at })
+has_kept {X} test (y ∷ ys) (suc place) x at h = by (test y) (has_kept test ys place x at h)
+  where
+    by : (t : Bool) → Has (filter test ys) x
+        → Has (cond t (y ∷ filter test ys) (filter test ys)) x
+    by true there = record { place = suc there.place; stands = there.stands }
+    by false there = there
 
 -- ---- both configurations
 module _ (old new : List Command) (heads : Heads) (patterns : List PatternParts)
-    (gathered : AreGathered old new heads patterns) (entries : Entries)
-    (settled : IsSettled old new entries heads patterns) (x : List ℕ) (dialled : IsDialled x)
-    (differs : ¬ SamePlan old new x) where
+    (gathered : AreGathered old new heads patterns) (entries : Entries) (joint_heads : Heads)
+    (kept : joint_heads ≡ filter (is_joint_head old new) heads)
+    (settled : IsSettled old new entries heads joint_heads patterns)
+    (x : List ℕ) (dialled : IsDialled x) where
   abbrev a : Option (List ℕ)
   a = technology_of old x
 
@@ -440,6 +453,29 @@ module _ (old new : List Command) (heads : Heads) (patterns : List PatternParts)
           }
       by (Some p) (Some q) e f =
           by_length p q e f (nat_lt (length p) (length q)) refl
+
+  -- the longer prefix alone is found to have the same technology prefixes
+  module _ (prefix : List ℕ) (longest : t ≡ Some prefix) where
+    prefix_parts : x ≡ prefix ++ drop (length prefix) x
+    prefix_parts = subst (λ h. x ≡ text_of h ++ drop (found_length h) x) longest longer.parts
+
+    alone_same : (commands : List Command) → HasPrefixes heads commands
+        → found_length (technology_of commands x) ≤ length (text_of t)
+        → technology_of commands prefix ≡ technology_of commands x
+    alone_same commands prefixes within =
+        ap (technology_of commands) (sym (append-nil prefix))
+        ∙ sym (same_technology_found commands prefix (drop (length prefix) x) 0
+        (prefixes_stay commands heads prefixes gathered.clean prefix (drop (length prefix) x)
+        (subst (λ y. found_length (technology_of commands y) ≤ length prefix) prefix_parts
+        (subst (λ h. found_length (technology_of commands x) ≤ length (text_of h)) longest
+        within))))
+        ∙ ap (technology_of commands) (sym prefix_parts)
+
+    old_alone : technology_of old prefix ≡ a
+    old_alone = alone_same old gathered.old_prefixes longer.old_within
+
+    new_alone : technology_of new prefix ≡ b
+    new_alone = alone_same new gathered.new_prefixes longer.new_within
 
   abbrev rest : List ℕ
   rest = drop (found_length t) x
@@ -555,11 +591,10 @@ module _ (old new : List Command) (heads : Heads) (patterns : List PatternParts)
 
     -- digits of the same set that were entered
     in_by : (digits : List ℕ) → set_of old new digits ≡ set_of old new d
-        → (¬ SamePlan old new digits → IsIn entries (set_of old new digits))
-        → IsIn entries (set_of old new x)
-    in_by digits same entered =
-        subst (IsIn entries) (same ∙ same_set_of)
-        (entered (λ alike. differs (same_of_set old new digits x (same ∙ same_set_of) alike)))
+        → IsEntered old new entries digits → IsEntered old new entries x
+    in_by digits same (inl alike) =
+        inl (same_of_set old new digits x (same ∙ same_set_of) alike)
+    in_by digits same (inr there) = inr (subst (IsIn entries) (same ∙ same_set_of) there)
 
     -- a key is left of some literals after one front or the other
     key_of : is_among keys stem ≡ true → {P : Type 0}
@@ -585,8 +620,8 @@ module _ (old new : List Command) (heads : Heads) (patterns : List PatternParts)
     module _ (e : is_joint old new a b ≡ true) where
       joint_group : group_of (set_of old new x) ≡ joint
       joint_group =
-          group_by (is_joint old new a b) a b (pattern_used old x) (pattern_used new x)
-          ∙ ap (λ j. cond j joint (record { old = a; new = b })) e
+          group_is (is_joint old new a b) a b (pattern_used old x) (pattern_used new x)
+          ∙ ap (λ j. group_by j a b) e
 
       joint_head : t ≡ a
       joint_head =
@@ -603,28 +638,29 @@ module _ (old new : List Command) (heads : Heads) (patterns : List PatternParts)
               ap (drop (length prefix)) (sym (append-nil prefix)) ∙ drop_all prefix []
 
       joint_by_key : (front : List ℕ) → front ≡ [] → Key patterns front stem
-          → Settles old new entries heads joint stem (length z)
+          → Settles old new entries joint_heads joint stem (length z)
       joint_by_key front f key =
           settled.joint_patterns key.place key.pattern key.stands stem
           (key.parts ∙ ap (λ w. w ++ stem) f) (length z) few
 
       joint_settles : (chosen.stem ≡ []) ⊎ (is_among keys chosen.stem ≡ true)
-          → Settles old new entries heads joint stem (length z)
+          → Settles old new entries joint_heads joint stem (length z)
       joint_settles (inl none) =
-          subst (λ w. Settles old new entries heads joint w (length z)) (sym none)
+          subst (λ w. Settles old new entries joint_heads joint w (length z)) (sym none)
           (settled.alone (length z) few)
       joint_settles (inr there) =
           key_of there (λ stays key. joint_by_key _ (no_front a refl) key)
           (λ stays key. joint_by_key _ (no_front b (sym (are_joint old new a b e).same)) key)
 
-      joint_in : Has heads t → IsIn entries (set_of old new x)
+      joint_in : Has joint_heads t → IsEntered old new entries x
       joint_in there =
-          let pick : IsPick old new heads joint stem (length z) d =
-          subst (λ g. IsPick old new heads g stem (length z) d) joint_group (pick_of heads there) in
+          let pick : IsPick old new joint_heads joint stem (length z) d =
+          subst (λ g. IsPick old new joint_heads g stem (length z) d) joint_group
+          (pick_of joint_heads there) in
           let p = joint_settles chosen.listed d pick in
           in_by p.digits
-          (joint_pick old new heads stem (length z) p.digits p.pick
-          ∙ sym (joint_pick old new heads stem (length z) d pick)) p.entered
+          (joint_pick old new joint_heads stem (length z) p.digits p.pick
+          ∙ sym (joint_pick old new joint_heads stem (length z) d pick)) p.entered
 
     -- those of a group of their own
     module _ (e : is_joint old new a b ≡ false) (prefix : List ℕ) (longest : t ≡ Some prefix)
@@ -634,30 +670,13 @@ module _ (old new : List Command) (heads : Heads) (patterns : List PatternParts)
 
       own_group : group_of (set_of old new x) ≡ own
       own_group =
-          group_by (is_joint old new a b) a b (pattern_used old x) (pattern_used new x)
-          ∙ ap (λ j. cond j joint own) e
-
-      prefix_parts : x ≡ prefix ++ drop (length prefix) x
-      prefix_parts =
-          subst (λ h. x ≡ text_of h ++ drop (found_length h) x) longest longer.parts
-
-      -- the prefix alone is found to have the same technology prefixes
-      alone_same : (commands : List Command) → HasPrefixes heads commands
-          → found_length (technology_of commands x) ≤ length (text_of t)
-          → technology_of commands prefix ≡ technology_of commands x
-      alone_same commands prefixes within =
-          ap (technology_of commands) (sym (append-nil prefix))
-          ∙ sym (same_technology_found commands prefix (drop (length prefix) x) 0
-          (prefixes_stay commands heads prefixes gathered.clean prefix (drop (length prefix) x)
-          (subst (λ y. found_length (technology_of commands y) ≤ length prefix) prefix_parts
-          (subst (λ h. found_length (technology_of commands x) ≤ length (text_of h)) longest
-          within))))
-          ∙ ap (technology_of commands) (sym prefix_parts)
+          group_is (is_joint old new a b) a b (pattern_used old x) (pattern_used new x)
+          ∙ ap (λ j. group_by j a b) e
 
       settles_group : SettlesGroup old new entries patterns prefix a b
       settles_group =
-          let f = alone_same old gathered.old_prefixes longer.old_within in
-          let g = alone_same new gathered.new_prefixes longer.new_within in
+          let f = old_alone prefix longest in
+          let g = new_alone prefix longest in
           subst (λ s. SettlesGroup old new entries patterns prefix s b) f
           (subst (λ s. SettlesGroup old new entries patterns prefix (technology_of old prefix) s) g
           (settled.each_head there.place (Some prefix) there.stands
@@ -675,7 +694,7 @@ module _ (old new : List Command) (heads : Heads) (patterns : List PatternParts)
           (λ stays key. settles_group.by_new stays key.place key.pattern key.stands stem
           (key.parts ∙ ap (λ h. drop (found_length b) (text_of h) ++ stem) longest) (length z) few)
 
-      own_in : IsIn entries (set_of old new x)
+      own_in : IsEntered old new entries x
       own_in =
           let one : IsPick old new (t ∷ []) (group_of (set_of old new x)) stem (length z) d =
           pick_of (t ∷ []) (record { place = 0; stands = refl }) in
@@ -732,12 +751,24 @@ module _ (old new : List Command) (heads : Heads) (patterns : List PatternParts)
           some_both true g = let bad : ⊥ = cc in bad
           some_both false g = let bad : ⊥ = cc in bad
 
-  pub in_entries : IsIn entries (set_of old new x)
+  -- one of the joint group is listed among its own
+  joint_there : is_joint old new a b ≡ true → Has joint_heads t
+  joint_there e =
+      let there = head_there in
+      subst (λ these. Has these t) (sym kept)
+      (has_kept (is_joint_head old new) heads there.place t there.stands (own t refl))
+    where
+      own : (h : Option (List ℕ)) → t ≡ h → is_joint_head old new h ≡ true
+      own None f = refl
+      own (Some prefix) f =
+          (λ i. is_joint old new (old_alone prefix f i) (new_alone prefix f i)) ∙ e
+
+  pub in_entries : IsEntered old new entries x
   in_entries = by (is_joint old new a b) refl t refl
     where
       by : (j : Bool) → is_joint old new a b ≡ j → (h : Option (List ℕ)) → t ≡ h
-          → IsIn entries (set_of old new x)
-      by true e h f = joint_in (stem_of keys rest) e head_there
+          → IsEntered old new entries x
+      by true e h f = joint_in (stem_of keys rest) e (joint_there e)
       by false e None f = absurd (true≢false (sym (none_in_both f) ∙ e))
       by false e (Some prefix) f =
           own_in (stem_of keys rest) e prefix f (subst (Has heads) f head_there)

@@ -256,5 +256,5 @@ module _ (old new : List Command) where
       where
         by : (r : Result T F) → OnOk r (NotedBy before after (set_of old new digits) digits)
             → OnOk r (IsEntered old new after digits)
-        by (Ok done) h = λ _. in_noted before after (set_of old new digits) digits old new h
+        by (Ok done) h = inr (in_noted before after (set_of old new digits) digits old new h)
         by (Err fault) h = tt

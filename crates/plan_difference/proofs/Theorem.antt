@@ -1,13 +1,15 @@
 -- The sets that are found are exactly those of the digits that are planned otherwise.
-use Rattle.std.proofs.Common.{◌≡◌, ℕ, zero, suc, List, [], ◌∷◌, slice_get, refl, sym, ap, subst, ◌∙◌}
+use Rattle.std.proofs.Common.{◌≡◌, ℕ, zero, suc, List, [], ◌∷◌, slice_get, ◌⊎◌, inl, inr, refl, sym, ap, subst, ◌∙◌}
 use Rattle.std.specs.Prelude.{Option, Some, None, unwrap_or}
+use Rattle.std.specs.List.{filter}
 use Rattle.std.specs.Map.{keys_of}
+use Rattle.gk_terms.specs.Dialled.{IsDialled}
 use Rattle.digit_patterns.specs.PatternParts.{PatternParts}
 use Rattle.command_reader.specs.declared.commands.Command.{Command}
 use Rattle.plan_difference.specs.declared.number_sets.NumberSet.{NumberSet}
-use Rattle.plan_difference.specs.Difference.{IsDifference, StandsAt}
-use Rattle.plan_difference.specs.Entries.{Entry, Entries, EntryAt, AreOnce, AreSampled, Grows}
-use Rattle.plan_difference.specs.Gathered.{AreGathered, IsSettled, Has, HasPrefixes, HasPatterns, AreLiteral, AreClean, joint}
+use Rattle.plan_difference.specs.Difference.{IsDifference, IsCovered, SamePlan, StandsAt}
+use Rattle.plan_difference.specs.Entries.{Entry, Entries, EntryAt, AreOnce, AreSampled, Grows, IsEntered}
+use Rattle.plan_difference.specs.Gathered.{AreGathered, IsSettled, Has, HasPrefixes, HasPatterns, AreLiteral, AreClean, joint, is_joint_head}
 use Rattle.plan_difference.specs.Sets.{set_of}
 use Rattle.plan_difference.specs.Walk.{Heads, SettlesStem, SettlesPatterns, SettlesHead}
 use Rattle.plan_difference.proofs.Completeness.{in_entries}
@@ -45,19 +47,24 @@ entry_stands (entry ∷ entries) (suc place) set e =
 -- ---- the theorem
 module _ (old new : List Command) (heads : Heads) (patterns : List PatternParts)
     (entries : Entries) (once : AreOnce entries) (sampled : AreSampled old new entries)
-    (gathered : AreGathered old new heads patterns)
-    (settled : IsSettled old new entries heads patterns) where
+    (gathered : AreGathered old new heads patterns) (joint_heads : Heads)
+    (kept : joint_heads ≡ filter (is_joint_head old new) heads)
+    (settled : IsSettled old new entries heads joint_heads patterns) where
+  covered : (digits : List ℕ) → IsDialled digits → IsEntered old new entries digits
+      → SamePlan old new digits ⊎ IsCovered old new (keys_of entries) digits
+  covered digits dialled (inl alike) = inl alike
+  covered digits dialled (inr there) = inr (record {
+    place = there.place;
+    set = set_of old new digits;
+    stands = set_stands entries there.place (set_of old new digits) there.digits there.stands;
+    covers = (dialled, refl);
+  })
+
   pub is_difference : IsDifference old new (keys_of entries)
   is_difference = record {
-    complete = λ digits dialled differs.
-        let there =
-        in_entries old new heads patterns gathered entries settled digits dialled differs in
-        record {
-          place = there.place;
-          set = set_of old new digits;
-          stands = set_stands entries there.place (set_of old new digits) there.digits there.stands;
-          covers = (dialled, refl);
-        };
+    complete = λ digits dialled. covered digits dialled
+        (in_entries old new heads patterns gathered entries joint_heads kept settled digits
+        dialled);
     sound = λ place set digits stands covers same.
         let there = entry_stands entries place set stands in
         let sample = sampled place set there.digits there.stands in
@@ -82,18 +89,20 @@ pub none_sampled : (old new : List Command) → AreSampled old new []
 none_sampled old new place set digits e = absurd (let bad : ⊥ = cc in bad)
 
 -- the joint group first, and then the others
-pub settled_after : (old new : List Command) (heads : Heads) (patterns : List PatternParts)
-    (between after : Entries) → Grows old new between after
-    → SettlesStem old new between heads joint []
-    → SettlesPatterns old new between heads joint [] patterns
+pub settled_after : (old new : List Command) (heads joint_heads : Heads)
+    (patterns : List PatternParts) (between after : Entries) → Grows old new between after
+    → SettlesStem old new between joint_heads joint []
+    → SettlesPatterns old new between joint_heads joint [] patterns
     → ((place : ℕ) (head : Option (List ℕ)) → slice_get heads place ≡ Some head
     → SettlesHead old new after patterns head)
-    → IsSettled old new after heads patterns
-settled_after old new heads patterns between after grows alone by_patterns each = record {
-  alone = stem_on old new between after grows heads joint [] alone;
-  joint_patterns = patterns_on old new between after grows heads joint [] patterns by_patterns;
-  each_head = each;
-}
+    → IsSettled old new after heads joint_heads patterns
+settled_after old new heads joint_heads patterns between after grows alone by_patterns
+    each = record {
+      alone = stem_on old new between after grows joint_heads joint [] alone;
+      joint_patterns =
+          patterns_on old new between after grows joint_heads joint [] patterns by_patterns;
+      each_head = each;
+    }
 
 -- what the parts of the whole say
 module _ (old new : List Command) (heads : Heads) (patterns : List PatternParts)
@@ -103,21 +112,23 @@ module _ (old new : List Command) (heads : Heads) (patterns : List PatternParts)
   all_sampled =
       two.sampled (one.sampled (subst (AreSampled old new) (sym start) (none_sampled old new)))
 
-  pub whole : AreOnce after → AreGathered old new heads patterns
-      → SettlesStem old new between heads joint []
-      → SettlesPatterns old new between heads joint [] patterns
+  pub whole : AreOnce after → AreGathered old new heads patterns → (joint_heads : Heads)
+      → joint_heads ≡ filter (is_joint_head old new) heads
+      → SettlesStem old new between joint_heads joint []
+      → SettlesPatterns old new between joint_heads joint [] patterns
       → ((place : ℕ) (head : Option (List ℕ)) → slice_get heads place ≡ Some head
       → SettlesHead old new after patterns head)
       → IsDifference old new (keys_of after)
-  whole once gathered alone by_patterns each =
-      is_difference old new heads patterns after once all_sampled gathered
-      (settled_after old new heads patterns between after two alone by_patterns each)
+  whole once gathered joint_heads kept alone by_patterns each =
+      is_difference old new heads patterns after once all_sampled gathered joint_heads kept
+      (settled_after old new heads joint_heads patterns between after two alone by_patterns each)
 
   -- the same of lists that are lent as slices
   pub whole_by : AreOnce after → Has heads None → HasPrefixes heads old → HasPrefixes heads new
       → HasPatterns patterns old → HasPatterns patterns new
-      → (joint_heads own_heads : Heads) (joint_patterns own_patterns : List PatternParts)
-      → joint_heads ≡ heads → joint_patterns ≡ patterns → own_heads ≡ heads
+      → (kept lent joint_heads own_heads : Heads) (joint_patterns own_patterns : List PatternParts)
+      → kept ≡ filter (is_joint_head old new) lent → lent ≡ heads
+      → joint_heads ≡ kept → joint_patterns ≡ patterns → own_heads ≡ heads
       → own_patterns ≡ patterns
       → SettlesStem old new between joint_heads joint []
       → SettlesPatterns old new between joint_heads joint [] joint_patterns
@@ -125,7 +136,8 @@ module _ (old new : List Command) (heads : Heads) (patterns : List PatternParts)
       → ((place : ℕ) (head : Option (List ℕ)) → slice_get own_heads place ≡ Some head
       → SettlesHead old new after own_patterns head)
       → AreClean own_heads → IsDifference old new (keys_of after)
-  whole_by once none p q r s hs ks ps qs e f g h alone by_patterns literal each clean =
+  whole_by once none p q r s kept lent hs ks ps qs k l e f g h alone by_patterns literal each
+      clean =
       whole once (record {
         none = none;
         old_prefixes = p;
@@ -134,7 +146,8 @@ module _ (old new : List Command) (heads : Heads) (patterns : List PatternParts)
         new_patterns = s;
         literal = subst AreLiteral f literal;
         clean = subst AreClean g clean;
-      }) (subst (λ l. SettlesStem old new between l joint []) e alone)
+      }) kept (k ∙ ap (filter (is_joint_head old new)) l)
+      (subst (λ l. SettlesStem old new between l joint []) e alone)
       (subst (λ l. SettlesPatterns old new between l joint [] patterns) e
       (subst (SettlesPatterns old new between hs joint []) f by_patterns))
       (subst (λ l. (place : ℕ) (head : Option (List ℕ)) → slice_get l place ≡ Some head

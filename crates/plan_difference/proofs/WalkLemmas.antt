@@ -1,5 +1,5 @@
 -- What is settled stays so while more sets are found.
-use Rattle.std.proofs.Common.{◌≡◌, ℕ, zero, suc, ◌+◌, ◌<◌, ◌≤◌, Bool, true, false, ◌&&◌, nat_lt, nat_eq, List, [], ◌∷◌, ◌++◌, length, take, drop, slice_get, refl, sym, ap, subst, ◌∙◌, arith, true≢false}
+use Rattle.std.proofs.Common.{◌≡◌, ℕ, zero, suc, ◌+◌, ◌<◌, ◌≤◌, inl, inr, Bool, true, false, ◌&&◌, nat_le, nat_lt, nat_eq, List, [], ◌∷◌, ◌++◌, length, take, drop, slice_get, refl, sym, ap, subst, ◌∙◌, arith, true≢false}
 use Rattle.std.specs.Prelude.{Option, Some, None, unwrap_or, Result, Ok, Err, OnOk}
 use Rattle.std.specs.Bool.{then_some}
 use Rattle.std.specs.Cmp.Lexicographic.{pointwise}
@@ -13,6 +13,7 @@ use Rattle.plan_difference.specs.Entries.{Entries, Grows, IsEntered, group_of}
 use Rattle.plan_difference.specs.Sets.{set_of, hops_off, is_joint}
 use Rattle.plan_difference.specs.Walk.{Heads, starred, text_of, longer_of, IsPick, Settles, SettlesStem, SettlesPattern, SettlesPatterns, SettlesGroup, SettlesHead}
 use Rattle.plan_difference.proofs.EntryLemmas.{grows_then}
+use Rattle.plan_difference.proofs.TextLemmas.{too_long}
 
 -- what holds of each number below one, and of it
 pub below_more : (P : ℕ → Type 0) (n : ℕ) → ((k : ℕ) → k < n → P k) → P n
@@ -25,6 +26,11 @@ below_more P n h last k below = by (nat_lt k n) refl
 
 module _ (old new : List Command) (before after : Entries) (grows : Grows old new before after)
   where
+    entered_on : (digits : List ℕ) → IsEntered old new before digits
+        → IsEntered old new after digits
+    entered_on digits (inl alike) = inl alike
+    entered_on digits (inr there) = inr (grows.kept (set_of old new digits) there)
+
     pub settles_on : (heads : Heads) (group : Group) (stem : List ℕ) (stars : ℕ)
         → Settles old new before heads group stem stars
         → Settles old new after heads group stem stars
@@ -33,7 +39,7 @@ module _ (old new : List Command) (before after : Entries) (grows : Grows old ne
         record {
           digits = p.digits;
           pick = p.pick;
-          entered = λ other. grows.kept (set_of old new p.digits) (p.entered other);
+          entered = entered_on p.digits p.entered;
         }
 
     pub stem_on : (heads : Heads) (group : Group) (stem : List ℕ)
@@ -198,6 +204,17 @@ module _ (old new : List Command) (heads : Heads) (group : Group) (stem : List �
             longest = told.1;
           }
       by false d f = absurd (let bad : ⊥ = cc in bad)
+
+  pub no_room : nat_le (0 + length stem + stars) 32 ≡ false → (digits : List ℕ)
+      → ¬ IsPick old new heads group stem stars digits
+  no_room e digits pick =
+      not_dialled pick.head (too_long (text_of pick.head) stem stars
+      (longer (length (text_of pick.head)) e)) digits pick.dialled
+      pick.spelled pick.grouped pick.longest
+    where
+      longer : (head : ℕ) → nat_le (0 + length stem + stars) 32 ≡ false
+          → nat_le (head + length stem + stars) 32 ≡ false
+      longer head f = grind (arith, nat_tests)
 
   pub no_pick : (bound : ℕ) → length heads ≤ bound → NotBefore old new heads group stem stars bound
       → (digits : List ℕ) → ¬ IsPick old new heads group stem stars digits

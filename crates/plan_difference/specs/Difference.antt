@@ -1,5 +1,5 @@
 -- Which digits two configurations plan otherwise.
-use Rattle.std.specs.Prelude.{◌≡◌, ℕ, Bool, true, false, List, slice_get, Option, Some, ⊤}
+use Rattle.std.specs.Prelude.{◌≡◌, ℕ, Bool, true, false, List, slice_get, Option, Some, ⊤, ◌⊎◌}
 use Rattle.gk_terms.specs.Dialled.{IsDialled}
 use Rattle.command_reader.specs.declared.commands.Command.{Command}
 use Rattle.compiler.specs.Plan.{Target, RemoteZone, LocalZone, CallersZone, UnknownPrefix, plan_of}
@@ -15,7 +15,8 @@ SamePriorities old row new other =
 
 -- two configurations send a call to the same place: a remote zone of the same name and address; a
 -- local zone of the same name with the same technology prefix, with the same priority of each
--- gateway; the caller's zone with the same technology prefix; or nowhere
+-- gateway; the caller's zone with the same technology prefix; or nowhere. By the configurations
+-- alone: what gateways give when they register is not in a target
 abbrev pub Same : List Command → Target → List Command → Target → Type 0
 Same old (RemoteZone zone address) new (RemoteZone other other_address) =
     (zone ≡ other) × (address ≡ other_address)
@@ -64,9 +65,9 @@ pub record HasWitness (old new : List Command) (set : NumberSet) : Type 0 where
 
 -- the sets are exactly those of digits that are planned otherwise
 pub record IsDifference (old new : List Command) (sets : List NumberSet) : Type 0 where
-  -- digits that are planned otherwise are covered
-  pub complete : (digits : List ℕ) → IsDialled digits → ¬ SamePlan old new digits
-      → IsCovered old new sets digits
+  -- digits are planned alike, or they are covered
+  pub complete : (digits : List ℕ) → IsDialled digits
+      → SamePlan old new digits ⊎ IsCovered old new sets digits
   -- digits that are covered are planned otherwise
   pub sound : (place : ℕ) (set : NumberSet) (digits : List ℕ) → StandsAt sets place set
       → Covers old new set digits → ¬ SamePlan old new digits

@@ -1,5 +1,5 @@
 -- The sets that are found while digits are gone through, each with some digits of it.
-use Rattle.std.specs.Prelude.{◌≡◌, ℕ, Bool, ◌&&◌, List, [], ◌∷◌, ◌++◌, slice_get, Some, ◌⊎◌, bytes_eq}
+use Rattle.std.specs.Prelude.{◌≡◌, ℕ, Bool, true, false, ◌&&◌, List, [], ◌∷◌, ◌++◌, slice_get, Option, Some, None, ◌⊎◌, bytes_eq}
 use Rattle.std.specs.Option.{option_eq}
 use Rattle.digit_patterns.specs.Pattern.{same_pattern}
 use Rattle.command_reader.specs.declared.commands.Command.{Command}
@@ -61,10 +61,15 @@ pub record Grows (old new : List Command) (before after : Entries) : Type 0 wher
   pub sampled : AreSampled old new before → AreSampled old new after
   pub kept : (set : NumberSet) → IsIn before set → IsIn after set
 
--- the set of these digits is there, if they are planned otherwise
+-- these digits are planned alike, or their set is there
 abbrev pub IsEntered : (old new : List Command) → Entries → List ℕ → Type 0
-IsEntered old new entries digits = ¬ SamePlan old new digits → IsIn entries (set_of old new digits)
+IsEntered old new entries digits = SamePlan old new digits ⊎ IsIn entries (set_of old new digits)
 
 -- the group of a set
 abbrev pub group_of : NumberSet → Group
 group_of set = record { old = set.old_technology; new = set.new_technology }
+
+-- the group of these technology prefixes
+abbrev pub group_by : Bool → (old_technology new_technology : Option (List ℕ)) → Group
+group_by true old_technology new_technology = record { old = None; new = None }
+group_by false old_technology new_technology = record { old = old_technology; new = new_technology }

@@ -4,9 +4,10 @@ use Rattle.std.specs.List.{list_all, filter_map}
 use Rattle.digit_patterns.specs.PatternParts.{PatternParts}
 use Rattle.command_reader.specs.declared.commands.Command.{Command}
 use Rattle.compiler.specs.Rows.{ZoneRow, rows_of, row_of}
-use Rattle.compiler.specs.Technology.{prefixes_of}
+use Rattle.compiler.specs.Technology.{prefixes_of, technology_of}
 use Rattle.plan_difference.specs.declared.number_sets.Group.{Group}
 use Rattle.plan_difference.specs.Entries.{Entries}
+use Rattle.plan_difference.specs.Sets.{is_joint}
 use Rattle.plan_difference.specs.Walk.{Heads, SettlesStem, SettlesPatterns, SettlesHead}
 
 -- the joint group
@@ -17,6 +18,12 @@ joint = record { old = None; new = None }
 pub record Has {X : Type 0} (xs : List X) (x : X) : Type 0 where
   pub place : ℕ
   pub stands : slice_get xs place ≡ Some x
+
+-- whether the group of a technology prefix is the joint one
+abbrev pub is_joint_head : (old new : List Command) → Option (List ℕ) → Bool
+is_joint_head old new None = true
+is_joint_head old new (Some prefix) =
+    is_joint old new (technology_of old prefix) (technology_of new prefix)
 
 -- any character but the star
 abbrev pub is_no_star : ℕ → Bool
@@ -72,10 +79,10 @@ pub record AreGathered (old new : List Command) (heads : Heads) (patterns : List
   pub literal : AreLiteral patterns
   pub clean : AreClean heads
 
--- all digits that are to be tried are
-pub record IsSettled (old new : List Command) (entries : Entries) (heads : Heads)
+-- all digits that are to be tried are; of the joint group after its own technology prefixes
+pub record IsSettled (old new : List Command) (entries : Entries) (heads joint_heads : Heads)
     (patterns : List PatternParts) : Type 0 where
-  pub alone : SettlesStem old new entries heads joint []
-  pub joint_patterns : SettlesPatterns old new entries heads joint [] patterns
+  pub alone : SettlesStem old new entries joint_heads joint []
+  pub joint_patterns : SettlesPatterns old new entries joint_heads joint [] patterns
   pub each_head : (place : ℕ) (head : Option (List ℕ)) → slice_get heads place ≡ Some head
       → SettlesHead old new entries patterns head

@@ -3,9 +3,10 @@
 ghost use Rattle.std.specs.Prelude.{◌≡◌, ◌≤◌, length, drop, Some, option_map};
 ghost use Rattle.compiler.specs.Rows.{row_for};
 ghost use Rattle.compiler.specs.Technology.{technology_of, found_length};
+ghost use Rattle.plan_difference.specs.Entries.{group_by};
 ghost use Rattle.plan_difference.specs.Sets.{hops_off, row_after, same_technology, is_joint, set_by, set_of};
 
-use crate::number_sets::NumberSet;
+use crate::number_sets::{Group, NumberSet};
 use compiler::Tables;
 use digit_patterns::Pattern;
 use gk_terms::{Dialled, TechPrefix};
@@ -31,6 +32,30 @@ pub fn set_of(old: &Tables, new: &Tables, digits: &Dialled) -> NumberSet
             new_technology,
             old_row,
             new_row,
+        }
+    }
+}
+
+/// The group of digits for which these technology prefixes are found.
+pub(crate) fn group_by(
+    old: &Tables,
+    new: &Tables,
+    old_technology: &Option<TechPrefix>,
+    new_technology: &Option<TechPrefix>,
+) -> Group
+    ensures { result ≡ group_by
+        (is_joint old.now.commands new.now.commands old_technology.now new_technology.now)
+        old_technology.now new_technology.now }
+{
+    if is_joint(old, new, old_technology, new_technology) {
+        Group {
+            old: None,
+            new: None,
+        }
+    } else {
+        Group {
+            old: *old_technology,
+            new: *new_technology,
         }
     }
 }

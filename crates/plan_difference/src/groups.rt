@@ -16,7 +16,7 @@ use digit_patterns::Pattern;
 use gk_terms::{Dialled, TechPrefix};
 use std::alloc::AllocError;
 
-/// Adds the sets of the joint group.
+/// Adds the sets of the joint group, after these technology prefixes.
 pub(crate) fn add_joint(
     sets: &mut Sets,
     old: &Tables,
@@ -104,7 +104,7 @@ fn add_group_of(
 
 #[tactic(auto, using(crate::proofs::GatherLemmas::prefix_is_dialled))]
 /// A technology prefix as dialled digits.
-fn dialled(prefix: &TechPrefix) -> Dialled
+pub(crate) fn dialled(prefix: &TechPrefix) -> Dialled
     ensures same { result ≡ prefix.now }
     ensures clean { has_no_star prefix.now ≡ true }
 {

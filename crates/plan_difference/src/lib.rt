@@ -8,6 +8,7 @@ pub mod differences;
 mod gathering;
 mod groups;
 mod held_sets;
+mod joint_heads;
 pub mod laws;
 pub mod number_sets;
 mod sameness;

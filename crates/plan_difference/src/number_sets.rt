@@ -11,24 +11,25 @@ use gk_terms::TechPrefix;
 /// follows it. All others name the prefixes that are found.
 #[derive(Clone, Copy, PartialEq, Eq, Hash)]
 pub struct NumberSet {
-    /// The technology prefix that the old configuration finds. None in the joint group.
+    /// The technology prefix that the old configuration finds. None if it finds none, and in the
+    /// joint group, which is the one where this and the next are both none.
     pub old_technology: Option<TechPrefix>,
-    /// The one that the new configuration finds. None in the joint group.
+    /// The one that the new configuration finds. None if it finds none, and in the joint group.
     pub new_technology: Option<TechPrefix>,
     /// The zone prefix that the old configuration uses. None if no zone prefix matches, or the
     /// technology prefix hops off.
     pub old_row: Option<Pattern>,
-    /// The one that the new configuration uses.
+    /// The one that the new configuration uses. None in the same cases.
     pub new_row: Option<Pattern>,
 }
 
-/// The technology prefixes that two configurations find for the digits of a set; none for both in
+/// The technology prefixes that two configurations find for the digits of a set. None for both is
 /// the joint group.
 #[derive(Clone, Copy, PartialEq, Eq)]
 pub struct Group {
-    /// What the old one finds.
+    /// What the old one finds. None if it finds none, and in the joint group.
     pub old: Option<TechPrefix>,
-    /// What the new one finds.
+    /// What the new one finds. None if it finds none, and in the joint group.
     pub new: Option<TechPrefix>,
 }
 

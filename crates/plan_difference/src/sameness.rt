@@ -16,15 +16,18 @@ use compiler::{Plan, RowNo, Tables};
 use gk_terms::{Address, Dialled, Name, TechPrefix};
 use indexmap::IndexMap;
 
-/// Whether both configurations plan the digits alike: to the same zone, with the same technology
-/// prefix, and with the same priority of each gateway.
+/// Whether both configurations plan the digits alike: to a remote zone of the same name and
+/// address; to a local zone of the same name, with the same technology prefix and the same priority
+/// of each gateway; to the caller's zone with the same technology prefix; or nowhere. By the
+/// configurations alone: what gateways give when they register is not in a plan.
 pub(crate) fn is_same_plan(old: &Tables, new: &Tables, digits: &Dialled) -> bool
     ensures { Tells result (SamePlan old.now.commands new.now.commands digits.now) }
 {
     is_same(old, &old.plan(digits), new, &new.plan(digits))
 }
 
-/// Whether two plans, each of its tables, are the same.
+/// Whether two plans, each of its tables, are the same. A gateway that one of them does not name
+/// has priority 5 in it, so that to name it with 5 makes no difference.
 pub fn is_same(old: &Tables, plan: &Plan, new: &Tables, other: &Plan) -> bool
     requires old { IsSome (target_of old.now.commands plan.now) }
     requires new { IsSome (target_of new.now.commands other.now) }

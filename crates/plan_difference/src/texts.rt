@@ -32,7 +32,7 @@ pub(crate) fn starred(head: &[u8], stem: &[u8], stars: usize) -> Option<Dialled>
 }
 
 /// Whether three lengths are together that of dialled digits at most.
-fn fits(head: usize, stem: usize, stars: usize) -> bool
+pub(crate) fn fits(head: usize, stem: usize, stars: usize) -> bool
     ensures { result ≡ nat_le (head + stem + stars) 32 }
 {
     head <= MOST_DIALLED && stem <= MOST_DIALLED - head && stars <= MOST_DIALLED - head - stem

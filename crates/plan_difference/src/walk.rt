@@ -8,11 +8,11 @@ ghost use Rattle.plan_difference.specs.Sets.{set_of};
 ghost use Rattle.plan_difference.specs.Walk.{IsPick, Settles, SettlesStem, SettlesPattern, SettlesPatterns, longer_of};
 
 use crate::adding::add;
-use crate::classing::set_of;
+use crate::classing::group_by;
 use crate::number_sets::Group;
 use crate::sameness::is_same_technology;
 use crate::sets::Sets;
-use crate::texts::{starred, text_of};
+use crate::texts::{fits, starred, text_of};
 use compiler::Tables;
 use digit_patterns::Pattern;
 use gk_terms::{Dialled, TechPrefix};
@@ -34,6 +34,9 @@ fn pick(
         (λ digits. IsPick old.now.commands new.now.commands heads.now group.now stem.now stars
         digits) }
 {
+    if !fits(0, stem.len(), stars) {
+        return None;
+    }
     for head in heads {
         if let Some(digits) = starred(text_of(head), stem, stars) {
             if is_pick(old, new, head, group, &digits) {
@@ -58,13 +61,12 @@ fn is_pick(
         × (longer_of (technology_of old.now.commands digits.now)
         (technology_of new.now.commands digits.now) ≡ head.now)) }
 {
-    if !set_of(old, new, digits).group().is(group) {
+    let old_technology = old.declared(digits);
+    let new_technology = new.declared(digits);
+    if !is_same_technology(&longer_of(&old_technology, &new_technology), head) {
         return false;
     }
-    is_same_technology(
-        &longer_of(&old.declared(digits), &new.declared(digits)),
-        head,
-    )
+    group_by(old, new, &old_technology, &new_technology).is(group)
 }
 
 /// The longer of two technology prefixes, the first if they are as long; none if there is none.

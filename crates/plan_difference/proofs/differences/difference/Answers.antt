@@ -8,8 +8,10 @@ returns-clause-difference c =
     c.new-sets.ensures c.in_ok-add_joint.ensures.grows c.in_ok-add_groups.ensures.grows
     c.len-count.ensures.once c.in_ok-heads.ensures.none c.in_ok-heads.ensures.old
     c.in_ok-heads.ensures.new c.in_ok-patterns.ensures.old c.in_ok-patterns.ensures.new
-    c.deref.result.now c.deref-3.result.now c.deref-2.result.now c.deref-4.result.now
-    c.deref.ensures.value c.deref-2.ensures.value c.deref-3.ensures.value c.deref-4.ensures.value
+    c.in_ok-joint.joint.items c.deref.result.now c.deref-2.result.now c.deref-4.result.now
+    c.deref-3.result.now c.deref-5.result.now c.in_ok-joint.ensures c.deref.ensures.value
+    c.deref-2.ensures.value c.deref-3.ensures.value c.deref-4.ensures.value
+    c.deref-5.ensures.value
     c.in_ok-add_joint.ensures.alone c.in_ok-add_joint.ensures.joint_patterns
     c.in_ok-add_joint.ensures.literal c.in_ok-add_groups.ensures.settles
     c.in_ok-add_groups.ensures.clean

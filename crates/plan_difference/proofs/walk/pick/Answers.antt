@@ -2,9 +2,14 @@ use Rattle.std.proofs.Common.{◌∙◌, ap, sym, ◌++◌, ◌≤◌, length, a
 use Rattle.gk_terms.specs.Dialled.{dialled_of}
 use Rattle.plan_difference.specs.Walk.{starred}
 use Rattle.plan_difference.proofs.GatherLemmas.{item_at}
-use Rattle.plan_difference.proofs.WalkLemmas.{is_pick_of, not_more, not_picked, not_dialled, no_pick}
+use Rattle.plan_difference.proofs.WalkLemmas.{is_pick_of, not_more, not_picked, not_dialled, no_room, no_pick}
 use Rattle.plan_difference.proofs.walk.pick.Goals as goal
 use Rattle.plan_difference.proofs.walk.pick.Goals.{in-Some+else-is_pick, in_default}
+
+pub returns-then-not-fits : goal.returns-then-not-fits
+returns-then-not-fits c =
+    no_room c.args.old.now.commands c.args.new.now.commands c.args.heads.now c.args.group.now
+    c.args.stem.now c.args.stars (sym c.fits.ensures ∙ c.if-not-fits.true)
 
 pub returns-then-is_pick : goal.returns-then-is_pick
 returns-then-is_pick c =
