@@ -44,7 +44,7 @@ fn main(rt: HostRuntime) -> io::Result<ExitCode> {
         Err(error) => return refuse_words(&rt, &error),
     };
     match task_of(rt.alloc(), &words) {
-        Ok(task) => carry_out(&rt, task),
+        Ok(task) => carry_out(&rt, &task),
         Err(error) => refuse(&rt, &error),
     }
 }
@@ -57,11 +57,11 @@ fn carry_out<
         + Sync
         + Threads
         + Wait,
->(rt: &R, task: Task<'_>) -> io::Result<ExitCode> {
+>(rt: &R, task: &Task<'_>) -> io::Result<ExitCode> {
     match task {
         Task::RunInput => run_input(rt),
-        Task::RunFile { file, record } => run_file(rt, file, record),
-        Task::Check { file, prints } => check_file(rt, file, prints),
+        Task::RunFile { file, record } => run_file(rt, file, *record),
+        Task::Check { file, prints } => check_file(rt, file, *prints),
         Task::Trial {
             file,
             calls,
@@ -73,13 +73,13 @@ fn carry_out<
                 endpoints,
                 calls,
             };
-            try_files(rt, &files, workers)
+            try_files(rt, &files, *workers)
         }
-        Task::Serve { file, port, seats } => serve_file(rt, file, port, seats),
-        Task::Explain(question) => explain_file(rt, &question),
+        Task::Serve { file, port, seats } => serve_file(rt, file, *port, *seats),
+        Task::Explain(question) => explain_file(rt, question),
         Task::Diff { old, new } => diff_files(rt, old, new),
-        Task::BadNumber(bad) => refuse_number(rt, &bad),
-        Task::BadWord(bad) => refuse_word(rt, &bad),
+        Task::BadNumber(bad) => refuse_number(rt, bad),
+        Task::BadWord(bad) => refuse_word(rt, bad),
     }
 }
 
