@@ -14,6 +14,7 @@ mod searching;
 pub mod steps;
 mod telling;
 mod text;
+mod values;
 mod ways;
 pub mod writing;
 
