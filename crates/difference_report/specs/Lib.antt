@@ -1,8 +1,11 @@
+pub mod CountWords
 pub mod Groups
 pub mod Headings
 pub mod Lengths
 pub mod PlanWords
 pub mod ReportText
+pub mod RowText
+pub mod Rows
 pub mod SetText
 pub mod Shape
 pub mod Writing

@@ -9,7 +9,8 @@ use Rattle.compiler.specs.Plan.{plan_of}
 use Rattle.plan_difference.specs.declared.destinations.Destination.{Destination}
 use Rattle.plan_difference.specs.declared.number_sets.NumberSet.{NumberSet}
 use Rattle.plan_difference.specs.Destination.{destination_of}
-use Rattle.plan_difference.specs.Entries.{Entry, group_of}
+use Rattle.plan_difference.specs.Entries.{Entry, Entries, group_of, has_set}
+use Rattle.difference_report.specs.CountWords.{count_words}
 use Rattle.difference_report.specs.Groups.{is_own}
 use Rattle.difference_report.specs.SetText.{set_text}
 use Rattle.difference_report.specs.Shape.{whole}
@@ -49,12 +50,15 @@ abbrev pub side_words : Bool → List ℕ → Destination → Option (List ℕ) 
 side_words own shown destination technology row =
     plan_words own destination ++ row_words shown technology row
 
--- what is said if both plans have the same zone, address and technology prefix
+-- whether both plans have the same zone, address and technology prefix
+abbrev pub has_same_words : Bool → Destination → Destination → Bool
+has_same_words own old new =
+    option_eq bytes_eq old.zone new.zone && bytes_eq (plan_words own old) (plan_words own new)
+
+-- what is said if they have
 abbrev pub gateway_words : Bool → Destination → Destination → List ℕ
 gateway_words own old new =
-    if option_eq bytes_eq old.zone new.zone && bytes_eq (plan_words own old) (plan_words own new)
-    then codes ", other gateway priorities"
-    else []
+    if has_same_words own old new then codes ", other gateway priorities" else []
 
 -- both plans of a set, which is written like this
 abbrev pub change_words : List ℕ → NumberSet → Destination → Destination → List ℕ
@@ -64,13 +68,25 @@ change_words shown set old new =
     ++ side_words (is_own (group_of set)) shown new set.new_technology set.new_row
     ++ gateway_words (is_own (group_of set)) old new
 
+-- what is said of a set: both plans if it has changed, and else the one
+abbrev pub said_words : Bool → List ℕ → NumberSet → Destination → Destination → List ℕ
+said_words true shown set old new = change_words shown set old new
+said_words false shown set old new = codes "= " ++ plan_words (is_own (group_of set)) old
+
 -- a text, filled up with spaces
 abbrev pub filled : ℕ → List ℕ → List ℕ
 filled width text = text ++ replicate (width - length text) 32
 
--- the line of a set, with the plans of the digits beside it; the sets of its group are that wide
-abbrev pub set_line : (old new : List Command) → ℕ → Entry → List ℕ
-set_line old new width entry =
+-- how many digits a set has
+abbrev pub number_words : ℕ → List ℕ
+number_words number = codes "  [" ++ count_words number ++ codes "]"
+
+-- the line of a set that has so many digits, with the plans of the digits beside it; the sets of its
+-- group are that wide
+abbrev pub set_line : (old new : List Command) → (changed : Entries) → (width number : ℕ) → Entry
+    → List ℕ
+set_line old new changed width number entry =
     codes "  " ++ filled width (set_text old new entry) ++ codes "  "
-    ++ change_words (set_text old new entry) entry.0 (destination_of (plan_of old entry.1))
-    (destination_of (plan_of new entry.1)) ++ 10 ∷ []
+    ++ said_words (has_set changed entry.0) (set_text old new entry) entry.0
+    (destination_of (plan_of old entry.1)) (destination_of (plan_of new entry.1))
+    ++ number_words number ++ 10 ∷ []

@@ -1,11 +1,13 @@
--- The text of `gkd diff`: the sets in their groups, the default technologies if they differ, and
--- how many sets there are.
-use Rattle.std.specs.Prelude.{ℕ, ◌==◌, Bool, false, ◌&&◌, ◌||◌, not, List, [], ◌∷◌, ◌++◌, length, fold, Option, Some, None, codes, decimal, bytes_eq, if◌then◌else◌}
+-- The lines of `gkd diff`: the sets in their groups, the default technologies if they differ, and
+-- how many sets have changed, and how many digits.
+use Rattle.std.specs.Prelude.{ℕ, ◌==◌, Bool, false, ◌&&◌, ◌||◌, not, List, [], ◌∷◌, ◌++◌, length, fold, sum, Option, Some, None, codes, decimal, bytes_eq, if◌then◌else◌}
 use Rattle.std.specs.Option.{option_eq}
 use Rattle.command_reader.specs.declared.commands.Command.{Command}
 use Rattle.compiler.specs.Technology.{default_technology_of}
 use Rattle.plan_difference.specs.declared.number_sets.Group.{Group}
 use Rattle.plan_difference.specs.Entries.{Entry, Entries, group_of}
+use Rattle.difference_counts.specs.Counted.{number_in, numbers_in}
+use Rattle.difference_report.specs.CountWords.{numbers_words}
 use Rattle.difference_report.specs.Headings.{heading}
 use Rattle.difference_report.specs.PlanWords.{set_line}
 use Rattle.difference_report.specs.SetText.{set_text}
@@ -52,23 +54,26 @@ abbrev pub heading_if : (old new : List Command) → Entries → Option BlockPar
 heading_if old new entries before group =
     if goes_on before group then [] else heading old new entries group
 
--- the lines of a set after such a block
-abbrev pub entry_text : (old new : List Command) → Entries → Option BlockParts → Entry
-    → List ℕ
-entry_text old new entries before entry =
-    heading_if old new entries before (group_of entry.0)
-    ++ set_line old new (next_block old new entries before (group_of entry.0)).width entry
+-- the lines of a set that has so many digits, after such a block
+abbrev pub entry_text : (old new : List Command) → (listed changed : Entries)
+    → Option BlockParts → ℕ → Entry → List ℕ
+entry_text old new listed changed before number entry =
+    heading_if old new listed before (group_of entry.0)
+    ++ set_line old new changed (next_block old new listed before (group_of entry.0)).width number
+    entry
 
 -- the text and its last block, and one more set
-abbrev pub with_entry : (old new : List Command) → Entries → List ℕ × Option BlockParts
-    → Entry → List ℕ × Option BlockParts
-with_entry old new entries so_far entry = (
-  so_far.0 ++ entry_text old new entries so_far.1 entry,
-  Some (next_block old new entries so_far.1 (group_of entry.0)),
+abbrev pub with_entry : (old new : List Command) → (listed changed : Entries)
+    → List ℕ × Option BlockParts → Entry → List ℕ × Option BlockParts
+with_entry old new listed changed so_far entry = (
+  so_far.0 ++ entry_text old new listed changed so_far.1 (number_in old new entry.0) entry,
+  Some (next_block old new listed so_far.1 (group_of entry.0)),
 )
 
-abbrev pub sets_text : (old new : List Command) → Entries → List ℕ
-sets_text old new entries = (fold (with_entry old new entries) ([], None) entries).0
+-- the lines of the sets that are listed
+abbrev pub sets_text : (old new : List Command) → (listed changed : Entries) → List ℕ
+sets_text old new listed changed =
+    (fold (with_entry old new listed changed) ([], None) listed).0
 
 -- ---- the last lines
 abbrev pub technology_text : Option (List ℕ) → List ℕ
@@ -92,15 +97,19 @@ default_line old new =
     if same_default old new then []
     else default_change (default_technology_of old) (default_technology_of new)
 
-abbrev pub count_line : ℕ → List ℕ
-count_line count =
-    decimal count ++ (if count == 1 then codes " set" else codes " sets") ++ 10 ∷ []
+-- how many sets there are, and how many digits they have together
+abbrev pub count_line : (count numbers : ℕ) → List ℕ
+count_line count numbers =
+    decimal count ++ (if count == 1 then codes " set, " else codes " sets, ")
+    ++ numbers_words numbers ++ 10 ∷ []
 
 -- ---- the whole
-abbrev pub report_text : (old new : List Command) → Entries → List ℕ
-report_text old new entries =
-    sets_text old new entries ++ default_line old new ++ count_line (length entries)
+-- the sets that are listed, of which some have changed, and how many these and their digits are
+abbrev pub report_text : (old new : List Command) → (listed changed : Entries) → List ℕ
+report_text old new listed changed =
+    sets_text old new listed changed ++ default_line old new
+    ++ count_line (length changed) (sum (numbers_in old new changed))
 
--- whether there is more than the last line
-abbrev pub is_different : (old new : List Command) → Entries → Bool
-is_different old new entries = not (length entries == 0) || not (same_default old new)
+-- whether a set has changed, or the default technology has
+abbrev pub is_different : (old new : List Command) → (changed : Entries) → Bool
+is_different old new changed = not (length changed == 0) || not (same_default old new)

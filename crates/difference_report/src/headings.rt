@@ -59,7 +59,7 @@ fn add_own_heading(
 }
 
 /// The longer of two technology prefixes, the first if they are as long; none if there is none.
-fn longer_of<'a>(
+pub(crate) fn longer_of<'a>(
     technology: &'a Option<TechPrefix>,
     other: &'a Option<TechPrefix>,
 ) -> &'a Option<TechPrefix>

@@ -3,6 +3,7 @@
 ghost use Rattle.std.specs.Prelude.{◌≡◌, ◌++◌, OnOk};
 ghost use Rattle.difference_report.specs.ReportText as Spec;
 
+use crate::count_words::add_numbers;
 use crate::shared_prefixes::is_same;
 use crate::texts::add_number;
 use compiler::Tables;
@@ -70,14 +71,20 @@ fn add_technology(text: &mut Vec<u8>, technology: &Option<TechPrefix>) -> Result
     }
 }
 
-/// Adds how many sets there are.
-pub(crate) fn add_count_line(text: &mut Vec<u8>, count: usize) -> Result<(), AllocError>
-    ensures { OnOk result (text.new.items ≡ text.old.items ++ Spec.count_line count) }
+/// Adds how many sets there are, and how many digits they have together.
+pub(crate) fn add_count_line(
+    text: &mut Vec<u8>,
+    count: usize,
+    numbers: u128,
+) -> Result<(), AllocError>
+    ensures { OnOk result (text.new.items ≡ text.old.items ++ Spec.count_line count numbers) }
 {
     add_number(text, count)?;
     if count == 1 {
-        text.extend_from_slice(b" set\n")
+        text.extend_from_slice(b" set, ")?;
     } else {
-        text.extend_from_slice(b" sets\n")
+        text.extend_from_slice(b" sets, ")?;
     }
+    add_numbers(text, numbers)?;
+    text.extend_from_slice(b"\n")
 }

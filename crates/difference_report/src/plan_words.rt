@@ -41,12 +41,24 @@ pub(crate) fn add_gateways(
     ensures { OnOk result (text.new.items
         ≡ text.old.items ++ Spec.gateway_words own old.now new.now) }
 {
-    let words = plan_words(alloc, own, old)?;
-    let other = plan_words(alloc, own, new)?;
-    if is_same_zone(&old.zone, &new.zone) && words.as_slice() == other.as_slice() {
+    if has_same_words(alloc, own, old, new)? {
         text.extend_from_slice(b", other gateway priorities")?;
     }
     Ok(())
+}
+
+/// Whether two plans have the same zone, address and technology prefix.
+pub(crate) fn has_same_words(
+    alloc: Global,
+    own: bool,
+    old: &Destination,
+    new: &Destination,
+) -> Result<bool, AllocError>
+    ensures { IfOk result (λ same. same ≡ Spec.has_same_words own old.now new.now) }
+{
+    let words = plan_words(alloc, own, old)?;
+    let other = plan_words(alloc, own, new)?;
+    Ok(is_same_zone(&old.zone, &new.zone) && words.as_slice() == other.as_slice())
 }
 
 /// Whether two zones, if there are any, have the same name.
@@ -66,7 +78,7 @@ fn plan_words(alloc: Global, own: bool, destination: &Destination) -> Result<Vec
 }
 
 /// Adds a plan.
-fn add_plan(
+pub(crate) fn add_plan(
     text: &mut Vec<u8>,
     alloc: Global,
     own: bool,

@@ -23,7 +23,11 @@ pub(crate) fn shared_text(alloc: Global, old: &Tables, new: &Tables) -> Result<V
 }
 
 /// The same prefixes.
-fn shared_prefixes(alloc: Global, old: &Tables, new: &Tables) -> Result<Vec<TechPrefix>, AllocError>
+pub(crate) fn shared_prefixes(
+    alloc: Global,
+    old: &Tables,
+    new: &Tables,
+) -> Result<Vec<TechPrefix>, AllocError>
     ensures { IfOk result (λ prefixes. prefixes.items
         ≡ Spec.shared_prefixes old.now.commands new.now.commands) }
 {

@@ -9,7 +9,7 @@ use gk_terms::{Dialled, Name, read_number};
 use std::alloc::{AllocError, Global};
 
 /// The version of the program, as `--version` prints it.
-const VERSION: &str = "0.4.0";
+const VERSION: &str = "0.5.0";
 
 /// What `gkd` is asked to do.
 #[derive(Clone, Copy, Debug, PartialEq, Eq)]
@@ -50,10 +50,13 @@ pub enum Task<'a> {
     /// `explain FILE DIGITS [--zone NAME] [--endpoints FILE]`: to say step by step why the digits
     /// go where they go.
     Explain(Question<'a>),
-    /// `diff OLD NEW`: to print which digits two configurations plan otherwise.
+    /// `diff OLD NEW [--all] [--csv]`: to print which digits two configurations plan otherwise;
+    /// with those that they plan alike, and as comma-separated fields, if that is asked for.
     Diff {
         old: &'a str,
         new: &'a str,
+        lists_all: bool,
+        as_csv: bool,
     },
     /// The word after this option is not a number in its range.
     BadNumber(BadNumber<'a>),
@@ -130,6 +133,8 @@ fn diff_in<'a>(matches: &ArgMatches<'a>) -> Task<'a> {
     Task::Diff {
         old: word_in(matches, "OLD"),
         new: word_in(matches, "NEW"),
+        lists_all: matches.get_flag("all"),
+        as_csv: matches.get_flag("csv"),
     }
 }
 
@@ -289,7 +294,7 @@ fn trial_command<'a>(alloc: Global) -> Result<Command<'a>, AllocError> {
         .arg(workers)
 }
 
-/// `diff OLD NEW`.
+/// `diff OLD NEW [--all] [--csv]`.
 fn diff_command<'a>(alloc: Global) -> Result<Command<'a>, AllocError> {
     let old = Arg::new(alloc, "OLD")
         .help("The configuration that is in force")
@@ -303,7 +308,13 @@ fn diff_command<'a>(alloc: Global) -> Result<Command<'a>, AllocError> {
             none, 1 if there are some, and 2 in case of trouble",
         )
         .arg(old)?
-        .arg(new)
+        .arg(new)?
+        .arg(flag(alloc, "all", "Lists the digits too that both plan alike"))?
+        .arg(flag(
+            alloc,
+            "csv",
+            "Prints comma-separated fields: a header, and a row for each set of digits",
+        ))
 }
 
 /// `explain FILE DIGITS [--zone NAME] [--endpoints FILE]`.
@@ -325,6 +336,14 @@ fn explain_command<'a>(alloc: Global) -> Result<Command<'a>, AllocError> {
         .arg(endpoints)
 }
 
+/// An option without a value.
+fn flag<'a>(alloc: Global, name: &'a str, help: &'a str) -> Arg<'a> {
+    Arg::new(alloc, name)
+        .long(name)
+        .help(help)
+        .action(ArgAction::SetTrue)
+}
+
 /// The file of a configuration.
 fn file<'a>(alloc: Global) -> Arg<'a> {
     Arg::new(alloc, "FILE")
@@ -334,10 +353,11 @@ fn file<'a>(alloc: Global) -> Arg<'a> {
 
 /// `check FILE [--print]`.
 fn check_command<'a>(alloc: Global) -> Result<Command<'a>, AllocError> {
-    let prints = Arg::new(alloc, "print")
-        .long("print")
-        .help("Prints the canonical form of each command first")
-        .action(ArgAction::SetTrue);
+    let prints = flag(
+        alloc,
+        "print",
+        "Prints the canonical form of each command first",
+    );
     Command::new(alloc, "check")
         .about(
             "Says whether a configuration is accepted, or names its first fault by line and kind",

@@ -4,7 +4,7 @@ use crate::files::configuration_in;
 use crate::saying::UNWRITTEN;
 use compiler::Tables;
 use configuration_reader::configuration::ConfigurationFault;
-use difference_report::{ReportFault, write_difference};
+use difference_report::{Form, Listing, ReportFault, write_difference};
 use gk_lines::Noted;
 use std::alloc::AllocGlobal;
 use std::io;
@@ -14,10 +14,31 @@ use std::rt::Runtime;
 /// The status of `gkd diff` if it cannot tell whether the configurations differ, as that of diff(1).
 const TROUBLE: u8 = 2;
 
-/// Prints the sets of digits that the configurations in two files plan otherwise, or the first
-/// fault: of the old one, of the new one, and then of the report. The status is that of diff(1): 0 if
-/// they plan all digits alike and have the same default technology, 1 if they do not.
-pub fn diff_files<R: Runtime + AllocGlobal>(rt: &R, old: &str, new: &str) -> io::Result<ExitCode> {
+/// Which sets are listed.
+pub fn listing_of(lists_all: bool) -> Listing {
+    if lists_all {
+        Listing::All
+    } else {
+        Listing::Changed
+    }
+}
+
+/// How they are written.
+pub fn form_of(as_csv: bool) -> Form {
+    if as_csv { Form::Rows } else { Form::Lines }
+}
+
+/// Prints the sets of digits that the configurations in two files plan otherwise, with the others
+/// if all are listed, or the first fault: of the old one, of the new one, and then of the report.
+/// The status is that of diff(1): 0 if they plan all digits alike and have the same default
+/// technology, 1 if they do not.
+pub fn diff_files<R: Runtime + AllocGlobal>(
+    rt: &R,
+    old: &str,
+    new: &str,
+    listing: Listing,
+    form: Form,
+) -> io::Result<ExitCode> {
     let old_tables = match tables_in(rt, old)? {
         Some(tables) => tables,
         None => return Ok(ExitCode::from(TROUBLE)),
@@ -26,7 +47,7 @@ pub fn diff_files<R: Runtime + AllocGlobal>(rt: &R, old: &str, new: &str) -> io:
         Some(tables) => tables,
         None => return Ok(ExitCode::from(TROUBLE)),
     };
-    print_difference(rt, &old_tables, &new_tables)
+    print_difference(rt, &old_tables, &new_tables, listing, form)
 }
 
 /// The tables of the configuration in a file; none, once its fault is said on standard error.
@@ -47,8 +68,11 @@ fn print_difference<R: Runtime + AllocGlobal>(
     rt: &R,
     old: &Tables,
     new: &Tables,
+    listing: Listing,
+    form: Form,
 ) -> io::Result<ExitCode> {
-    match write_difference(rt.alloc(), old, new, &mut Noted::new(io::writer(rt))) {
+    let mut writer = Noted::new(io::writer(rt));
+    match write_difference(rt.alloc(), old, new, listing, form, &mut writer) {
         Ok(false) => Ok(ExitCode::SUCCESS),
         Ok(true) => Ok(ExitCode::from(1)),
         Err(ReportFault::WriteFault) => trouble(rt, UNWRITTEN),

@@ -22,7 +22,7 @@ use clap::error::ErrorKind;
 use command_line::{BadNumber, BadWord, Task, task_of};
 use configuration_reader::check;
 use configuration_reader::check::CheckFault;
-use differing::diff_files;
+use differing::{diff_files, form_of, listing_of};
 use explaining::explain_file;
 use gk_lines::Noted;
 use run_files::{run_file, run_input};
@@ -77,7 +77,15 @@ fn carry_out<
         }
         Task::Serve { file, port, seats } => serve_file(rt, file, *port, *seats),
         Task::Explain(question) => explain_file(rt, question),
-        Task::Diff { old, new } => diff_files(rt, old, new),
+        Task::Diff {
+            old,
+            new,
+            lists_all,
+            as_csv,
+        } => {
+            let listing = listing_of(*lists_all);
+            diff_files(rt, old, new, listing, form_of(*as_csv))
+        }
         Task::BadNumber(bad) => refuse_number(rt, bad),
         Task::BadWord(bad) => refuse_word(rt, bad),
     }

@@ -1,4 +1,4 @@
--- All digits that are planned otherwise are in a set that is found.
+-- The set of all dialled digits is found.
 use Rattle.std.proofs.Common.{◌≡◌, ℕ, zero, suc, ◌==◌, ◌&&◌, ◌||◌, ◌+◌, ◌<◌, ◌≤◌, ◌⊎◌, inl, inr, Bool, true, false, cond, nat_lt, nat_le, List, [], ◌∷◌, ◌++◌, length, length-append, drop, tests, take-append-drop, append_assoc, append-nil, slice_get, refl, sym, ap, subst, ◌∙◌, arith, true≢false}
 use Rattle.std.specs.Prelude.{Option, Some, None, option_map, is_some, replicate, bytes_eq, unwrap_or}
 use Rattle.std.specs.List.{list_all, starts_with, filter}
@@ -25,7 +25,7 @@ use Rattle.plan_difference.specs.Gathered.{AreGathered, IsSettled, Has, HasPrefi
 use Rattle.plan_difference.proofs.Beginnings.{begins}
 use Rattle.plan_difference.proofs.Finding.{declared_within}
 use Rattle.plan_difference.proofs.Lookups.{PrefixesStay, LiteralsStay, FindsSame, finds_same, same_technology_found, drop_front}
-use Rattle.plan_difference.proofs.Plans.{are_joint, same_of_set}
+use Rattle.plan_difference.proofs.Plans.{are_joint}
 
 -- ---- lists
 either : (a b : Bool) {P : Type 0} → (a || b) ≡ true → (a ≡ true → P) → (b ≡ true → P) → P
@@ -592,9 +592,7 @@ module _ (old new : List Command) (heads : Heads) (patterns : List PatternParts)
     -- digits of the same set that were entered
     in_by : (digits : List ℕ) → set_of old new digits ≡ set_of old new d
         → IsEntered old new entries digits → IsEntered old new entries x
-    in_by digits same (inl alike) =
-        inl (same_of_set old new digits x (same ∙ same_set_of) alike)
-    in_by digits same (inr there) = inr (subst (IsIn entries) (same ∙ same_set_of) there)
+    in_by digits same there = subst (IsIn entries) (same ∙ same_set_of) there
 
     -- a key is left of some literals after one front or the other
     key_of : is_among keys stem ≡ true → {P : Type 0}

@@ -12,9 +12,8 @@ use Rattle.compiler.proofs.FirstRows.{same_pattern-same}
 use Rattle.compiler.proofs.RowLemmas.{same_pattern-itself}
 use Rattle.gk_terms.specs.Dialled.{IsDialled}
 use Rattle.plan_difference.specs.declared.number_sets.NumberSet.{NumberSet}
-use Rattle.plan_difference.specs.Difference.{SamePlan}
-use Rattle.plan_difference.specs.Entries.{Entry, Entries, EntryAt, AreOnce, IsIn, same_set, NotedBy, IsSample, AreSampled, Grows, IsEntered}
-use Rattle.plan_difference.specs.Sets.{set_of}
+use Rattle.plan_difference.specs.Entries.{Entry, Entries, EntryAt, AreOnce, IsIn, same_set, NotedBy, HaveDigits, Grows, IsEntered}
+use Rattle.plan_difference.specs.Sets.{set_of, Covers}
 
 -- ---- the test of two sets
 options_same : {X : Type 0} (eq : X → X → Bool) → ((x y : X) → eq x y ≡ true → x ≡ y)
@@ -116,7 +115,7 @@ entry_of set digits = (set, digits)
 abbrev some_entry : Entry → Option Entry
 some_entry entry = Some entry
 
-at_end : (entries : Entries) (last : Entry)
+pub at_end : (entries : Entries) (last : Entry)
     → slice_get (entries ++ last ∷ []) (length entries) ≡ Some last
 at_end [] last = refl
 at_end (entry ∷ entries) last = at_end entries last
@@ -193,14 +192,14 @@ module _ (before after : Entries) (set : NumberSet) (digits : List ℕ) where
   once_by (Err fault) h g once = subst AreOnce (sym g) once
 
   module _ (old new : List Command) where
-    pub grows_noted : NotedBy before after set digits → IsSample old new set digits
+    pub grows_noted : NotedBy before after set digits → Covers old new set digits
         → Grows old new before after
     grows_noted (inl e) s = record {
-      sampled = λ h. subst (AreSampled old new) (sym e.0) h;
+      covered = λ h. subst (HaveDigits old new) (sym e.0) h;
       kept = λ one there. subst (λ es. IsIn es one) (sym e.0) there;
     }
     grows_noted (inr e) s = record {
-      sampled = λ h. subst (AreSampled old new) (sym e.0)
+      covered = λ h. subst (HaveDigits old new) (sym e.0)
           (λ place one text at. by h (split before (set, digits) (one, text) place at));
       kept = λ one there. subst (λ es. IsIn es one) (sym e.0) (record {
         place = there.place;
@@ -209,13 +208,13 @@ module _ (before after : Entries) (set : NumberSet) (digits : List ℕ) where
       });
     }
       where
-        by : AreSampled old new before → {place : ℕ} {one : NumberSet} {text : List ℕ}
+        by : HaveDigits old new before → {place : ℕ} {one : NumberSet} {text : List ℕ}
             → (slice_get before place ≡ Some (one, text))
             ⊎ ((place ≡ length before) × (entry_of one text ≡ entry_of set digits))
-            → IsSample old new one text
+            → Covers old new one text
         by h {place} {one} {text} (inl f) = h place one text f
         by h {place} {one} {text} (inr f) =
-            subst (λ p. IsSample old new p.0 p.1) (sym f.1) s
+            subst (λ p. Covers old new p.0 p.1) (sym f.1) s
 
     pub in_noted : NotedBy before after set digits → IsIn after set
     in_noted (inl e) = subst (λ es. IsIn es set) (sym e.0) e.1
@@ -228,18 +227,18 @@ module _ (before after : Entries) (set : NumberSet) (digits : List ℕ) where
 -- ---- growing
 module _ (old new : List Command) where
   pub grows_nothing : (entries : Entries) → Grows old new entries entries
-  grows_nothing entries = record { sampled = λ h. h; kept = λ set there. there }
+  grows_nothing entries = record { covered = λ h. h; kept = λ set there. there }
 
   pub grows_then : (before between after : Entries) → Grows old new before between
       → Grows old new between after → Grows old new before after
   grows_then before between after g h = record {
-    sampled = λ s. h.sampled (g.sampled s);
+    covered = λ s. h.covered (g.covered s);
     kept = λ set there. h.kept set (g.kept set there);
   }
 
   -- digits are tried
   module _ (before after : Entries) (digits : List ℕ) {T F : Type 0} (result : Result T F)
-      (dialled : IsDialled digits) (other : ¬ SamePlan old new digits)
+      (dialled : IsDialled digits)
       (noted : OnOk result (NotedBy before after (set_of old new digits) digits)) where
     pub added_grows : OnOk result (Grows old new before after)
     added_grows = by result noted
@@ -247,8 +246,7 @@ module _ (old new : List Command) where
         by : (r : Result T F) → OnOk r (NotedBy before after (set_of old new digits) digits)
             → OnOk r (Grows old new before after)
         by (Ok done) h =
-            grows_noted before after (set_of old new digits) digits old new h
-            (record { covers = (dialled, refl); differs = other })
+            grows_noted before after (set_of old new digits) digits old new h (dialled, refl)
         by (Err fault) h = tt
 
     pub added_enters : OnOk result (IsEntered old new after digits)
@@ -256,5 +254,5 @@ module _ (old new : List Command) where
       where
         by : (r : Result T F) → OnOk r (NotedBy before after (set_of old new digits) digits)
             → OnOk r (IsEntered old new after digits)
-        by (Ok done) h = inr (in_noted before after (set_of old new digits) digits old new h)
+        by (Ok done) h = in_noted before after (set_of old new digits) digits old new h
         by (Err fault) h = tt

@@ -1,5 +1,5 @@
 -- What is gathered of patterns and technology prefixes.
-use Rattle.std.proofs.Common.{◌≡◌, ℕ, zero, suc, ◌<◌, ◌==◌, ◌&&◌, ◌||◌, Bool, true, false, nat_le, List, [], ◌∷◌, ◌++◌, length, map, slice_get, get_or, refl, sym, ap, ◌∙◌, arith, true≢false, append-nil}
+use Rattle.std.proofs.Common.{◌≡◌, ℕ, zero, suc, ◌<◌, ◌==◌, ◌&&◌, ◌||◌, Bool, true, false, nat_le, List, [], ◌∷◌, ◌++◌, length, map, slice_get, get_or, refl, sym, ap, ◌∙◌, arith, true≢false, append-nil, rules}
 use Rattle.std.specs.Prelude.{Option, Some, None, Contains, option_map, unwrap_or}
 use Rattle.std.specs.List.{list_all, cons_option}
 use Rattle.std.specs.Char.{is_ascii_digit}
@@ -7,12 +7,16 @@ use Rattle.std.proofs.lemmas.Bool.{and_parts}
 use Rattle.std.proofs.lemmas.Bool.Decides.{nat_tests}
 use Rattle.std.proofs.lemmas.Cmp.{nat_list_eq_equiv}
 use Rattle.std.proofs.lemmas.List.{map-append}
-use Rattle.std.proofs.lemmas.List.Kept.{Contains-dedup}
+use Rattle.std.proofs.lemmas.List.Kept.{Contains-dedup, IsStrictlySortedBy-dedup}
 use Rattle.std.proofs.lemmas.List.Sorted.{Contains-permutation}
-use Rattle.std.specs.Cmp.Lexicographic.{options_equiv}
+use Rattle.std.specs.Cmp.Lexicographic.{options_equiv, options_total, nat_list_cmp_total, slice_cmp}
+use Rattle.std.specs.Cmp.Rules.{comparing}
 use Rattle.std.specs.List.{dedup}
-use Rattle.std.specs.List.Sorted.{IsPermutation}
-use Rattle.std.specs.Option.{option_eq}
+use Rattle.std.specs.List.{AllByRecursion}
+use Rattle.std.specs.List.Sorted.{IsPermutation, IsSorted, IsStrictlySortedBy}
+use Rattle.std.specs.Option.{option_cmp, option_eq}
+use Rattle.std.specs.Ordering.{eq_by_cmp, nat_cmp, ordering_reverse}
+use Rattle.std.specs.declared.cmp.Ordering.TheVariants.{Less}
 use Rattle.std.specs.Str.{bytes_eq}
 use Rattle.digit_patterns.specs.Pattern.{same_pattern}
 use Rattle.compiler.proofs.FirstRows.{same_pattern-same}
@@ -28,6 +32,7 @@ use Rattle.compiler.specs.Rows.{ZoneRow, rows_of, row_of}
 use Rattle.compiler.specs.Technology.{prefixes_of, prefix_in}
 use Rattle.compiler.proofs.StepLemmas.{one_or_none, filter_map-more}
 use Rattle.plan_difference.specs.Gathered.{Has, KeepsAll, HasPatterns, HasPrefixes, pattern_in, patterns_of, is_no_star, has_no_star}
+use Rattle.plan_difference.specs.Order.{IsEachOnce}
 use Rattle.plan_difference.specs.Walk.{Heads}
 
 -- ---- places
@@ -173,6 +178,51 @@ pub heads_kept : (before sorted : Heads) → IsPermutation before sorted
 heads_kept before sorted moved head c =
     Contains-dedup (options_equiv nat_list_eq_equiv) same_texts sorted head
     (Contains-permutation before sorted head moved c)
+
+-- ---- each once
+-- texts are the same exactly if neither comes before the other
+same_by_order : (x y : Option (List ℕ))
+    → option_eq bytes_eq x y ≡ eq_by_cmp (option_cmp (slice_cmp nat_cmp)) x y
+same_by_order None None = refl
+same_by_order None (Some y) = refl
+same_by_order (Some x) None = refl
+same_by_order (Some x) (Some y) = search (comparing, rules)
+
+-- what stands after one that is below all after it is another
+not_again : (head : Option (List ℕ)) (heads : Heads)
+    → AllByRecursion (λ other. option_cmp (slice_cmp nat_cmp) head other ≡ Less) heads
+    → (place : ℕ) → slice_get heads place ≡ Some head → ⊥
+not_again head [] below place e = let bad : ⊥ = cc in bad
+not_again head (other ∷ heads) below zero e =
+    not_below head (ap (option_cmp (slice_cmp nat_cmp) head) (ap (λ o. unwrap_or o other) (sym e))
+    ∙ below.0)
+  where
+    not_below : (x : Option (List ℕ)) → option_cmp (slice_cmp nat_cmp) x x ≡ Less → ⊥
+    not_below x f =
+        let turned : Less ≡ ordering_reverse Less =
+        sym f ∙ (options_total nat_list_cmp_total).antisymm x x ∙ ap ordering_reverse f in
+        let bad : ⊥ = cc in bad
+not_again head (other ∷ heads) below (suc place) e = not_again head heads below.1 place e
+
+strictly_once : (heads : Heads)
+    → IsStrictlySortedBy (option_cmp (slice_cmp nat_cmp)) heads → IsEachOnce heads
+unfolding IsStrictlySortedBy
+strictly_once [] h place other x e f = absurd (let bad : ⊥ = cc in bad)
+strictly_once (head ∷ heads) h zero zero x e f = refl
+strictly_once (head ∷ heads) h zero (suc other) x e f =
+    absurd (not_again head heads h.0 other
+    (f ∙ ap (λ y. Some y) (ap (λ o. unwrap_or o head) (sym e))))
+strictly_once (head ∷ heads) h (suc place) zero x e f =
+    absurd (not_again head heads h.0 place
+    (e ∙ ap (λ y. Some y) (ap (λ o. unwrap_or o head) (sym f))))
+strictly_once (head ∷ heads) h (suc place) (suc other) x e f =
+    ap suc (strictly_once heads h.1 place other x e f)
+
+pub heads_once : (sorted : Heads) → IsSorted (option_cmp (slice_cmp nat_cmp)) sorted
+    → IsEachOnce (dedup (option_eq bytes_eq) sorted)
+heads_once sorted h =
+    strictly_once (dedup (option_eq bytes_eq) sorted)
+    (IsStrictlySortedBy-dedup (options_total nat_list_cmp_total) same_by_order sorted h)
 
 -- ---- no stars
 digits_only : (p : ℕ → Bool) → ((b : ℕ) → p b ≡ true → is_no_star b ≡ true) → (text : List ℕ)

@@ -1,9 +1,11 @@
 pub mod Beginnings
+pub mod ChangeLemmas
 pub mod Completeness
 pub mod EntryLemmas
 pub mod Finding
 pub mod GatherLemmas
 pub mod Lookups
+pub mod OrderLemmas
 pub mod Plans
 pub mod Priorities
 pub mod SetLaws

@@ -1,5 +1,5 @@
--- The sets that are found are exactly those of the digits that are planned otherwise.
-use Rattle.std.proofs.Common.{◌≡◌, ℕ, zero, suc, List, [], ◌∷◌, slice_get, ◌⊎◌, inl, inr, refl, sym, ap, subst, ◌∙◌}
+-- The sets that are found are those of all dialled digits.
+use Rattle.std.proofs.Common.{◌≡◌, ℕ, zero, suc, List, [], ◌∷◌, slice_get, refl, sym, ap, subst, ◌∙◌}
 use Rattle.std.specs.Prelude.{Option, Some, None, unwrap_or}
 use Rattle.std.specs.List.{filter}
 use Rattle.std.specs.Map.{keys_of}
@@ -7,28 +7,27 @@ use Rattle.gk_terms.specs.Dialled.{IsDialled}
 use Rattle.digit_patterns.specs.PatternParts.{PatternParts}
 use Rattle.command_reader.specs.declared.commands.Command.{Command}
 use Rattle.plan_difference.specs.declared.number_sets.NumberSet.{NumberSet}
-use Rattle.plan_difference.specs.Difference.{IsDifference, IsCovered, SamePlan, StandsAt}
-use Rattle.plan_difference.specs.Entries.{Entry, Entries, EntryAt, AreOnce, AreSampled, Grows, IsEntered}
+use Rattle.plan_difference.specs.Difference.{AreClasses, IsCovered, StandsAt}
+use Rattle.plan_difference.specs.Entries.{Entry, Entries, EntryAt, AreOnce, HaveDigits, Grows, IsEntered}
 use Rattle.plan_difference.specs.Gathered.{AreGathered, IsSettled, Has, HasPrefixes, HasPatterns, AreLiteral, AreClean, joint, is_joint_head}
 use Rattle.plan_difference.specs.Sets.{set_of}
 use Rattle.plan_difference.specs.Walk.{Heads, SettlesStem, SettlesPatterns, SettlesHead}
 use Rattle.plan_difference.proofs.Completeness.{in_entries}
-use Rattle.plan_difference.proofs.Plans.{same_of_set}
 use Rattle.plan_difference.proofs.WalkLemmas.{stem_on, patterns_on}
 
 -- ---- entries and their sets
-set_stands : (entries : Entries) (place : ℕ) (set : NumberSet) (digits : List ℕ)
+pub set_stands : (entries : Entries) (place : ℕ) (set : NumberSet) (digits : List ℕ)
     → EntryAt entries place set digits → StandsAt (keys_of entries) place set
 set_stands [] place set digits e = absurd (let bad : ⊥ = cc in bad)
 set_stands (entry ∷ entries) zero set digits e =
     ap (λ o. Some (unwrap_or o entry).0) e
 set_stands (entry ∷ entries) (suc place) set digits e = set_stands entries place set digits e
 
-record Sampled (entries : Entries) (place : ℕ) (set : NumberSet) : Type 0 where
+pub record Sampled (entries : Entries) (place : ℕ) (set : NumberSet) : Type 0 where
   pub digits : List ℕ
   pub stands : EntryAt entries place set digits
 
-entry_stands : (entries : Entries) (place : ℕ) (set : NumberSet)
+pub entry_stands : (entries : Entries) (place : ℕ) (set : NumberSet)
     → StandsAt (keys_of entries) place set → Sampled entries place set
 entry_stands [] place set e = absurd (let bad : ⊥ = cc in bad)
 entry_stands (entry ∷ entries) zero set e =
@@ -46,30 +45,24 @@ entry_stands (entry ∷ entries) (suc place) set e =
 
 -- ---- the theorem
 module _ (old new : List Command) (heads : Heads) (patterns : List PatternParts)
-    (entries : Entries) (once : AreOnce entries) (sampled : AreSampled old new entries)
+    (entries : Entries) (once : AreOnce entries) (have : HaveDigits old new entries)
     (gathered : AreGathered old new heads patterns) (joint_heads : Heads)
     (kept : joint_heads ≡ filter (is_joint_head old new) heads)
     (settled : IsSettled old new entries heads joint_heads patterns) where
   covered : (digits : List ℕ) → IsDialled digits → IsEntered old new entries digits
-      → SamePlan old new digits ⊎ IsCovered old new (keys_of entries) digits
-  covered digits dialled (inl alike) = inl alike
-  covered digits dialled (inr there) = inr (record {
+      → IsCovered old new (keys_of entries) digits
+  covered digits dialled there = record {
     place = there.place;
     set = set_of old new digits;
     stands = set_stands entries there.place (set_of old new digits) there.digits there.stands;
     covers = (dialled, refl);
-  })
+  }
 
-  pub is_difference : IsDifference old new (keys_of entries)
-  is_difference = record {
+  pub are_classes : AreClasses old new (keys_of entries)
+  are_classes = record {
     complete = λ digits dialled. covered digits dialled
         (in_entries old new heads patterns gathered entries joint_heads kept settled digits
         dialled);
-    sound = λ place set digits stands covers same.
-        let there = entry_stands entries place set stands in
-        let sample = sampled place set there.digits there.stands in
-        sample.differs (same_of_set old new digits there.digits
-        (covers.1 ∙ sym sample.covers.1) same);
     once = λ place other set other_set digits stands other_stands covers other_covers.
         let there = entry_stands entries place set stands in
         let other_there = entry_stands entries other other_set other_stands in
@@ -80,13 +73,13 @@ module _ (old new : List Command) (heads : Heads) (patterns : List PatternParts)
         let there = entry_stands entries place set stands in
         record {
           digits = there.digits;
-          covers = (sampled place set there.digits there.stands).covers;
+          covers = have place set there.digits there.stands;
         };
   }
 
 -- no set at first
-pub none_sampled : (old new : List Command) → AreSampled old new []
-none_sampled old new place set digits e = absurd (let bad : ⊥ = cc in bad)
+pub none_there : (old new : List Command) → HaveDigits old new []
+none_there old new place set digits e = absurd (let bad : ⊥ = cc in bad)
 
 -- the joint group first, and then the others
 pub settled_after : (old new : List Command) (heads joint_heads : Heads)
@@ -108,9 +101,9 @@ settled_after old new heads joint_heads patterns between after grows alone by_pa
 module _ (old new : List Command) (heads : Heads) (patterns : List PatternParts)
     (first between after : Entries) (start : first ≡ [])
     (one : Grows old new first between) (two : Grows old new between after) where
-  pub all_sampled : AreSampled old new after
-  all_sampled =
-      two.sampled (one.sampled (subst (AreSampled old new) (sym start) (none_sampled old new)))
+  pub all_have_digits : HaveDigits old new after
+  all_have_digits =
+      two.covered (one.covered (subst (HaveDigits old new) (sym start) (none_there old new)))
 
   pub whole : AreOnce after → AreGathered old new heads patterns → (joint_heads : Heads)
       → joint_heads ≡ filter (is_joint_head old new) heads
@@ -118,9 +111,9 @@ module _ (old new : List Command) (heads : Heads) (patterns : List PatternParts)
       → SettlesPatterns old new between joint_heads joint [] patterns
       → ((place : ℕ) (head : Option (List ℕ)) → slice_get heads place ≡ Some head
       → SettlesHead old new after patterns head)
-      → IsDifference old new (keys_of after)
+      → AreClasses old new (keys_of after)
   whole once gathered joint_heads kept alone by_patterns each =
-      is_difference old new heads patterns after once all_sampled gathered joint_heads kept
+      are_classes old new heads patterns after once all_have_digits gathered joint_heads kept
       (settled_after old new heads joint_heads patterns between after two alone by_patterns each)
 
   -- the same of lists that are lent as slices
@@ -135,7 +128,7 @@ module _ (old new : List Command) (heads : Heads) (patterns : List PatternParts)
       → AreLiteral joint_patterns
       → ((place : ℕ) (head : Option (List ℕ)) → slice_get own_heads place ≡ Some head
       → SettlesHead old new after own_patterns head)
-      → AreClean own_heads → IsDifference old new (keys_of after)
+      → AreClean own_heads → AreClasses old new (keys_of after)
   whole_by once none p q r s kept lent hs ks ps qs k l e f g h alone by_patterns literal each
       clean =
       whole once (record {

@@ -1,5 +1,5 @@
 -- What is settled stays so while more sets are found.
-use Rattle.std.proofs.Common.{◌≡◌, ℕ, zero, suc, ◌+◌, ◌<◌, ◌≤◌, inl, inr, Bool, true, false, ◌&&◌, nat_le, nat_lt, nat_eq, List, [], ◌∷◌, ◌++◌, length, take, drop, slice_get, refl, sym, ap, subst, ◌∙◌, arith, true≢false}
+use Rattle.std.proofs.Common.{◌≡◌, ℕ, zero, suc, ◌+◌, ◌<◌, ◌≤◌, Bool, true, false, ◌&&◌, nat_le, nat_lt, nat_eq, List, [], ◌∷◌, ◌++◌, length, take, drop, slice_get, refl, sym, ap, subst, ◌∙◌, arith, true≢false}
 use Rattle.std.specs.Prelude.{Option, Some, None, unwrap_or, Result, Ok, Err, OnOk}
 use Rattle.std.specs.Bool.{then_some}
 use Rattle.std.specs.Cmp.Lexicographic.{pointwise}
@@ -28,8 +28,7 @@ module _ (old new : List Command) (before after : Entries) (grows : Grows old ne
   where
     entered_on : (digits : List ℕ) → IsEntered old new before digits
         → IsEntered old new after digits
-    entered_on digits (inl alike) = inl alike
-    entered_on digits (inr there) = inr (grows.kept (set_of old new digits) there)
+    entered_on digits there = grows.kept (set_of old new digits) there
 
     pub settles_on : (heads : Heads) (group : Group) (stem : List ℕ) (stars : ℕ)
         → Settles old new before heads group stem stars

@@ -63,6 +63,17 @@ pub record HasWitness (old new : List Command) (set : NumberSet) : Type 0 where
   pub digits : List ℕ
   pub covers : Covers old new set digits
 
+-- the sets are those of all dialled digits
+pub record AreClasses (old new : List Command) (sets : List NumberSet) : Type 0 where
+  -- dialled digits are covered
+  pub complete : (digits : List ℕ) → IsDialled digits → IsCovered old new sets digits
+  -- by one set alone
+  pub once : (place other : ℕ) (set other_set : NumberSet) (digits : List ℕ)
+      → StandsAt sets place set → StandsAt sets other other_set
+      → Covers old new set digits → Covers old new other_set digits → place ≡ other
+  -- each set covers some
+  pub witness : (place : ℕ) (set : NumberSet) → StandsAt sets place set → HasWitness old new set
+
 -- the sets are exactly those of digits that are planned otherwise
 pub record IsDifference (old new : List Command) (sets : List NumberSet) : Type 0 where
   -- digits are planned alike, or they are covered

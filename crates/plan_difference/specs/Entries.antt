@@ -1,5 +1,6 @@
 -- The sets that are found while digits are gone through, each with some digits of it.
-use Rattle.std.specs.Prelude.{◌≡◌, ℕ, Bool, true, false, ◌&&◌, List, [], ◌∷◌, ◌++◌, slice_get, Option, Some, None, ◌⊎◌, bytes_eq}
+use Rattle.std.specs.Prelude.{◌≡◌, ℕ, Bool, true, false, ◌&&◌, List, [], ◌∷◌, ◌++◌, slice_get, Option, Some, None, is_some, ◌⊎◌, bytes_eq}
+use Rattle.std.specs.Map.{lookup}
 use Rattle.std.specs.Option.{option_eq}
 use Rattle.digit_patterns.specs.Pattern.{same_pattern}
 use Rattle.command_reader.specs.declared.commands.Command.{Command}
@@ -56,14 +57,38 @@ AreSampled old new entries =
     (place : ℕ) (set : NumberSet) (digits : List ℕ) → EntryAt entries place set digits
     → IsSample old new set digits
 
--- more sets are there, each with digits that are planned otherwise
+-- each set is there with digits of it
+abbrev pub HaveDigits : (old new : List Command) → Entries → Type 0
+HaveDigits old new entries =
+    (place : ℕ) (set : NumberSet) (digits : List ℕ) → EntryAt entries place set digits
+    → Covers old new set digits
+
+-- these are the entries, in their order, whose digits are planned otherwise
+abbrev pub AreChanged : (old new : List Command) → Entries → Entries → Type 0
+AreChanged old new [] changed = changed ≡ []
+AreChanged old new (entry ∷ entries) changed =
+    (SamePlan old new entry.1 × AreChanged old new entries changed)
+    ⊎ ((rest : Entries) × (changed ≡ entry ∷ rest) × (¬ SamePlan old new entry.1)
+    × AreChanged old new entries rest)
+
+-- a set is noted if its digits are planned otherwise
+abbrev pub NotedIfChanged : (old new : List Command) → Entries → Entries → Entry → Type 0
+NotedIfChanged old new before after entry =
+    (SamePlan old new entry.1 × (after ≡ before))
+    ⊎ ((¬ SamePlan old new entry.1) × NotedBy before after entry.0 entry.1)
+
+-- whether a set is there
+abbrev pub has_set : Entries → NumberSet → Bool
+has_set entries set = is_some (lookup (same_set set) entries)
+
+-- more sets are there, each with digits of it
 pub record Grows (old new : List Command) (before after : Entries) : Type 0 where
-  pub sampled : AreSampled old new before → AreSampled old new after
+  pub covered : HaveDigits old new before → HaveDigits old new after
   pub kept : (set : NumberSet) → IsIn before set → IsIn after set
 
--- these digits are planned alike, or their set is there
+-- the set of these digits is there
 abbrev pub IsEntered : (old new : List Command) → Entries → List ℕ → Type 0
-IsEntered old new entries digits = SamePlan old new digits ⊎ IsIn entries (set_of old new digits)
+IsEntered old new entries digits = IsIn entries (set_of old new digits)
 
 -- the group of a set
 abbrev pub group_of : NumberSet → Group

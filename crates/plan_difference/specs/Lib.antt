@@ -3,6 +3,7 @@ pub mod Difference
 pub mod Entries
 pub mod Gathered
 pub mod Laws
+pub mod Order
 pub mod Sameness
 pub mod Sets
 pub mod Walk

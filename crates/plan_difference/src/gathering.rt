@@ -3,6 +3,7 @@
 ghost use Rattle.std.specs.Prelude.{◌≡◌, ◌++◌, IfOk, OnOk, MatchOption, None, Some, map};
 ghost use Rattle.compiler.specs.Technology.{prefixes_of, prefix_in};
 ghost use Rattle.plan_difference.specs.Gathered.{HasPatterns, HasPrefixes, Has, KeepsAll, pattern_in, patterns_of};
+ghost use Rattle.plan_difference.specs.Order.{IsEachOnce};
 
 use command_reader::Command;
 use compiler::Tables;
@@ -77,6 +78,7 @@ pub(crate) fn heads_in(
     ensures none { IfOk result (λ heads. Has heads.items None) }
     ensures old { IfOk result (λ heads. HasPrefixes heads.items old.now.commands) }
     ensures new { IfOk result (λ heads. HasPrefixes heads.items new.now.commands) }
+    ensures once { IfOk result (λ heads. IsEachOnce heads.items) }
 {
     let mut heads = Vec::new(alloc);
     heads.push(None)?;
@@ -115,7 +117,8 @@ fn prefix_in(command: &Command) -> Option<TechPrefix>
 /// Puts technology prefixes in the order of their characters, none before all, and leaves each
 /// once.
 fn put_heads_in_order(heads: &mut Vec<Option<TechPrefix>>)
-    ensures { KeepsAll heads.old.items heads.new.items }
+    ensures kept { KeepsAll heads.old.items heads.new.items }
+    ensures once { IsEachOnce heads.new.items }
 {
     heads.sort_unstable();
     heads.dedup();

@@ -4,6 +4,7 @@ ghost use Rattle.std.specs.Prelude.{◌≡◌, ◌∷◌, ◌≤◌, [], OnOk, I
 ghost use Rattle.compiler.specs.Technology.{technology_of, found_length};
 ghost use Rattle.plan_difference.specs.Entries.{Grows};
 ghost use Rattle.plan_difference.specs.Gathered.{AreClean, AreLiteral, has_no_star, joint};
+ghost use Rattle.plan_difference.specs.Order.{Adds, AddsInOrder, IsGroupOf, IsGroupOfHead, IsOf};
 ghost use Rattle.plan_difference.specs.Sets.{hops_off, is_joint};
 ghost use Rattle.plan_difference.specs.Walk.{SettlesStem, SettlesPatterns, SettlesGroup, SettlesHead};
 
@@ -25,6 +26,7 @@ pub(crate) fn add_joint(
     patterns: &[Pattern],
 ) -> Result<(), AllocError>
     ensures grows { OnOk result (Grows old.now.commands new.now.commands sets.old sets.new) }
+    ensures adds { OnOk result (Adds (IsOf joint heads.now) sets.old sets.new) }
     ensures alone { OnOk result (SettlesStem old.now.commands new.now.commands sets.new
         heads.now joint []) }
     ensures joint_patterns { OnOk result (SettlesPatterns old.now.commands new.now.commands
@@ -39,6 +41,7 @@ pub(crate) fn add_joint(
     add_patterns(sets, old, new, heads, &group, b"", patterns)
 }
 
+#[tactic(auto, using(crate::proofs::OrderLemmas::none_in_order))]
 /// Adds the sets of the group of each of these technology prefixes.
 pub(crate) fn add_groups(
     sets: &mut Sets,
@@ -48,6 +51,8 @@ pub(crate) fn add_groups(
     patterns: &[Pattern],
 ) -> Result<(), AllocError>
     ensures grows { OnOk result (Grows old.now.commands new.now.commands sets.old sets.new) }
+    ensures adds { OnOk result ((bound : ℕ) × AddsInOrder old.now.commands new.now.commands
+        heads.now bound sets.old sets.new) }
     ensures settles { OnOk result ((place : ℕ) (head : Option (List ℕ))
         → slice_get heads.now place ≡ Some head
         → SettlesHead old.now.commands new.now.commands sets.new patterns.now head) }
@@ -59,6 +64,7 @@ pub(crate) fn add_groups(
     Ok(())
 }
 
+#[tactic(auto, using(crate::proofs::OrderLemmas::adds_nothing))]
 /// Adds the sets of the group of a technology prefix, if it is one, unless it is the joint one.
 fn add_head(
     sets: &mut Sets,
@@ -68,6 +74,8 @@ fn add_head(
     patterns: &[Pattern],
 ) -> Result<(), AllocError>
     ensures grows { OnOk result (Grows old.now.commands new.now.commands sets.old sets.new) }
+    ensures adds { OnOk result (Adds (IsGroupOfHead old.now.commands new.now.commands head.now)
+        sets.old sets.new) }
     ensures settles { OnOk result (SettlesHead old.now.commands new.now.commands sets.new
         patterns.now head.now) }
     ensures clean { IfSome head.now (λ prefix. has_no_star prefix ≡ true) }
@@ -78,6 +86,7 @@ fn add_head(
     }
 }
 
+#[tactic(auto, using(crate::proofs::OrderLemmas::adds_nothing))]
 /// Adds the sets of the group of a technology prefix, unless it is the joint one.
 fn add_group_of(
     sets: &mut Sets,
@@ -87,6 +96,8 @@ fn add_group_of(
     patterns: &[Pattern],
 ) -> Result<(), AllocError>
     ensures grows { OnOk result (Grows old.now.commands new.now.commands sets.old sets.new) }
+    ensures adds { OnOk result (Adds (IsGroupOf old.now.commands new.now.commands prefix.now)
+        sets.old sets.new) }
     ensures settles { OnOk result (SettlesHead old.now.commands new.now.commands sets.new
         patterns.now (Some prefix.now)) }
     ensures clean { has_no_star prefix.now ≡ true }
@@ -126,6 +137,8 @@ fn add_group(
     requires old { found_length group.now.old ≤ length prefix.now }
     requires new { found_length group.now.new ≤ length prefix.now }
     ensures grows { OnOk result (Grows old.now.commands new.now.commands sets.old sets.new) }
+    ensures adds { OnOk result (Adds (IsOf group.now (Some prefix.now ∷ []))
+        sets.old sets.new) }
     ensures settles { OnOk result (SettlesGroup old.now.commands new.now.commands sets.new
         patterns.now prefix.now group.now.old group.now.new) }
 {
@@ -139,6 +152,7 @@ fn add_group(
     )
 }
 
+#[tactic(auto, using(crate::proofs::OrderLemmas::adds_nothing))]
 /// The part of it by the zone prefixes that one configuration uses after its technology prefix;
 /// nothing if that one hops off.
 fn add_side(
@@ -154,6 +168,7 @@ fn add_side(
 ) -> Result<(), AllocError>
     requires { found_length technology.now ≤ length prefix.now }
     ensures grows { OnOk result (Grows old.now.commands new.now.commands sets.old sets.new) }
+    ensures adds { OnOk result (Adds (IsOf group.now heads.now) sets.old sets.new) }
     ensures settles { OnOk result (hops_off side.now.commands technology.now ≡ false
         → SettlesPatterns old.now.commands new.now.commands sets.new heads.now group.now
         (drop (found_length technology.now) prefix.now) patterns.now) }

@@ -2,6 +2,8 @@
 #![tactic(auto)]
 
 mod adding;
+pub mod all_sets;
+pub mod changes;
 mod classing;
 pub mod destinations;
 pub mod differences;
@@ -16,6 +18,8 @@ pub mod sets;
 mod texts;
 mod walk;
 
+pub use all_sets::classes;
+pub use changes::changed_sets;
 pub use classing::set_of;
 pub use destinations::{Destination, destination_of};
 pub use differences::difference;

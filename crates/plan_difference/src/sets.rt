@@ -2,7 +2,7 @@
 
 ghost use Rattle.std.specs.Prelude.{◌≡◌, ◌==◌, [], OnOk, OnErr, length, slice_get, option_map};
 ghost use Rattle.std.specs.Map.Iter.{deref_pair};
-ghost use Rattle.plan_difference.specs.Entries.{NotedBy, AreOnce};
+ghost use Rattle.plan_difference.specs.Entries.{NotedBy, AreOnce, has_set};
 
 use crate::held_sets::HeldSet;
 use crate::number_sets::NumberSet;
@@ -11,8 +11,8 @@ use indexmap::IndexMap;
 use std::alloc::{AllocError, Global};
 use std::marker::Model;
 
-/// Sets of dialled digits that two configurations plan otherwise, in the order in which they were
-/// found, each with some of its digits.
+/// Sets of dialled digits, none of them twice, in the order in which they were found, each with some
+/// of its digits.
 #[derive(Drop)]
 pub struct Sets {
     found: IndexMap<HeldSet, Dialled>,
@@ -59,6 +59,13 @@ impl Sets {
     {
         let (held, digits) = self.found.get_index(place)?;
         Some((held.set(), digits))
+    }
+
+    /// Whether a set is there.
+    pub fn has(&self, set: &NumberSet) -> bool
+        ensures { result ≡ has_set self.now set.now }
+    {
+        self.found.contains_key(&HeldSet::of(set))
     }
 
     /// Adds a set, of which these digits are some, unless it is there.

@@ -4,6 +4,7 @@ ghost use Rattle.std.specs.Prelude.{◌≡◌, ◌↔◌, OnOk, MatchOption, Som
 ghost use Rattle.compiler.specs.Technology.{technology_of};
 ghost use Rattle.plan_difference.specs.Entries.{Grows, group_of};
 ghost use Rattle.plan_difference.specs.Gathered.{AreLiteral, has_no_star};
+ghost use Rattle.plan_difference.specs.Order.{Adds, IsOf};
 ghost use Rattle.plan_difference.specs.Sets.{set_of};
 ghost use Rattle.plan_difference.specs.Walk.{IsPick, Settles, SettlesStem, SettlesPattern, SettlesPatterns, longer_of};
 
@@ -89,6 +90,7 @@ fn longer_than(prefix: &TechPrefix, other: &Option<TechPrefix>) -> Option<TechPr
     }
 }
 
+#[tactic(auto, using(crate::proofs::OrderLemmas::adds_nothing))]
 /// Adds the set of the digits with so many stars.
 fn add_at(
     sets: &mut Sets,
@@ -100,6 +102,7 @@ fn add_at(
     stars: usize,
 ) -> Result<(), AllocError>
     ensures grows { OnOk result (Grows old.now.commands new.now.commands sets.old sets.new) }
+    ensures adds { OnOk result (Adds (IsOf group.now heads.now) sets.old sets.new) }
     ensures settles { OnOk result (Settles old.now.commands new.now.commands sets.new
         heads.now group.now stem.now stars) }
 {
@@ -109,6 +112,7 @@ fn add_at(
     }
 }
 
+#[tactic(auto, using(crate::proofs::OrderLemmas::adds_nothing))]
 /// Adds the sets of the digits with each number of stars.
 pub(crate) fn add_stem(
     sets: &mut Sets,
@@ -119,6 +123,7 @@ pub(crate) fn add_stem(
     stem: &[u8],
 ) -> Result<(), AllocError>
     ensures grows { OnOk result (Grows old.now.commands new.now.commands sets.old sets.new) }
+    ensures adds { OnOk result (Adds (IsOf group.now heads.now) sets.old sets.new) }
     ensures settles { OnOk result (SettlesStem old.now.commands new.now.commands sets.new
         heads.now group.now stem.now) }
 {
@@ -128,7 +133,7 @@ pub(crate) fn add_stem(
     Ok(())
 }
 
-#[tactic(auto, using(crate::proofs::GatherLemmas::pattern_is_literal))]
+#[tactic(auto, using(crate::proofs::OrderLemmas::adds_nothing, crate::proofs::GatherLemmas::pattern_is_literal))]
 /// Adds the sets of the digits with what is left of the literals of a pattern after this front.
 fn add_pattern(
     sets: &mut Sets,
@@ -140,6 +145,7 @@ fn add_pattern(
     pattern: &Pattern,
 ) -> Result<(), AllocError>
     ensures grows { OnOk result (Grows old.now.commands new.now.commands sets.old sets.new) }
+    ensures adds { OnOk result (Adds (IsOf group.now heads.now) sets.old sets.new) }
     ensures settles { OnOk result (SettlesPattern old.now.commands new.now.commands sets.new
         heads.now group.now front.now pattern.now) }
     ensures literal { has_no_star pattern.now.literals ≡ true }
@@ -150,6 +156,7 @@ fn add_pattern(
     }
 }
 
+#[tactic(auto, using(crate::proofs::OrderLemmas::adds_nothing))]
 /// The same of each of these patterns.
 pub(crate) fn add_patterns(
     sets: &mut Sets,
@@ -161,6 +168,7 @@ pub(crate) fn add_patterns(
     patterns: &[Pattern],
 ) -> Result<(), AllocError>
     ensures grows { OnOk result (Grows old.now.commands new.now.commands sets.old sets.new) }
+    ensures adds { OnOk result (Adds (IsOf group.now heads.now) sets.old sets.new) }
     ensures settles { OnOk result (SettlesPatterns old.now.commands new.now.commands sets.new
         heads.now group.now front.now patterns.now) }
     ensures literal { OnOk result (AreLiteral patterns.now) }

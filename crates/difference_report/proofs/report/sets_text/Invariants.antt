@@ -4,5 +4,5 @@ use Rattle.difference_report.proofs.report.sets_text.Given as goal
 
 abbrev pub invariant-loop-place : goal.invariant-loop-place
 invariant-loop-place l =
-    (l.text.items, l.block) ≡ fold (with_entry l.old.commands l.new.commands l.sets) ([], None)
-    (take l.place l.sets)
+    (l.text.items, l.block) ≡ fold (with_entry l.old.commands l.new.commands l.listed l.changed)
+    ([], None) (take l.place l.listed)

@@ -13,7 +13,7 @@ returns-clause-none c =
     ∙ (λ i. (c.in_ok-add_prefixes_of.ensures
     ∙ (λ j. c.in_ok-push.ensures.items j ++ heads_of (c.lines_of.ensures j))) i
     ++ heads_of (c.lines_of-2.ensures i)))
-    c.put_heads_in_order.ensures)
+    c.put_heads_in_order.ensures.kept)
 
 pub returns-clause-old : goal.returns-clause-old
 returns-clause-old c =
@@ -25,7 +25,7 @@ returns-clause-old c =
     ∙ (λ i. (c.in_ok-add_prefixes_of.ensures
     ∙ (λ j. c.in_ok-push.ensures.items j ++ heads_of (c.lines_of.ensures j))) i
     ++ heads_of (c.lines_of-2.ensures i)))
-    c.put_heads_in_order.ensures)
+    c.put_heads_in_order.ensures.kept)
 
 pub returns-clause-new : goal.returns-clause-new
 returns-clause-new c =
@@ -37,4 +37,4 @@ returns-clause-new c =
     ∙ (λ i. (c.in_ok-add_prefixes_of.ensures
     ∙ (λ j. c.in_ok-push.ensures.items j ++ heads_of (c.lines_of.ensures j))) i
     ++ heads_of (c.lines_of-2.ensures i)))
-    c.put_heads_in_order.ensures)
+    c.put_heads_in_order.ensures.kept)

@@ -1,4 +1,7 @@
+use Rattle.std.proofs.Common.{Some, [], ◌∷◌}
+use Rattle.plan_difference.specs.Order.{IsOf}
 use Rattle.plan_difference.proofs.EntryLemmas.{grows_then}
+use Rattle.plan_difference.proofs.OrderLemmas.{adds_both, adds_then}
 use Rattle.plan_difference.proofs.WalkLemmas.{grows_both, group_settled}
 use Rattle.plan_difference.proofs.groups.add_group.Goals as goal
 
@@ -18,3 +21,11 @@ returns-clause-settles c =
     c.args.group.now c.in_ok-add_side.ensures.grows c.add_side-2.result
     c.add_side-2.ensures.grows c.in_ok-add_stem.ensures.settles
     c.in_ok-add_side.ensures.settles c.add_side-2.ensures.settles
+
+pub returns-clause-adds : goal.returns-clause-adds
+returns-clause-adds c =
+    let is = IsOf c.args.group.now (Some c.args.prefix.now ∷ []) in
+    adds_both is c.args.sets.now c.add_side.new.sets c.add_side-2.new.sets c.add_side-2.result
+    c.add_side-2.ensures.adds
+    (adds_then is c.args.sets.now c.add_stem.new.sets c.add_side.new.sets
+    c.in_ok-add_stem.ensures.adds c.in_ok-add_side.ensures.adds)

@@ -4,6 +4,7 @@ use Rattle.plan_difference.specs.Gathered.{has_no_star}
 use Rattle.plan_difference.specs.Walk.{SettlesHead}
 use Rattle.plan_difference.proofs.EntryLemmas.{grows_then}
 use Rattle.plan_difference.proofs.GatherLemmas.{item_at}
+use Rattle.plan_difference.proofs.OrderLemmas.{one_more_head}
 use Rattle.plan_difference.proofs.WalkLemmas.{places_more, head_on, stands_within}
 use Rattle.plan_difference.proofs.groups.add_groups.Goals as goal
 
@@ -27,6 +28,8 @@ loop-head-preserved c =
           (c.loop-head.invariant.settles k below other there));
       clean = places_more heads (λ other. IfSome other (λ prefix. has_no_star prefix ≡ true)) place
           head at c.add_head.ensures.clean c.loop-head.invariant.clean;
+      adds = one_more_head old new heads place head at c.args.sets.now before after
+          c.loop-head.invariant.adds c.in_ok-add_head.ensures.adds;
     }
 
 pub returns-clause-settles : goal.returns-clause-settles
@@ -43,3 +46,6 @@ returns-clause-clean c = λ (place : ℕ) (prefix : List ℕ) at.
     c.loop-head.invariant.clean place
     (let within : place < c.loop-head.head-index = omega (arith, low, last) in within)
     (Some prefix) at
+
+pub returns-clause-adds : goal.returns-clause-adds
+returns-clause-adds c = (c.loop-head.head-index, c.loop-head.invariant.adds)

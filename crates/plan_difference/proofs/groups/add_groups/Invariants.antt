@@ -2,6 +2,7 @@ use Rattle.std.proofs.Common.{◌≡◌, ℕ, ◌<◌, List, slice_get, Option, 
 use Rattle.std.specs.Prelude.{IfSome}
 use Rattle.plan_difference.specs.Entries.{Grows}
 use Rattle.plan_difference.specs.Gathered.{has_no_star}
+use Rattle.plan_difference.specs.Order.{AddsInOrder}
 use Rattle.plan_difference.specs.Walk.{SettlesHead}
 use Rattle.plan_difference.proofs.groups.add_groups.Given as goal
 
@@ -13,4 +14,5 @@ invariant-loop-head l = record {
       → SettlesHead l.old.commands l.new.commands l.sets l.patterns head;
   clean : (place : ℕ) → place < l.head-index → (head : Option (List ℕ))
       → slice_get l.heads place ≡ Some head → IfSome head (λ prefix. has_no_star prefix ≡ true);
+  adds : AddsInOrder l.old.commands l.new.commands l.heads l.head-index l.initial.sets l.sets;
 }

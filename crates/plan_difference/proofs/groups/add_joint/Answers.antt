@@ -1,5 +1,7 @@
 use Rattle.std.proofs.Common.{[]}
 use Rattle.plan_difference.specs.Gathered.{joint}
+use Rattle.plan_difference.specs.Order.{IsOf}
+use Rattle.plan_difference.proofs.OrderLemmas.{adds_both}
 use Rattle.plan_difference.proofs.WalkLemmas.{grows_both, stem_kept}
 use Rattle.plan_difference.proofs.groups.add_joint.Goals as goal
 
@@ -14,3 +16,9 @@ returns-clause-alone c =
     stem_kept c.args.old.now.commands c.args.new.now.commands c.args.sets.now
     c.add_stem.new.sets c.add_patterns.new.sets c.add_patterns.result
     c.add_patterns.ensures.grows c.args.heads.now joint [] c.in_ok-add_stem.ensures.settles
+
+pub returns-clause-adds : goal.returns-clause-adds
+returns-clause-adds c =
+    adds_both (IsOf joint c.args.heads.now) c.args.sets.now c.add_stem.new.sets
+    c.add_patterns.new.sets c.add_patterns.result c.add_patterns.ensures.adds
+    c.in_ok-add_stem.ensures.adds

@@ -1,9 +1,11 @@
 use Rattle.std.proofs.Common.{◌≡◌, ℕ, ◌<◌, arith, true}
 use Rattle.digit_patterns.specs.PatternParts.{PatternParts}
 use Rattle.plan_difference.specs.Gathered.{has_no_star}
+use Rattle.plan_difference.specs.Order.{IsOf}
 use Rattle.plan_difference.specs.Walk.{SettlesPattern}
 use Rattle.plan_difference.proofs.EntryLemmas.{grows_then}
 use Rattle.plan_difference.proofs.GatherLemmas.{item_at}
+use Rattle.plan_difference.proofs.OrderLemmas.{adds_then}
 use Rattle.plan_difference.proofs.WalkLemmas.{places_more, pattern_on, stands_within}
 use Rattle.plan_difference.proofs.walk.add_patterns.Goals as goal
 
@@ -29,6 +31,8 @@ loop-pattern-preserved c =
           (c.loop-pattern.invariant.settles k below other there));
       literal = places_more patterns (λ other. has_no_star other.literals ≡ true) place pattern
           at c.add_pattern.ensures.literal c.loop-pattern.invariant.literal;
+      adds = adds_then (IsOf group heads) c.args.sets.now before after
+          c.loop-pattern.invariant.adds c.in_ok-add_pattern.ensures.adds;
     }
 
 pub returns-clause-settles : goal.returns-clause-settles

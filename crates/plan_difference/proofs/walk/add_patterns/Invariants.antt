@@ -2,6 +2,7 @@ use Rattle.std.proofs.Common.{◌≡◌, ℕ, ◌<◌, slice_get, Some, true}
 use Rattle.digit_patterns.specs.PatternParts.{PatternParts}
 use Rattle.plan_difference.specs.Entries.{Grows}
 use Rattle.plan_difference.specs.Gathered.{has_no_star}
+use Rattle.plan_difference.specs.Order.{Adds, IsOf}
 use Rattle.plan_difference.specs.Walk.{SettlesPattern}
 use Rattle.plan_difference.proofs.walk.add_patterns.Given as goal
 
@@ -13,4 +14,5 @@ invariant-loop-pattern l = record {
       → SettlesPattern l.old.commands l.new.commands l.sets l.heads l.group l.front pattern;
   literal : (place : ℕ) → place < l.pattern-index → (pattern : PatternParts)
       → slice_get l.patterns place ≡ Some pattern → has_no_star pattern.literals ≡ true;
+  adds : Adds (IsOf l.group l.heads) l.initial.sets l.sets;
 }

@@ -1,6 +1,8 @@
 use Rattle.std.proofs.Common.{ℕ, ◌<◌, arith}
+use Rattle.plan_difference.specs.Order.{IsOf}
 use Rattle.plan_difference.specs.Walk.{Settles}
 use Rattle.plan_difference.proofs.EntryLemmas.{grows_then}
+use Rattle.plan_difference.proofs.OrderLemmas.{adds_then}
 use Rattle.plan_difference.proofs.WalkLemmas.{below_more, settles_on}
 use Rattle.plan_difference.proofs.walk.add_stem.Goals as goal
 
@@ -19,6 +21,8 @@ loop-stars-preserved c =
       settles = below_more (λ k. Settles old new after heads group stem k) c.loop-stars.stars
           (λ k below. settles_on old new before after c.in_ok-add_at.ensures.grows heads group stem
           k (c.loop-stars.invariant.settles k below)) c.in_ok-add_at.ensures.settles;
+      adds = adds_then (IsOf group heads) c.args.sets.now before after
+          c.loop-stars.invariant.adds c.in_ok-add_at.ensures.adds;
     }
 
 pub returns-clause-settles : goal.returns-clause-settles

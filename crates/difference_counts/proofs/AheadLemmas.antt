@@ -1,0 +1,208 @@
+-- What a configuration finds for texts that go on from a front with a character.
+use Rattle.std.proofs.Common.{◌≡◌, ℕ, zero, suc, ◌-◌, ◌≤◌, ◌||◌, ◌==◌, ◌⊎◌, inl, inr, Bool, true, false, cond, List, [], ◌∷◌, ◌++◌, length, length-drop, drop, filter, slice_get, append-nil, refl, sym, ap, subst, ◌∙◌, true≢false}
+use Rattle.std.specs.Prelude.{Option, Some, None, Result, Ok, Err, IfOk, unwrap_or}
+use Rattle.std.specs.List.{list_any, starts_with}
+use Rattle.digit_patterns.specs.PatternParts.{PatternParts}
+use Rattle.command_reader.specs.declared.commands.Command.{Command}
+use Rattle.compiler.specs.Rows.{ZoneRow, rows_of}
+use Rattle.compiler.specs.Technology.{technology_of, prefixes_of, found_length}
+use Rattle.plan_difference.specs.Gathered.{Has}
+use Rattle.plan_difference.specs.Sets.{hops_off, set_of, set_by, is_joint}
+use Rattle.plan_difference.specs.Walk.{starred}
+use Rattle.plan_difference.proofs.Lookups.{PrefixesStay, LiteralsStay, RowsStay, FindsSame, finds_same, same_technology_found, drop_front}
+use Rattle.plan_difference.proofs.Finding.{found_within}
+use Rattle.difference_counts.specs.Ahead.{pattern_has_at, HasPrefixesOn, HasPatternsOn, IsAhead, IsAt, AreLiteral}
+use Rattle.difference_counts.specs.Places.{has_at}
+use Rattle.difference_counts.proofs.TextLemmas.{GoesOn, short_or_on, goes_on_from}
+
+-- ---- results
+pub ok_then : {X E : Type 0} (result : Result X E) (P Q : X → Type 0)
+    → ((x : X) → P x → Q x) → IfOk result P → IfOk result Q
+ok_then (Ok x) P Q h holds = h x holds
+ok_then (Err fault) P Q h holds = tt
+
+-- ---- lists
+none_there : {X : Type 0} (test : X → Bool) (xs : List X) (place : ℕ) (x : X)
+    → slice_get xs place ≡ Some x → list_any test xs ≡ false → test x ≡ true → ⊥
+none_there test [] place x at none passes = let bad : ⊥ = cc in bad
+none_there test (y ∷ ys) zero x at none passes =
+    first (test y) (list_any test ys) none (ap (λ o. test (unwrap_or o y)) at ∙ passes)
+  where
+    first : (a b : Bool) → (a || b) ≡ false → a ≡ true → ⊥
+    first true b e f = true≢false e
+    first false b e f = true≢false (sym f)
+none_there test (y ∷ ys) (suc place) x at none passes =
+    none_there test ys place x at (second (test y) (list_any test ys) none) passes
+  where
+    second : (a b : Bool) → (a || b) ≡ false → b ≡ false
+    second true b e = absurd (true≢false e)
+    second false b e = e
+
+pub kept : {X : Type 0} (test : X → Bool) (xs : List X) (place : ℕ) (x : X)
+    → slice_get xs place ≡ Some x → test x ≡ true → Has (filter test xs) x
+kept test [] place x at passes = absurd (let bad : ⊥ = cc in bad)
+kept {X} test (y ∷ ys) zero x at passes =
+    subst (λ t. Has (cond t (y ∷ filter test ys) (filter test ys)) x)
+    (sym (ap (λ o. test (unwrap_or o y)) at ∙ passes)) (record { place = 0; stands = at })
+kept {X} test (y ∷ ys) (suc place) x at passes = by (test y) (kept test ys place x at passes)
+  where
+    by : (t : Bool) → Has (filter test ys) x
+        → Has (cond t (y ∷ filter test ys) (filter test ys)) x
+    by true there = record { place = suc there.place; stands = there.stands }
+    by false there = there
+
+-- ---- nothing goes on with a character
+module _ (commands : List Command) (front : List ℕ) (technology : Option (List ℕ))
+    (prefixes : List (List ℕ)) (patterns : List PatternParts) (literal : AreLiteral commands)
+    (ahead : IsAhead commands front technology prefixes patterns)
+    (known : technology ≡ technology_of commands front) (character : ℕ)
+    (no_prefix : list_any (has_at (length front) character) prefixes ≡ false)
+    (no_pattern : list_any (pattern_has_at (length front - found_length technology) character)
+    patterns ≡ false) (rest : List ℕ) where
+  abbrev taken : ℕ
+  taken = found_length technology
+
+  prefixes_stay : PrefixesStay (prefixes_of commands) front (character ∷ rest)
+  prefixes_stay = record {
+    stay = λ place prefix at. (
+      literal.prefixes place prefix at,
+      λ b. by place prefix at (short_or_on front rest prefix
+          character b),
+    );
+  }
+    where
+      by : (place : ℕ) (prefix : List ℕ) → slice_get (prefixes_of commands) place ≡ Some prefix
+          → (length prefix ≤ length front) ⊎ GoesOn front prefix character
+          → length prefix ≤ length front
+      by place prefix at (inl short) = short
+      by place prefix at (inr on) =
+          let there = ahead.prefixes_on place prefix at on.begins in
+          absurd (none_there (has_at (length front) character) prefixes there.place prefix
+          there.stands no_prefix on.next)
+
+  found_is : technology_of commands (front ++ character ∷ rest) ≡ technology
+  found_is =
+      same_technology_found commands front (character ∷ rest) 0 prefixes_stay
+      ∙ ap (technology_of commands) (append-nil front) ∙ sym known
+
+  literals_stay : hops_off commands technology ≡ false
+      → LiteralsStay (rows_of commands) (drop taken front) (character ∷ rest)
+  literals_stay stays = record {
+    stay = λ place row at. (
+      literal.rows place row at,
+      λ b. by place row at (short_or_on (drop taken front) rest
+          row.0.literals character b),
+    );
+  }
+    where
+      by : (place : ℕ) (row : ZoneRow) → slice_get (rows_of commands) place ≡ Some row
+          → (length row.0.literals ≤ length (drop taken front))
+          ⊎ GoesOn (drop taken front) row.0.literals character
+          → length row.0.literals ≤ length (drop taken front)
+      by place row at (inl short) = short
+      by place row at (inr on) =
+          let there = ahead.patterns_on stays place row at on.begins in
+          absurd (none_there (pattern_has_at (length front - taken) character) patterns there.place
+          row.0 there.stands no_pattern
+          (ap (λ n. has_at n character row.0.literals) (sym (length-drop taken front)) ∙ on.next))
+
+  rows_stay : RowsStay commands front (character ∷ rest)
+  rows_stay = record {
+    within = subst (λ t. found_length t ≤ length front) (sym found_is) ahead.within;
+    rows = subst (λ t. hops_off commands t ≡ false
+        → LiteralsStay (rows_of commands) (drop (found_length t) front) (character ∷ rest))
+        (sym found_is) literals_stay;
+  }
+
+  pub finds : FindsSame commands front (character ∷ rest)
+  finds = finds_same commands front (character ∷ rest) prefixes_stay rows_stay
+
+-- both configurations find the same, so the set is the same
+pub same_set_of : (old new : List Command) (front : List ℕ) (character : ℕ) (rest : List ℕ)
+    → FindsSame old front (character ∷ rest) → FindsSame new front (character ∷ rest)
+    → set_of old new (front ++ character ∷ rest)
+    ≡ set_of old new (starred front (suc (length rest)))
+same_set_of old new front character rest f g =
+    λ i. set_by (is_joint old new (sym f.technology i) (sym g.technology i))
+    (sym f.technology i) (sym g.technology i) (sym f.pattern i) (sym g.pattern i)
+
+-- ---- what goes on with a character
+module _ (commands : List Command) (front : List ℕ) (technology : Option (List ℕ))
+    (prefixes : List (List ℕ)) (patterns : List PatternParts)
+    (ahead : IsAhead commands front technology prefixes patterns) (character : ℕ) where
+  abbrev longer : List ℕ
+  longer = front ++ character ∷ []
+
+  pub prefixes_next : HasPrefixesOn commands longer
+      (filter (has_at (length front) character) prefixes)
+  prefixes_next place prefix at begins =
+      let on = goes_on_from front prefix character begins in
+      let there = ahead.prefixes_on place prefix at on.begins in
+      kept (has_at (length front) character) prefixes there.place prefix there.stands on.next
+
+  abbrev taken_off : ℕ
+  taken_off = found_length technology
+
+  -- with the same technology prefix
+  pub patterns_next : (found : Option (List ℕ)) → found ≡ technology
+      → HasPatternsOn commands longer found
+      (filter (pattern_has_at (length front - found_length technology) character) patterns)
+  patterns_next found e =
+      subst (λ t. HasPatternsOn commands longer t
+      (filter (pattern_has_at (length front - taken_off) character) patterns)) (sym e)
+      (λ stays place row at begins. by place row at
+      (goes_on_from (drop taken_off front) row.0.literals character
+      (ap (starts_with ◌==◌ row.0.literals)
+      (sym (drop_front taken_off front (character ∷ []) ahead.within)) ∙ begins))
+      stays)
+    where
+      by : (place : ℕ) (row : ZoneRow) → slice_get (rows_of commands) place ≡ Some row
+          → GoesOn (drop taken_off front) row.0.literals character
+          → hops_off commands technology ≡ false
+          → Has (filter (pattern_has_at (length front - taken_off) character) patterns) row.0
+      by place row at on stays =
+          let there = ahead.patterns_on stays place row at on.begins in
+          kept (pattern_has_at (length front - taken_off) character) patterns there.place row.0
+          there.stands
+          (ap (λ n. has_at n character row.0.literals) (sym (length-drop taken_off front)) ∙
+          on.next)
+
+-- with another one all patterns are ahead
+pub patterns_all : (commands : List Command) (front : List ℕ) (found : Option (List ℕ))
+    (patterns : List PatternParts) → HasPatternsOn commands [] None patterns
+    → HasPatternsOn commands front found patterns
+patterns_all commands front found patterns whole stays place row at begins =
+    whole refl place row at refl
+
+-- and if that hops off, none need be
+pub patterns_none : (commands : List Command) (front : List ℕ) (found : Option (List ℕ))
+    → hops_off commands found ≡ true → HasPatternsOn commands front found []
+patterns_none commands front found hops stays =
+    absurd (true≢false (sym hops ∙ stays))
+
+-- ---- one more character
+pub found_next : (commands : List Command) (text : List ℕ) (found : Option (List ℕ))
+    → found ≡ technology_of commands text → found_length found ≤ length text
+found_next commands text found e = found_within commands text found (sym e)
+
+pub at_next : (commands : List Command) (front : List ℕ) (technology : Option (List ℕ))
+    (prefixes : List (List ℕ)) (patterns : List PatternParts)
+    → IsAhead commands front technology prefixes patterns → (character : ℕ)
+    → (text : List ℕ) → text ≡ front ++ character ∷ []
+    → (found : Option (List ℕ)) → found ≡ technology_of commands text
+    → (kept_prefixes : List (List ℕ))
+    → kept_prefixes ≡ filter (has_at (length front) character) prefixes
+    → (kept_patterns : List PatternParts)
+    → HasPatternsOn commands (front ++ character ∷ []) found kept_patterns
+    → IsAt commands text found kept_prefixes kept_patterns
+at_next commands front technology prefixes patterns ahead character text e found known
+    kept_prefixes f kept_patterns on = record {
+      ahead = record {
+        within = found_next commands text found known;
+        prefixes_on = subst (λ t. HasPrefixesOn commands t kept_prefixes) (sym e)
+            (subst (HasPrefixesOn commands (front ++ character ∷ [])) (sym f)
+            (prefixes_next commands front technology prefixes patterns ahead character));
+        patterns_on = subst (λ t. HasPatternsOn commands t found kept_patterns) (sym e) on;
+      };
+      known = known;
+    }

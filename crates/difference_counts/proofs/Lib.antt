@@ -1,0 +1,9 @@
+pub mod AheadLemmas
+pub mod FrontLemmas
+pub mod GatherLemmas
+pub mod NumberLemmas
+pub mod TextLemmas
+pub mod WalkLemmas
+pub mod CountLemmas
+pub mod PlaceLemmas
+pub mod SharedLemmas

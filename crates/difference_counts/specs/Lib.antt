@@ -1,0 +1,6 @@
+pub mod Ahead
+pub mod Counted
+pub mod Laws
+pub mod Numbers
+pub mod Places
+pub mod Walk

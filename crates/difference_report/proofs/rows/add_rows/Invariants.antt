@@ -1,0 +1,8 @@
+use Rattle.std.proofs.Common.{◌≡◌, take, fold}
+use Rattle.difference_report.specs.Rows.{with_row}
+use Rattle.difference_report.proofs.rows.add_rows.Given as goal
+
+abbrev pub invariant-loop-place : goal.invariant-loop-place
+invariant-loop-place l =
+    l.rows ≡ fold (with_row l.old.commands l.new.commands l.joint l.changed) l.initial.rows
+    (take l.place l.listed)

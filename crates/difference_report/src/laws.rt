@@ -1,0 +1,16 @@
+//! Worked counts.
+
+ghost use Rattle.std.specs.Prelude.{◌≡◌, codes};
+ghost use Rattle.difference_report.specs.CountWords as Spec;
+
+/// How counts are written: exactly, or in two digits, and the last line's.
+pub fn counts_are_written()
+    ensures exact { Spec.count_words 2985984 ≡ codes "2,985,984" }
+    ensures about { Spec.count_words 21579664890888164211722753766493 ≡ codes "about 2.2e31" }
+    ensures carried { Spec.count_words 9960000000000 ≡ codes "about 1.0e13" }
+    ensures half { Spec.count_words 1250000000000 ≡ codes "about 1.3e12" }
+    ensures longest { Spec.count_words 999999999999 ≡ codes "999,999,999,999" }
+    ensures one { Spec.numbers_words 1 ≡ codes "1 number" }
+    ensures many { Spec.numbers_words 37289660931454747757856918502528092
+        ≡ codes "37,289,660,931,454,747,757,856,918,502,528,092 numbers" }
+{}
