@@ -1,10 +1,12 @@
 -- Steps of loops over places of a list.
-use Rattle.std.proofs.Common.{◌≡◌, ℕ, ◌<◌, ◌+◌, Bool, ◌||◌, List, [], ◌∷◌, length, take, fold, get_or, ap, sym, ◌∙◌, subst, arith}
+use Rattle.std.proofs.Common.{◌≡◌, ℕ, zero, suc, ◌==◌, ◌<◌, ◌+◌, Bool, true, false, ◌||◌, List, [], ◌∷◌, length, take, fold, get_or, refl, ap, sym, ◌∙◌, subst, arith}
+use Rattle.std.proofs.lemmas.Bool.Decides.{nat_tests}
 use Rattle.std.proofs.lemmas.List.Folds.{list_any_more}
 use Rattle.std.proofs.lemmas.List.Sums.{fold_more}
 use Rattle.std.proofs.lemmas.Option.{slice_get-get_or}
 use Rattle.std.specs.List.{list_any}
 use Rattle.std.specs.Prelude.{IfSome, slice_get}
+use Rattle.difference_report.specs.Lengths.{any_below}
 
 -- what holds of the element at a place, if there is one
 pub at_place : {X : Type 0} (P : X → Type 0) (xs : List X) (i : ℕ) (d : X)
@@ -33,3 +35,23 @@ tested p (x ∷ xs) i found next within is step =
     at_place (λ e. next ≡ (found || p e)) (x ∷ xs) i x within step
     ∙ ap (λ b. b || p (get_or (x ∷ xs) i x)) is
     ∙ sym (list_any_more p (x ∷ xs) i x within)
+
+-- a number below this one that passes
+pub any_at : (test : ℕ → Bool) (count most : ℕ) → count < most → test count ≡ true
+    → any_below test most ≡ true
+any_at test count zero low h = absurd (omega (arith, low))
+any_at test count (suc most) low h =
+    by (count == most) refl (λ lower. any_at test count most lower h)
+  where
+    last : (c d : Bool) → d ≡ true → (c || d) ≡ true
+    last true d e = refl
+    last false d e = e
+
+    by : (t : Bool) → (count == most) ≡ t → (count < most → any_below test most ≡ true)
+        → (any_below test most || test most) ≡ true
+    by true e rest =
+        let same : count ≡ most = grind (arith, nat_tests) in
+        last (any_below test most) (test most) (ap test (sym same) ∙ h)
+    by false e rest =
+        let lower : count < most = grind (arith, nat_tests) in
+        ap (λ t. t || test most) (rest lower)

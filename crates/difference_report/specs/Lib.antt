@@ -1,6 +1,9 @@
+pub mod Blocks
 pub mod CountWords
+pub mod Findings
 pub mod Groups
 pub mod Headings
+pub mod Laws
 pub mod Lengths
 pub mod PlanWords
 pub mod ReportText
@@ -8,4 +11,5 @@ pub mod RowText
 pub mod Rows
 pub mod SetText
 pub mod Shape
+pub mod Totals
 pub mod Writing

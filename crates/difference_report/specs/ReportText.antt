@@ -14,11 +14,6 @@ use Rattle.difference_report.specs.SetText.{set_text}
 use Rattle.difference_report.specs.Shape.{greater}
 
 -- ---- blocks of lines
--- a group of sets, and how many characters its widest set has
-pub record BlockParts : Type 0 where
-  pub group : Group
-  pub width : ℕ
-
 -- whether two groups are the same
 abbrev pub same_group : Group → Group → Bool
 same_group group other =
@@ -34,40 +29,29 @@ wider old new group width entry =
 abbrev pub width_of : (old new : List Command) → Entries → Group → ℕ
 width_of old new entries group = fold (wider old new group) 0 entries
 
--- whether a group goes on
-abbrev pub goes_on : Option BlockParts → Group → Bool
+-- whether a group goes on after a set of this one, if there is one
+abbrev pub goes_on : Option Group → Group → Bool
 goes_on None group = false
-goes_on (Some block) group = same_group block.group group
-
--- the block of the next set: the one before it, if that is of the same group
-abbrev pub next_block : (old new : List Command) → Entries → Option BlockParts → Group
-    → BlockParts
-next_block old new entries None group =
-    record { group = group; width = width_of old new entries group }
-next_block old new entries (Some block) group =
-    if same_group block.group group then block
-    else record { group = group; width = width_of old new entries group }
+goes_on (Some before) group = same_group before group
 
 -- the heading, if another group begins
-abbrev pub heading_if : (old new : List Command) → Entries → Option BlockParts → Group
-    → List ℕ
+abbrev pub heading_if : (old new : List Command) → Entries → Option Group → Group → List ℕ
 heading_if old new entries before group =
     if goes_on before group then [] else heading old new entries group
 
--- the lines of a set that has so many digits, after such a block
-abbrev pub entry_text : (old new : List Command) → (listed changed : Entries)
-    → Option BlockParts → ℕ → Entry → List ℕ
+-- the lines of a set that has so many digits, after one of such a group
+abbrev pub entry_text : (old new : List Command) → (listed changed : Entries) → Option Group → ℕ
+    → Entry → List ℕ
 entry_text old new listed changed before number entry =
     heading_if old new listed before (group_of entry.0)
-    ++ set_line old new changed (next_block old new listed before (group_of entry.0)).width number
-    entry
+    ++ set_line old new changed (width_of old new listed (group_of entry.0)) number entry
 
--- the text and its last block, and one more set
+-- the text and the group of its last set, and one more set
 abbrev pub with_entry : (old new : List Command) → (listed changed : Entries)
-    → List ℕ × Option BlockParts → Entry → List ℕ × Option BlockParts
+    → List ℕ × Option Group → Entry → List ℕ × Option Group
 with_entry old new listed changed so_far entry = (
   so_far.0 ++ entry_text old new listed changed so_far.1 (number_in old new entry.0) entry,
-  Some (next_block old new listed so_far.1 (group_of entry.0)),
+  Some (group_of entry.0),
 )
 
 -- the lines of the sets that are listed

@@ -5,7 +5,7 @@ use Rattle.digit_patterns.specs.PatternParts.{PatternParts}
 use Rattle.digit_patterns.specs.Pattern.{pattern_text}
 use Rattle.command_reader.specs.declared.commands.Command.{Command}
 use Rattle.plan_difference.specs.Entries.{Entry}
-use Rattle.difference_report.specs.Lengths.{front_of, has_others}
+use Rattle.difference_report.specs.Lengths.{has_others, length_after}
 use Rattle.difference_report.specs.Shape.{shape_of}
 
 -- a pattern of just so many characters
@@ -24,5 +24,4 @@ or_nothing text = if is_empty text then codes "(nothing)" else text
 unfoldable pub set_text : (old new : List Command) → Entry → List ℕ
 set_text old new entry =
     if has_others old new entry then pattern_text (shape_of entry.0)
-    else or_nothing (pattern_text (exact (shape_of entry.0)
-    (length entry.1 - length (front_of old entry))))
+    else or_nothing (pattern_text (exact (shape_of entry.0) (length_after old entry)))

@@ -1,14 +1,15 @@
 //! Blocks of lines: the sets of one group.
 
-ghost use Rattle.std.specs.Prelude.{◌≡◌, IfOk, OnOk, IfSome, slice_get, length, bytes_eq};
+ghost use Rattle.std.specs.Prelude.{◌≡◌, IfOk, IfSome, slice_get};
+ghost use Rattle.difference_report.specs.Blocks.{IsWide, group_in};
 ghost use Rattle.difference_report.specs.ReportText as Spec;
 
+use crate::findings::Findings;
 use crate::set_text::set_text;
 use crate::shape::greater;
 use crate::shared_prefixes::is_same;
-use compiler::Tables;
 use plan_difference::{Group, Sets};
-use std::alloc::{AllocError, Global};
+use std::alloc::AllocError;
 use std::marker::Model;
 
 /// A group of sets whose lines stand together, and how many characters its widest set has. A
@@ -20,7 +21,7 @@ pub(crate) struct Block {
 }
 
 impl Model for Block {
-    ghost use Rattle.difference_report.specs.ReportText.{BlockParts};
+    ghost use Rattle.difference_report.specs.Blocks.{BlockParts};
 
     ghost Value = { BlockParts };
 
@@ -42,7 +43,7 @@ impl Block {
 
 /// Whether a group goes on.
 pub(crate) fn goes_on(before: &Option<Block>, group: &Group) -> bool
-    ensures { result ≡ Spec.goes_on before.now group.now }
+    ensures { result ≡ Spec.goes_on (group_in before.now) group.now }
 {
     match before {
         Some(block) => is_same_group(&block.group, group),
@@ -52,24 +53,23 @@ pub(crate) fn goes_on(before: &Option<Block>, group: &Group) -> bool
 
 /// The block of the next set, of this group: the one before it, if that is of the same group.
 pub(crate) fn next_block(
-    alloc: Global,
-    old: &Tables,
-    new: &Tables,
-    sets: &Sets,
+    found: &Findings,
     before: &Option<Block>,
     group: &Group,
 ) -> Result<Block, AllocError>
-    ensures { IfOk result (λ block. block ≡ Spec.next_block old.now.commands
-        new.now.commands sets.now before.now group.now) }
+    requires { IsWide found.now.old found.now.new found.now.listed before.now }
+    ensures group { IfOk result (λ block. block.group ≡ group.now) }
+    ensures width { IfOk result (λ block. block.width
+        ≡ Spec.width_of found.now.old found.now.new found.now.listed group.now) }
 {
     if let Some(block) = before {
-        if is_same_group(&block.group, group) {
+        if block.group.is(group) {
             return Ok(*block);
         }
     }
     Ok(Block {
         group: *group,
-        width: width_of(alloc, old, new, sets, group)?,
+        width: width_of(found, found.listed(), group)?,
     })
 }
 
@@ -81,28 +81,20 @@ fn is_same_group(group: &Group, other: &Group) -> bool
 }
 
 /// The width of the widest set of a group.
-fn width_of(
-    alloc: Global,
-    old: &Tables,
-    new: &Tables,
-    sets: &Sets,
-    group: &Group,
-) -> Result<usize, AllocError>
+fn width_of(found: &Findings, sets: &Sets, group: &Group) -> Result<usize, AllocError>
     ensures { IfOk result (λ width. width
-        ≡ Spec.width_of old.now.commands new.now.commands sets.now group.now) }
+        ≡ Spec.width_of found.now.old found.now.new sets.now group.now) }
 {
     let mut width = 0;
     for place in 0..sets.len() {
-        width = wider(alloc, old, new, sets, group, width, place)?;
+        width = wider(found, sets, group, width, place)?;
     }
     Ok(width)
 }
 
 /// A width, or that of the set at a place if it is greater and the set is of the group.
 fn wider(
-    alloc: Global,
-    old: &Tables,
-    new: &Tables,
+    found: &Findings,
     sets: &Sets,
     group: &Group,
     width: usize,
@@ -110,7 +102,7 @@ fn wider(
 ) -> Result<usize, AllocError>
     ensures { IfOk result (λ wide. IfSome (slice_get sets.now place)
         (λ entry. wide
-        ≡ Spec.wider old.now.commands new.now.commands group.now width entry)) }
+        ≡ Spec.wider found.now.old found.now.new group.now width entry)) }
 {
     let Some((set, digits)) = sets.get(place) else {
         return Ok(width);
@@ -118,6 +110,6 @@ fn wider(
     if !is_same_group(&set.group(), group) {
         return Ok(width);
     }
-    let text = set_text(alloc, old, new, set, digits)?;
+    let text = set_text(found, set, digits)?;
     Ok(greater(width, text.len()))
 }

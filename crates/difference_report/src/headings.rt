@@ -6,12 +6,13 @@ ghost use Rattle.plan_difference.specs.Walk.{longer_of};
 ghost use Rattle.difference_report.specs.Groups.{is_own};
 ghost use Rattle.difference_report.specs.Headings as Spec;
 
-use crate::shared_prefixes::{hops_off, shared_text};
+use crate::findings::Findings;
+use crate::shared_prefixes::{hops_off, prefixes_text};
 use crate::texts::text_of;
 use compiler::Tables;
 use gk_terms::TechPrefix;
 use plan_difference::{Group, Sets};
-use std::alloc::{AllocError, Global};
+use std::alloc::AllocError;
 
 /// Whether it is a group of its own, and not the joint one.
 pub(crate) fn is_own(group: &Group) -> bool
@@ -23,19 +24,16 @@ pub(crate) fn is_own(group: &Group) -> bool
 /// Adds the heading of a group.
 pub(crate) fn add_heading(
     text: &mut Vec<u8>,
-    alloc: Global,
-    old: &Tables,
-    new: &Tables,
-    sets: &Sets,
+    found: &Findings,
     group: &Group,
 ) -> Result<(), AllocError>
     ensures { OnOk result (text.new.items ≡ text.old.items
-        ++ Spec.heading old.now.commands new.now.commands sets.now group.now) }
+        ++ Spec.heading found.now.old found.now.new found.now.listed group.now) }
 {
     if is_own(group) {
-        add_own_heading(text, old, new, group)
+        add_own_heading(text, found.old(), found.new(), group)
     } else {
-        add_joint_heading(text, alloc, old, new, sets)
+        add_joint_heading(text, found)
     }
 }
 
@@ -102,18 +100,12 @@ fn add_found(
 }
 
 /// Adds the heading of the joint group.
-fn add_joint_heading(
-    text: &mut Vec<u8>,
-    alloc: Global,
-    old: &Tables,
-    new: &Tables,
-    sets: &Sets,
-) -> Result<(), AllocError>
+fn add_joint_heading(text: &mut Vec<u8>, found: &Findings) -> Result<(), AllocError>
     ensures { OnOk result (text.new.items ≡ text.old.items
-        ++ Spec.joint_heading old.now.commands new.now.commands sets.now) }
+        ++ Spec.joint_heading found.now.old found.now.new found.now.listed) }
 {
-    let list = shared_text(alloc, old, new)?;
-    add_heading_with(text, &list, has_own(sets))
+    let list = prefixes_text(found.alloc(), found.shared())?;
+    add_heading_with(text, &list, has_own(found.listed()))
 }
 
 /// Adds the heading with a list of prefixes; none if that is empty and no other group follows.

@@ -1,7 +1,8 @@
-//! Worked counts.
+//! Worked counts, and how long the digits of a set are.
 
 ghost use Rattle.std.specs.Prelude.{◌≡◌, codes};
 ghost use Rattle.difference_report.specs.CountWords as Spec;
+ghost use Rattle.difference_report.specs.Laws.{LengthsAreTold};
 
 /// How counts are written: exactly, or in two digits, and the last line's.
 pub fn counts_are_written()
@@ -13,4 +14,10 @@ pub fn counts_are_written()
     ensures one { Spec.numbers_words 1 ≡ codes "1 number" }
     ensures many { Spec.numbers_words 37289660931454747757856918502528092
         ≡ codes "37,289,660,931,454,747,757,856,918,502,528,092 numbers" }
+{}
+
+/// A set is said to have digits of another length than the one that stands beside it exactly if it
+/// has some; else it is written with just that length.
+pub fn lengths_are_told()
+    ensures { LengthsAreTold }
 {}

@@ -1,19 +1,23 @@
 //! How long the digits of a set are.
 
-ghost use Rattle.std.specs.Prelude.{◌≡◌, ◌++◌, ◌||◌, OnOk, IfOk, bytes_eq, length};
+ghost use Rattle.std.specs.Prelude.{◌≡◌, ◌++◌, IfOk, length};
+ghost use Rattle.std.specs.List.{list_any};
 ghost use Rattle.std.specs.Option.{option_eq};
 ghost use Rattle.digit_patterns.specs.Pattern.{same_pattern};
 ghost use Rattle.plan_difference.specs.Entries.{same_set};
 ghost use Rattle.plan_difference.specs.Sets.{set_of};
+ghost use Rattle.plan_difference.specs.Walk.{starred};
 ghost use Rattle.difference_report.specs.Lengths as Spec;
+ghost use Rattle.difference_report.specs.Shape.{shape_of};
 
+use crate::findings::Findings;
 use crate::headings::is_own;
-use crate::shape::add_literals;
+use crate::shape::{add_literals, is_open};
 use crate::shared_prefixes::is_same;
 use crate::texts::{add_repeated, text_of};
 use compiler::Tables;
 use digit_patterns::Pattern;
-use gk_terms::Dialled;
+use gk_terms::{Dialled, TechPrefix};
 use plan_difference::{NumberSet, set_of};
 use std::alloc::{AllocError, Global};
 
@@ -21,101 +25,157 @@ use std::alloc::{AllocError, Global};
 const STARS: usize = 33;
 
 #[tactic(auto, unfolding(crate::specs::Lengths::has_others))]
-/// Whether digits of another length than these are of the set too.
+/// Whether digits of another length than these are of the set too, each after its technology
+/// prefix.
 pub(crate) fn has_others(
-    alloc: Global,
-    old: &Tables,
-    new: &Tables,
+    found: &Findings,
     set: &NumberSet,
     digits: &Dialled,
 ) -> Result<bool, AllocError>
     ensures { IfOk result (λ others. others
-        ≡ Spec.has_others old.now.commands new.now.commands (set.now, digits.now)) }
+        ≡ Spec.has_others found.now.old found.now.new (set.now, digits.now)) }
 {
-    others_below(alloc, old, new, set, digits, STARS)
+    if !is_open(set) {
+        return Ok(false);
+    }
+    if has_others_after(found, set, digits, b"")? {
+        return Ok(true);
+    }
+    has_others_shared(found, set, digits)
+}
+
+/// Whether there are such digits after a technology prefix of the joint group, if the set is of it.
+fn has_others_shared(
+    found: &Findings,
+    set: &NumberSet,
+    digits: &Dialled,
+) -> Result<bool, AllocError>
+    ensures { IfOk result (λ others. others
+        ≡ Spec.has_others_shared found.now.old found.now.new (set.now, digits.now)) }
+{
+    if is_own(&set.group()) {
+        return Ok(false);
+    }
+    has_others_among(found, set, digits, found.shared())
+}
+
+/// Whether there are such digits after one of these.
+fn has_others_among(
+    found: &Findings,
+    set: &NumberSet,
+    digits: &Dialled,
+    fronts: &[TechPrefix],
+) -> Result<bool, AllocError>
+    ensures { IfOk result (λ others. others ≡ list_any
+        (Spec.has_others_after found.now.old found.now.new (set.now, digits.now)) fronts.now) }
+{
+    for front in fronts {
+        if has_others_after(found, set, digits, front.as_bytes())? {
+            return Ok(true);
+        }
+    }
+    Ok(false)
+}
+
+#[tactic(auto, unfolding(crate::specs::Lengths::has_others_after))]
+/// Whether the literals of the set, after this front and with some number of stars after them, are
+/// such digits.
+fn has_others_after(
+    found: &Findings,
+    set: &NumberSet,
+    digits: &Dialled,
+    front: &[u8],
+) -> Result<bool, AllocError>
+    ensures { IfOk result (λ others. others ≡ Spec.has_others_after found.now.old
+        found.now.new (set.now, digits.now) front.now) }
+{
+    has_others_below(found, set, digits, front, STARS)
 }
 
 /// The same with fewer stars than this number.
-fn others_below(
-    alloc: Global,
-    old: &Tables,
-    new: &Tables,
+fn has_others_below(
+    found: &Findings,
     set: &NumberSet,
     digits: &Dialled,
+    front: &[u8],
     most: usize,
 ) -> Result<bool, AllocError>
-    ensures { IfOk result (λ others. others ≡ Spec.any_below
-        (Spec.is_other old.now.commands new.now.commands (set.now, digits.now)) most) }
+    ensures { IfOk result (λ others. others ≡ Spec.any_below (Spec.is_other_with
+        found.now.old found.now.new (set.now, digits.now) front.now) most) }
 {
-    let mut found = false;
     for count in 0..most {
-        let other = is_other(alloc, old, new, set, digits, count)?;
-        found = either(found, other);
+        if is_other_with(found, set, digits, front, count)? {
+            return Ok(true);
+        }
     }
-    Ok(found)
+    Ok(false)
 }
 
-/// Whether one of both holds.
-fn either(one: bool, other: bool) -> bool
-    ensures { result ≡ (one || other) }
-{
-    one || other
-}
-
-/// Whether the beginning of the set and so many stars are of the set, and have another length.
-fn is_other(
-    alloc: Global,
-    old: &Tables,
-    new: &Tables,
+/// The same with so many stars.
+fn is_other_with(
+    found: &Findings,
     set: &NumberSet,
     digits: &Dialled,
+    front: &[u8],
     count: usize,
 ) -> Result<bool, AllocError>
-    ensures { IfOk result (λ other. other
-        ≡ Spec.is_other old.now.commands new.now.commands (set.now, digits.now) count) }
+    ensures { IfOk result (λ other. other ≡ Spec.is_other_with found.now.old
+        found.now.new (set.now, digits.now) front.now count) }
 {
-    let base = base_of(alloc, old, set, digits)?;
-    let mut text = Vec::new(alloc);
-    text.extend_from_slice(&base)?;
-    add_repeated(&mut text, b'*', count)?;
-    Ok(text.len() != digits.as_bytes().len() && is_in_set(old, new, set, &text))
+    let text = starred(found.alloc(), set, front, count)?;
+    Ok(is_other_text(found.old(), found.new(), set, digits, &text))
 }
 
-/// With what the digits of a set begin.
-fn base_of(
+/// A front, the literals of the set, and so many stars.
+fn starred(
     alloc: Global,
-    old: &Tables,
     set: &NumberSet,
-    digits: &Dialled,
+    front: &[u8],
+    count: usize,
 ) -> Result<Vec<u8>, AllocError>
-    ensures { IfOk result (λ base. base.items
-        ≡ Spec.base_of old.now.commands (set.now, digits.now)) }
+    ensures { IfOk result (λ text. text.items
+        ≡ starred (front.now ++ (shape_of set.now).literals) count) }
 {
-    let mut base = Vec::new(alloc);
-    add_front(&mut base, old, set, digits)?;
-    add_literals(&mut base, set)?;
-    Ok(base)
+    let mut text = Vec::new(alloc);
+    text.extend_from_slice(front)?;
+    add_literals(&mut text, set)?;
+    add_repeated(&mut text, b'*', count)?;
+    Ok(text)
 }
 
-/// Adds the technology prefix before what a set of the joint group is of.
-fn add_front(
-    text: &mut Vec<u8>,
-    old: &Tables,
-    set: &NumberSet,
-    digits: &Dialled,
-) -> Result<(), AllocError>
-    ensures { OnOk result (text.new.items ≡ text.old.items
-        ++ Spec.front_of old.now.commands (set.now, digits.now)) }
+#[tactic(auto, unfolding(crate::specs::Lengths::is_other_text))]
+/// Whether a text is digits of the set of another length.
+fn is_other_text(old: &Tables, new: &Tables, set: &NumberSet, digits: &Dialled, text: &[u8]) -> bool
+    ensures { result ≡ Spec.is_other_text old.now.commands new.now.commands
+        (set.now, digits.now) text.now }
 {
-    if is_own(&set.group()) {
-        return Ok(());
+    match Dialled::read(text) {
+        Ok(other) => is_other(old, new, set, digits, &other),
+        Err(_) => false,
     }
-    let technology = old.declared(digits);
-    text.extend_from_slice(text_of(&technology))
+}
+
+/// Whether other digits are of the set too, and have another length.
+fn is_other(old: &Tables, new: &Tables, set: &NumberSet, digits: &Dialled, other: &Dialled) -> bool
+    ensures { result ≡ Spec.is_other old.now.commands new.now.commands
+        (set.now, digits.now) other.now }
+{
+    is_set_of(old, new, set, other)
+        && length_after(old, set, other) != length_after(old, set, digits)
+}
+
+/// How many of the digits come after the technology prefix of the joint group.
+pub(crate) fn length_after(old: &Tables, set: &NumberSet, digits: &Dialled) -> usize
+    ensures { result ≡ Spec.length_after old.now.commands (set.now, digits.now) }
+{
+    digits
+        .as_bytes()
+        .len()
+        .saturating_sub(front_length(old, set, digits))
 }
 
 /// How many characters that prefix has.
-pub(crate) fn front_length(old: &Tables, set: &NumberSet, digits: &Dialled) -> usize
+fn front_length(old: &Tables, set: &NumberSet, digits: &Dialled) -> usize
     ensures { result ≡ length (Spec.front_of old.now.commands (set.now, digits.now)) }
 {
     if is_own(&set.group()) {
@@ -123,17 +183,6 @@ pub(crate) fn front_length(old: &Tables, set: &NumberSet, digits: &Dialled) -> u
     }
     let technology = old.declared(digits);
     text_of(&technology).len()
-}
-
-#[tactic(auto, unfolding(crate::specs::Lengths::is_in_set))]
-/// Whether a text is of a set.
-fn is_in_set(old: &Tables, new: &Tables, set: &NumberSet, text: &[u8]) -> bool
-    ensures { result ≡ Spec.is_in_set old.now.commands new.now.commands set.now text.now }
-{
-    match Dialled::read(text) {
-        Ok(digits) => is_set_of(old, new, set, &digits),
-        Err(_) => false,
-    }
 }
 
 /// Whether digits are of a set.

@@ -3,6 +3,7 @@
 
 mod blocks;
 pub mod count_words;
+mod findings;
 mod headings;
 mod last_lines;
 pub mod laws;
@@ -18,6 +19,7 @@ mod set_text;
 mod shape;
 mod shared_prefixes;
 mod texts;
+mod totals;
 pub mod wanted;
 pub mod writing;
 

@@ -1,23 +1,25 @@
 //! The text of a report.
 
-ghost use Rattle.std.specs.Prelude.{◌≡◌, ◌++◌, IfOk, IfSome, OnOk, slice_get, sum};
+ghost use Rattle.std.specs.Prelude.{◌≡◌, ◌++◌, IfOk, IfSome, OnOk, slice_get};
 ghost use Rattle.plan_difference.specs.Entries.{group_of};
-ghost use Rattle.difference_counts.specs.Counted.{numbers_in};
+ghost use Rattle.difference_report.specs.Blocks.{IsWide, group_in};
 ghost use Rattle.difference_report.specs.ReportText as Spec;
 ghost use Rattle.difference_report.specs.Writing.{IsReport, text_in};
 ghost use Rattle.difference_report.specs.declared.wanted.Listing.TheVariants as listings;
 
 use crate::blocks::{Block, goes_on, next_block};
+use crate::findings::Findings;
 use crate::headings::add_heading;
 use crate::last_lines::{add_count_line, add_default_line, is_same_default};
-use crate::numbers::number_at;
 use crate::rows::rows_text;
 use crate::set_lines::add_set_line;
+use crate::shared_prefixes::shared_prefixes;
+use crate::totals::total_of;
 use crate::wanted::{Form, Listing};
 use compiler::Tables;
-use difference_counts::{Counts, count};
+use difference_counts::count;
 use gk_terms::Dialled;
-use plan_difference::{Group, NumberSet, Sets, changed_sets, classes, difference};
+use plan_difference::{Group, NumberSet, changed_sets, classes, difference};
 use std::alloc::{AllocError, Global};
 
 /// A report.
@@ -56,10 +58,20 @@ fn changed_report(
     ensures { IfOk result (λ report. IsReport old.now.commands new.now.commands listings.Changed
         form report.differs report.text.items) }
 {
+    let shared = shared_prefixes(alloc, old, new)?;
     let changed = difference(alloc, old, new)?;
     let counts = count(alloc, old, new, &changed)?;
-    let total = counts.total();
-    report_of(alloc, old, new, form, &changed, &changed, &counts, total)
+    let found = Findings {
+        alloc,
+        old,
+        new,
+        shared: &shared,
+        listed: &changed,
+        counts: &counts,
+        changed: &changed,
+        total: counts.total(),
+    };
+    report_of(&found, form)
 }
 
 /// The report of all sets.
@@ -67,107 +79,67 @@ fn whole_report(alloc: Global, old: &Tables, new: &Tables, form: Form) -> Result
     ensures { IfOk result (λ report. IsReport old.now.commands new.now.commands listings.All form
         report.differs report.text.items) }
 {
+    let shared = shared_prefixes(alloc, old, new)?;
     let sets = classes(alloc, old, new)?;
     let changed = changed_sets(alloc, old, new, &sets)?;
     let counts = count(alloc, old, new, &sets)?;
-    let total = total_of(alloc, old, new, &changed)?;
-    report_of(alloc, old, new, form, &sets, &changed, &counts, total)
+    let total = total_of(old, new, &sets, &counts, &changed);
+    let found = Findings {
+        alloc,
+        old,
+        new,
+        shared: &shared,
+        listed: &sets,
+        counts: &counts,
+        changed: &changed,
+        total,
+    };
+    report_of(&found, form)
 }
 
-/// How many digits these sets have together.
-fn total_of(alloc: Global, old: &Tables, new: &Tables, sets: &Sets) -> Result<u128, AllocError>
-    ensures { IfOk result (λ total.
-        total ≡ sum (numbers_in old.now.commands new.now.commands sets.now)) }
-{
-    let counts = count(alloc, old, new, sets)?;
-    Ok(counts.total())
-}
-
-/// The report of these sets, with their numbers; of which some have changed, with so many digits.
-fn report_of(
-    alloc: Global,
-    old: &Tables,
-    new: &Tables,
-    form: Form,
-    listed: &Sets,
-    changed: &Sets,
-    counts: &Counts,
-    total: u128,
-) -> Result<Report, AllocError>
-    requires counts { counts.now ≡ numbers_in old.now.commands new.now.commands listed.now }
-    requires total { total ≡ sum (numbers_in old.now.commands new.now.commands changed.now) }
+/// The report of what is found.
+fn report_of(found: &Findings, form: Form) -> Result<Report, AllocError>
     ensures says { IfOk result (λ report. report.text.items
-        ≡ text_in form old.now.commands new.now.commands listed.now changed.now) }
+        ≡ text_in form found.now.old found.now.new found.now.listed found.now.changed) }
     ensures decides { IfOk result (λ report. report.differs
-        ≡ Spec.is_different old.now.commands new.now.commands changed.now) }
+        ≡ Spec.is_different found.now.old found.now.new found.now.changed) }
 {
-    let text = text_in(alloc, old, new, form, listed, changed, counts, total)?;
-    let differs = !changed.is_empty() || !is_same_default(old, new);
+    let text = text_in(found, form)?;
+    let differs = !found.changed().is_empty() || !is_same_default(found.old(), found.new());
     Ok(Report { text, differs })
 }
 
-/// The text of these sets.
-fn text_in(
-    alloc: Global,
-    old: &Tables,
-    new: &Tables,
-    form: Form,
-    listed: &Sets,
-    changed: &Sets,
-    counts: &Counts,
-    total: u128,
-) -> Result<Vec<u8>, AllocError>
-    requires counts { counts.now ≡ numbers_in old.now.commands new.now.commands listed.now }
-    requires total { total ≡ sum (numbers_in old.now.commands new.now.commands changed.now) }
+/// Its text.
+fn text_in(found: &Findings, form: Form) -> Result<Vec<u8>, AllocError>
     ensures { IfOk result (λ text. text.items
-        ≡ text_in form old.now.commands new.now.commands listed.now changed.now) }
+        ≡ text_in form found.now.old found.now.new found.now.listed found.now.changed) }
 {
     match form {
-        Form::Lines => report_text(alloc, old, new, listed, changed, counts, total),
-        Form::Rows => rows_text(alloc, old, new, listed, changed, counts),
+        Form::Lines => report_text(found),
+        Form::Rows => rows_text(found),
     }
 }
 
-/// The lines of these sets, and the last lines.
-fn report_text(
-    alloc: Global,
-    old: &Tables,
-    new: &Tables,
-    listed: &Sets,
-    changed: &Sets,
-    counts: &Counts,
-    total: u128,
-) -> Result<Vec<u8>, AllocError>
-    requires counts { counts.now ≡ numbers_in old.now.commands new.now.commands listed.now }
-    requires total { total ≡ sum (numbers_in old.now.commands new.now.commands changed.now) }
-    ensures { IfOk result (λ text. text.items
-        ≡ Spec.report_text old.now.commands new.now.commands listed.now changed.now) }
+/// The lines of the sets, and the last lines.
+fn report_text(found: &Findings) -> Result<Vec<u8>, AllocError>
+    ensures { IfOk result (λ text. text.items ≡ Spec.report_text found.now.old found.now.new
+        found.now.listed found.now.changed) }
 {
-    let mut text = sets_text(alloc, old, new, listed, changed, counts)?;
-    add_default_line(&mut text, old, new)?;
-    add_count_line(&mut text, changed.len(), total)?;
+    let mut text = sets_text(found)?;
+    add_default_line(&mut text, found.old(), found.new())?;
+    add_count_line(&mut text, found.changed().len(), found.total())?;
     Ok(text)
 }
 
 /// The lines of the sets.
-fn sets_text(
-    alloc: Global,
-    old: &Tables,
-    new: &Tables,
-    listed: &Sets,
-    changed: &Sets,
-    counts: &Counts,
-) -> Result<Vec<u8>, AllocError>
-    requires counts { counts.now ≡ numbers_in old.now.commands new.now.commands listed.now }
-    ensures { IfOk result (λ text. text.items
-        ≡ Spec.sets_text old.now.commands new.now.commands listed.now changed.now) }
+fn sets_text(found: &Findings) -> Result<Vec<u8>, AllocError>
+    ensures { IfOk result (λ text. text.items ≡ Spec.sets_text found.now.old found.now.new
+        found.now.listed found.now.changed) }
 {
-    let mut text = Vec::new(alloc);
+    let mut text = Vec::new(found.alloc());
     let mut block = None;
-    for place in 0..listed.len() {
-        block = add_at(
-            &mut text, alloc, old, new, listed, changed, counts, &block, place,
-        )?;
+    for place in 0..found.listed().len() {
+        block = add_at(&mut text, found, &block, place)?;
     }
     Ok(text)
 }
@@ -175,82 +147,61 @@ fn sets_text(
 /// Adds the lines of the set at a place after such a block; its own block.
 fn add_at(
     text: &mut Vec<u8>,
-    alloc: Global,
-    old: &Tables,
-    new: &Tables,
-    listed: &Sets,
-    changed: &Sets,
-    counts: &Counts,
+    found: &Findings,
     before: &Option<Block>,
     place: usize,
 ) -> Result<Option<Block>, AllocError>
-    requires counts { counts.now ≡ numbers_in old.now.commands new.now.commands listed.now }
-    ensures { IfOk result (λ block. IfSome (slice_get listed.now place) (λ entry.
-        (text.new.items, block) ≡ Spec.with_entry old.now.commands new.now.commands listed.now
-        changed.now (text.old.items, before.now) entry)) }
+    requires { IsWide found.now.old found.now.new found.now.listed before.now }
+    ensures text { IfOk result (λ block. IfSome (slice_get found.now.listed place) (λ entry.
+        (text.new.items, group_in block) ≡ Spec.with_entry found.now.old found.now.new
+        found.now.listed found.now.changed (text.old.items, group_in before.now) entry)) }
+    ensures wide { IfOk result (λ block.
+        IsWide found.now.old found.now.new found.now.listed block) }
 {
-    let Some((set, digits)) = listed.get(place) else {
+    let Some((set, digits)) = found.listed().get(place) else {
         return Ok(None);
     };
-    let number = number_at(old, new, listed, counts, place);
-    let block = add_entry(
-        text, alloc, old, new, listed, changed, before, number, set, digits,
-    )?;
+    let number = found.number_at(place);
+    let block = add_entry(text, found, before, number, set, digits)?;
     Ok(Some(block))
 }
 
 /// Adds the lines of a set after such a block; its own block.
 fn add_entry(
     text: &mut Vec<u8>,
-    alloc: Global,
-    old: &Tables,
-    new: &Tables,
-    listed: &Sets,
-    changed: &Sets,
+    found: &Findings,
     before: &Option<Block>,
     number: u128,
     set: &NumberSet,
     digits: &Dialled,
 ) -> Result<Block, AllocError>
+    requires { IsWide found.now.old found.now.new found.now.listed before.now }
     ensures text { OnOk result (text.new.items ≡ text.old.items
-        ++ Spec.entry_text old.now.commands new.now.commands listed.now changed.now before.now
-        number (set.now, digits.now)) }
-    ensures block { IfOk result (λ block. block
-        ≡ Spec.next_block old.now.commands new.now.commands listed.now before.now
-        (group_of set.now)) }
+        ++ Spec.entry_text found.now.old found.now.new found.now.listed found.now.changed
+        (group_in before.now) number (set.now, digits.now)) }
+    ensures group { IfOk result (λ block. block.group ≡ group_of set.now) }
+    ensures width { IfOk result (λ block. block.width ≡ Spec.width_of found.now.old
+        found.now.new found.now.listed (group_of set.now)) }
 {
     let group = set.group();
-    let block = next_block(alloc, old, new, listed, before, &group)?;
-    add_heading_if(text, alloc, old, new, listed, before, &group)?;
-    add_set_line(
-        text,
-        alloc,
-        old,
-        new,
-        changed,
-        block.width(),
-        number,
-        set,
-        digits,
-    )?;
+    let block = next_block(found, before, &group)?;
+    add_heading_if(text, found, before, &group)?;
+    add_set_line(text, found, block.width(), number, set, digits)?;
     Ok(block)
 }
 
 /// Adds the heading, if another group begins.
 fn add_heading_if(
     text: &mut Vec<u8>,
-    alloc: Global,
-    old: &Tables,
-    new: &Tables,
-    sets: &Sets,
+    found: &Findings,
     before: &Option<Block>,
     group: &Group,
 ) -> Result<(), AllocError>
-    ensures { OnOk result (text.new.items ≡ text.old.items
-        ++ Spec.heading_if old.now.commands new.now.commands sets.now before.now group.now) }
+    ensures { OnOk result (text.new.items ≡ text.old.items ++ Spec.heading_if found.now.old
+        found.now.new found.now.listed (group_in before.now) group.now) }
 {
     if goes_on(before, group) {
         return Ok(());
     }
-    add_heading(text, alloc, old, new, sets, group)
+    add_heading(text, found, group)
 }

@@ -1,14 +1,12 @@
 //! The rows of a report.
 
-ghost use Rattle.std.specs.Prelude.{◌≡◌, ◌&&◌, ◌∷◌, ◌++◌, [], IfOk, IfSome, OnOk, codes, fold, slice_get};
+ghost use Rattle.std.specs.Prelude.{◌≡◌, ◌&&◌, ◌∷◌, ◌++◌, IfOk, IfSome, OnOk, fold, slice_get};
 ghost use Rattle.csv.specs.Writing.{default_writer, row_text};
-ghost use Rattle.difference_counts.specs.Counted.{numbers_in};
-ghost use Rattle.difference_report.specs.Headings.{shared_prefixes};
 ghost use Rattle.difference_report.specs.PlanWords.{has_same_words};
 ghost use Rattle.difference_report.specs.Rows as Spec;
 
+use crate::findings::Findings;
 use crate::headings::is_own;
-use crate::numbers::number_at;
 use crate::plan_words::has_same_words;
 use crate::row_fields::{
     change_field, gateways_field, kind_field, set_texts, technology_field, zone_field,
@@ -16,32 +14,20 @@ use crate::row_fields::{
 use crate::row_text::RowText;
 use crate::set_lines::destination;
 use crate::set_text::set_text;
-use crate::shared_prefixes::shared_prefixes;
-use compiler::Tables;
-use difference_counts::Counts;
 use gk_terms::{Dialled, TechPrefix};
 use itoa::Buffer;
-use plan_difference::{Destination, NumberSet, Sets};
+use plan_difference::{Destination, NumberSet};
 use std::alloc::{AllocError, Global};
 
 /// The rows of these sets, of which some have changed.
-pub(crate) fn rows_text(
-    alloc: Global,
-    old: &Tables,
-    new: &Tables,
-    listed: &Sets,
-    changed: &Sets,
-    counts: &Counts,
-) -> Result<Vec<u8>, AllocError>
-    requires counts { counts.now ≡ numbers_in old.now.commands new.now.commands listed.now }
+pub(crate) fn rows_text(found: &Findings) -> Result<Vec<u8>, AllocError>
     ensures { IfOk result (λ text. text.items
-        ≡ Spec.rows_text old.now.commands new.now.commands listed.now changed.now) }
+        ≡ Spec.rows_text found.now.old found.now.new found.now.listed found.now.changed) }
 {
-    let prefixes = shared_prefixes(alloc, old, new)?;
-    let joint = joint_technologies(alloc, &prefixes)?;
-    let mut rows = RowText::new(alloc);
+    let joint = joint_technologies(found.alloc(), found.shared())?;
+    let mut rows = RowText::new(found.alloc());
     add_header(&mut rows)?;
-    add_rows(&mut rows, alloc, old, new, &joint, listed, changed, counts)?;
+    add_rows(&mut rows, found, &joint)?;
     rows.into_text()
 }
 
@@ -89,23 +75,13 @@ fn add_header(rows: &mut RowText) -> Result<(), AllocError>
     rows.add(&fields)
 }
 
-/// Adds the rows of these sets.
-fn add_rows(
-    rows: &mut RowText,
-    alloc: Global,
-    old: &Tables,
-    new: &Tables,
-    joint: &[u8],
-    listed: &Sets,
-    changed: &Sets,
-    counts: &Counts,
-) -> Result<(), AllocError>
-    requires counts { counts.now ≡ numbers_in old.now.commands new.now.commands listed.now }
-    ensures { OnOk result (rows.new ≡ fold (Spec.with_row old.now.commands new.now.commands
-        joint.now changed.now) rows.old listed.now) }
+/// Adds the rows of the sets.
+fn add_rows(rows: &mut RowText, found: &Findings, joint: &[u8]) -> Result<(), AllocError>
+    ensures { OnOk result (rows.new ≡ fold (Spec.with_row found.now.old found.now.new
+        joint.now found.now.changed) rows.old found.now.listed) }
 {
-    for place in 0..listed.len() {
-        add_at(rows, alloc, old, new, joint, listed, changed, counts, place)?;
+    for place in 0..found.listed().len() {
+        add_at(rows, found, joint, place)?;
     }
     Ok(())
 }
@@ -113,23 +89,18 @@ fn add_rows(
 /// Adds the row of the set at a place.
 fn add_at(
     rows: &mut RowText,
-    alloc: Global,
-    old: &Tables,
-    new: &Tables,
+    found: &Findings,
     joint: &[u8],
-    listed: &Sets,
-    changed: &Sets,
-    counts: &Counts,
     place: usize,
 ) -> Result<(), AllocError>
-    requires counts { counts.now ≡ numbers_in old.now.commands new.now.commands listed.now }
-    ensures { OnOk result (IfSome (slice_get listed.now place) (λ entry. rows.new
-        ≡ Spec.with_row old.now.commands new.now.commands joint.now changed.now rows.old entry)) }
+    ensures { OnOk result (IfSome (slice_get found.now.listed place) (λ entry. rows.new
+        ≡ Spec.with_row found.now.old found.now.new joint.now found.now.changed rows.old
+        entry)) }
 {
-    match listed.get(place) {
+    match found.listed().get(place) {
         Some((set, digits)) => {
-            let number = number_at(old, new, listed, counts, place);
-            add_row(rows, alloc, old, new, joint, changed, number, set, digits)
+            let number = found.number_at(place);
+            add_row(rows, found, joint, number, set, digits)
         }
         None => Ok(()),
     }
@@ -138,27 +109,24 @@ fn add_at(
 /// Adds the row of a set, with the plans of these digits of it.
 fn add_row(
     rows: &mut RowText,
-    alloc: Global,
-    old: &Tables,
-    new: &Tables,
+    found: &Findings,
     joint: &[u8],
-    changed: &Sets,
     number: u128,
     set: &NumberSet,
     digits: &Dialled,
 ) -> Result<(), AllocError>
-    ensures { OnOk result (rows.new ≡ rows.old ++ Spec.set_row old.now.commands
-        new.now.commands joint.now changed.now number (set.now, digits.now)) }
+    ensures { OnOk result (rows.new ≡ rows.old ++ Spec.set_row found.now.old
+        found.now.new joint.now found.now.changed number (set.now, digits.now)) }
 {
-    let shown = set_text(alloc, old, new, set, digits)?;
-    let old_place = destination(old, digits);
-    let new_place = destination(new, digits);
+    let shown = set_text(found, set, digits)?;
+    let old_place = destination(found.old(), digits);
+    let new_place = destination(found.new(), digits);
     add_set_fields(
         rows,
-        alloc,
+        found.alloc(),
         joint,
         &shown,
-        changed.has(set),
+        found.changed().has(set),
         set,
         &old_place,
         &new_place,

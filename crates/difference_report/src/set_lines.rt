@@ -6,44 +6,42 @@ ghost use Rattle.plan_difference.specs.Destination.{destination_of};
 ghost use Rattle.difference_report.specs.PlanWords as Spec;
 
 use crate::count_words::add_count;
+use crate::findings::Findings;
 use crate::headings::is_own;
 use crate::plan_words::{add_gateways, add_plan, add_side};
 use crate::set_text::set_text;
 use crate::texts::add_repeated;
 use compiler::Tables;
 use gk_terms::Dialled;
-use plan_difference::{Destination, NumberSet, Sets, destination_of};
+use plan_difference::{Destination, NumberSet, destination_of};
 use std::alloc::{AllocError, Global};
 
 /// Adds the line of a set that has so many digits, with the plans of these digits of it. The sets of
 /// its group are that wide.
 pub(crate) fn add_set_line(
     text: &mut Vec<u8>,
-    alloc: Global,
-    old: &Tables,
-    new: &Tables,
-    changed: &Sets,
+    found: &Findings,
     width: usize,
     number: u128,
     set: &NumberSet,
     digits: &Dialled,
 ) -> Result<(), AllocError>
     ensures { OnOk result (text.new.items ≡ text.old.items
-        ++ Spec.set_line old.now.commands new.now.commands changed.now width number
+        ++ Spec.set_line found.now.old found.now.new found.now.changed width number
         (set.now, digits.now)) }
 {
-    let shown = set_text(alloc, old, new, set, digits)?;
+    let shown = set_text(found, set, digits)?;
     text.extend_from_slice(b"  ")?;
     add_filled(text, width, &shown)?;
     text.extend_from_slice(b"  ")?;
     add_said(
         text,
-        alloc,
-        changed.has(set),
+        found.alloc(),
+        found.changed().has(set),
         set,
         &shown,
-        &destination(old, digits),
-        &destination(new, digits),
+        &destination(found.old(), digits),
+        &destination(found.new(), digits),
     )?;
     add_number_words(text, number)?;
     text.extend_from_slice(b"\n")

@@ -5,10 +5,10 @@ ghost use Rattle.digit_patterns.specs.Pattern.{pattern_text};
 ghost use Rattle.difference_report.specs.SetText.{exact, or_nothing, set_text};
 ghost use Rattle.difference_report.specs.Shape.{shape_of};
 
-use crate::lengths::{front_length, has_others};
+use crate::findings::Findings;
+use crate::lengths::{has_others, length_after};
 use crate::shape::{add_literals, add_shape, longest_count};
 use crate::texts::add_repeated;
-use compiler::Tables;
 use gk_terms::Dialled;
 use plan_difference::NumberSet;
 use std::alloc::{AllocError, Global};
@@ -17,20 +17,18 @@ use std::alloc::{AllocError, Global};
 /// How a set is written, of which these are some digits: its pattern; if all its digits have one
 /// length, that of just this length.
 pub(crate) fn set_text(
-    alloc: Global,
-    old: &Tables,
-    new: &Tables,
+    found: &Findings,
     set: &NumberSet,
     digits: &Dialled,
 ) -> Result<Vec<u8>, AllocError>
     ensures { IfOk result (λ text. text.items
-        ≡ set_text old.now.commands new.now.commands (set.now, digits.now)) }
+        ≡ set_text found.now.old found.now.new (set.now, digits.now)) }
 {
-    if has_others(alloc, old, new, set, digits)? {
-        return shape_text(alloc, set);
+    if has_others(found, set, digits)? {
+        return shape_text(found.alloc(), set);
     }
-    let front = front_length(old, set, digits);
-    or_nothing(exact_text(alloc, set, digits.as_bytes().len().saturating_sub(front))?)
+    let count = length_after(found.old(), set, digits);
+    or_nothing(exact_text(found.alloc(), set, count)?)
 }
 
 /// The pattern of a set.

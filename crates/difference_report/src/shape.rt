@@ -18,7 +18,14 @@ pub(crate) fn add_shape(text: &mut Vec<u8>, set: &NumberSet) -> Result<(), Alloc
 {
     add_literals(text, set)?;
     add_repeated(text, b'.', dots_of(set))?;
-    add_star(text, has_star(&set.old_row) && has_star(&set.new_row))
+    add_star(text, is_open(set))
+}
+
+/// Whether further characters may follow.
+pub(crate) fn is_open(set: &NumberSet) -> bool
+    ensures { result ≡ (shape_of set.now).star }
+{
+    has_star(&set.old_row) && has_star(&set.new_row)
 }
 
 /// A zone prefix as a pattern of all the digits, after the technology prefix that is taken off

@@ -13,16 +13,7 @@ use gk_terms::{Dialled, TechPrefix};
 use std::alloc::{AllocError, Global};
 
 /// The prefixes that both configurations declare, and that hop off in neither, each once, in the
-/// order in which the old one declares them, as a list.
-pub(crate) fn shared_text(alloc: Global, old: &Tables, new: &Tables) -> Result<Vec<u8>, AllocError>
-    ensures { IfOk result (λ text. text.items ≡ Spec.prefixes_text
-        (Spec.shared_prefixes old.now.commands new.now.commands)) }
-{
-    let prefixes = shared_prefixes(alloc, old, new)?;
-    prefixes_text(alloc, &prefixes)
-}
-
-/// The same prefixes.
+/// order in which the old one declares them.
 pub(crate) fn shared_prefixes(
     alloc: Global,
     old: &Tables,
@@ -138,7 +129,7 @@ fn prefix_in(command: &Command) -> Option<TechPrefix>
 }
 
 /// Prefixes, as a list.
-fn prefixes_text(alloc: Global, prefixes: &[TechPrefix]) -> Result<Vec<u8>, AllocError>
+pub(crate) fn prefixes_text(alloc: Global, prefixes: &[TechPrefix]) -> Result<Vec<u8>, AllocError>
     ensures { IfOk result (λ text. text.items ≡ Spec.prefixes_text prefixes.now) }
 {
     let mut list = Vec::new(alloc);

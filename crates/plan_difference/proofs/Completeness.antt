@@ -36,7 +36,7 @@ or_later : (a b : Bool) → b ≡ true → (a || b) ≡ true
 or_later true b h = refl
 or_later false b h = h
 
-among_at : (xs : List (List ℕ)) (place : ℕ) (x : List ℕ) → slice_get xs place ≡ Some x
+pub among_at : (xs : List (List ℕ)) (place : ℕ) (x : List ℕ) → slice_get xs place ≡ Some x
     → is_among xs x ≡ true
 among_at [] place x e = absurd (let bad : ⊥ = cc in bad)
 among_at (y ∷ ys) zero x e =
@@ -185,13 +185,13 @@ front_or_more (c ∷ front) rest (x ∷ l) h =
     by false e g rest' = absurd (true≢false (sym g))
 
 -- ---- dialled digits
-all_front : (p : ℕ → Bool) (u z : List ℕ) → list_all p (u ++ z) ≡ true → list_all p u ≡ true
+pub all_front : (p : ℕ → Bool) (u z : List ℕ) → list_all p (u ++ z) ≡ true → list_all p u ≡ true
 all_front p [] z h = refl
 all_front p (c ∷ u) z h =
     let a = and_parts (p c) (list_all p (u ++ z)) h in
     λ i. a.0 i && all_front p u z a.1 i
 
-all_starred : (p : ℕ → Bool) (u : List ℕ) (count : ℕ) → p 42 ≡ true → list_all p u ≡ true
+pub all_starred : (p : ℕ → Bool) (u : List ℕ) (count : ℕ) → p 42 ≡ true → list_all p u ≡ true
     → list_all p (starred u count) ≡ true
 all_starred p [] count star h = stars count
   where
@@ -365,7 +365,7 @@ group_is true s t p q = refl
 group_is false s t p q = refl
 
 -- a technology prefix that is listed and passes is among those that pass
-has_kept : {X : Type 0} (test : X → Bool) (xs : List X) (place : ℕ) (x : X)
+pub has_kept : {X : Type 0} (test : X → Bool) (xs : List X) (place : ℕ) (x : X)
     → slice_get xs place ≡ Some x → test x ≡ true → Has (filter test xs) x
 has_kept test [] place x at h = absurd (let bad : ⊥ = cc in bad)
 has_kept {X} test (y ∷ ys) zero x at h =

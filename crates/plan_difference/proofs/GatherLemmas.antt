@@ -42,10 +42,10 @@ item_at [] place x e h = absurd (omega (arith, h))
 item_at (y ∷ xs) zero x e h = ap (λ z. Some z) (sym e)
 item_at (y ∷ xs) (suc place) x e h = item_at xs place x e (omega (arith, h))
 
-has_from : {X : Type 0} (xs : List X) (x : X) → Contains xs x → Has xs x
+pub has_from : {X : Type 0} (xs : List X) (x : X) → Contains xs x → Has xs x
 has_from xs x c = record { place = c.0; stands = item_at xs c.0 x (sym c.2) c.1 }
 
-contains_from : {X : Type 0} (xs : List X) (place : ℕ) (x : X) → slice_get xs place ≡ Some x
+pub contains_from : {X : Type 0} (xs : List X) (place : ℕ) (x : X) → slice_get xs place ≡ Some x
     → Contains xs x
 contains_from [] place x e = absurd (let bad : ⊥ = cc in bad)
 contains_from (y ∷ xs) zero x e = (0, omega arith, ap (λ o. unwrap_or o x) e)

@@ -1,11 +1,16 @@
 pub mod Beginnings
+pub mod BlockedLemmas
 pub mod ChangeLemmas
+pub mod ChoosingLemmas
 pub mod Completeness
 pub mod EntryLemmas
 pub mod Finding
 pub mod GatherLemmas
+pub mod JointHeads
+pub mod JointLemmas
 pub mod Lookups
 pub mod OrderLemmas
+pub mod PassedLemmas
 pub mod Plans
 pub mod Priorities
 pub mod SetLaws

@@ -7,12 +7,14 @@ use Rattle.gk_terms.specs.Dialled.{IsDialled}
 use Rattle.digit_patterns.specs.PatternParts.{PatternParts}
 use Rattle.command_reader.specs.declared.commands.Command.{Command}
 use Rattle.plan_difference.specs.declared.number_sets.NumberSet.{NumberSet}
+use Rattle.plan_difference.specs.Blocked.{AreJoint}
 use Rattle.plan_difference.specs.Difference.{AreClasses, IsCovered, StandsAt}
 use Rattle.plan_difference.specs.Entries.{Entry, Entries, EntryAt, AreOnce, HaveDigits, Grows, IsEntered}
 use Rattle.plan_difference.specs.Gathered.{AreGathered, IsSettled, Has, HasPrefixes, HasPatterns, AreLiteral, AreClean, joint, is_joint_head}
 use Rattle.plan_difference.specs.Sets.{set_of}
 use Rattle.plan_difference.specs.Walk.{Heads, SettlesStem, SettlesPatterns, SettlesHead}
 use Rattle.plan_difference.proofs.Completeness.{in_entries}
+use Rattle.plan_difference.proofs.JointHeads.{are_joint_heads}
 use Rattle.plan_difference.proofs.WalkLemmas.{stem_on, patterns_on}
 
 -- ---- entries and their sets
@@ -124,7 +126,8 @@ module _ (old new : List Command) (heads : Heads) (patterns : List PatternParts)
       → joint_heads ≡ kept → joint_patterns ≡ patterns → own_heads ≡ heads
       → own_patterns ≡ patterns
       → SettlesStem old new between joint_heads joint []
-      → SettlesPatterns old new between joint_heads joint [] joint_patterns
+      → (AreJoint old new joint_heads
+      → SettlesPatterns old new between joint_heads joint [] joint_patterns)
       → AreLiteral joint_patterns
       → ((place : ℕ) (head : Option (List ℕ)) → slice_get own_heads place ≡ Some head
       → SettlesHead old new after own_patterns head)
@@ -142,7 +145,10 @@ module _ (old new : List Command) (heads : Heads) (patterns : List PatternParts)
       }) kept (k ∙ ap (filter (is_joint_head old new)) l)
       (subst (λ l. SettlesStem old new between l joint []) e alone)
       (subst (λ l. SettlesPatterns old new between l joint [] patterns) e
-      (subst (SettlesPatterns old new between hs joint []) f by_patterns))
+      (subst (SettlesPatterns old new between hs joint []) f
+      (by_patterns (subst (AreJoint old new) (sym e)
+      (are_joint_heads old new heads kept p q (subst AreClean g clean)
+      (k ∙ ap (filter (is_joint_head old new)) l))))))
       (subst (λ l. (place : ℕ) (head : Option (List ℕ)) → slice_get l place ≡ Some head
       → SettlesHead old new after patterns head) g
       (subst (λ l. (place : ℕ) (head : Option (List ℕ)) → slice_get ks place ≡ Some head

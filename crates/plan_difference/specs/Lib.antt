@@ -1,3 +1,4 @@
+pub mod Blocked
 pub mod Destination
 pub mod Difference
 pub mod Entries

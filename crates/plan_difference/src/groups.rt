@@ -2,6 +2,7 @@
 
 ghost use Rattle.std.specs.Prelude.{◌≡◌, ◌∷◌, ◌≤◌, [], OnOk, IfSome, Some, ℕ, List, Option, true, false, length, drop, slice_get};
 ghost use Rattle.compiler.specs.Technology.{technology_of, found_length};
+ghost use Rattle.plan_difference.specs.Blocked.{AreJoint};
 ghost use Rattle.plan_difference.specs.Entries.{Grows};
 ghost use Rattle.plan_difference.specs.Gathered.{AreClean, AreLiteral, has_no_star, joint};
 ghost use Rattle.plan_difference.specs.Order.{Adds, AddsInOrder, IsGroupOf, IsGroupOfHead, IsOf};
@@ -9,17 +10,19 @@ ghost use Rattle.plan_difference.specs.Sets.{hops_off, is_joint};
 ghost use Rattle.plan_difference.specs.Walk.{SettlesStem, SettlesPatterns, SettlesGroup, SettlesHead};
 
 use crate::classing::{found_length, hops_off, is_joint};
+use crate::joint_walk::add_joint_patterns;
 use crate::number_sets::Group;
 use crate::sets::Sets;
 use crate::walk::{add_patterns, add_stem};
 use compiler::Tables;
 use digit_patterns::Pattern;
 use gk_terms::{Dialled, TechPrefix};
-use std::alloc::AllocError;
+use std::alloc::{AllocError, Global};
 
 /// Adds the sets of the joint group, after these technology prefixes.
 pub(crate) fn add_joint(
     sets: &mut Sets,
+    alloc: Global,
     old: &Tables,
     new: &Tables,
     heads: &[Option<TechPrefix>],
@@ -29,8 +32,9 @@ pub(crate) fn add_joint(
     ensures adds { OnOk result (Adds (IsOf joint heads.now) sets.old sets.new) }
     ensures alone { OnOk result (SettlesStem old.now.commands new.now.commands sets.new
         heads.now joint []) }
-    ensures joint_patterns { OnOk result (SettlesPatterns old.now.commands new.now.commands
-        sets.new heads.now joint [] patterns.now) }
+    ensures joint_patterns { OnOk result (AreJoint old.now.commands new.now.commands heads.now
+        → SettlesPatterns old.now.commands new.now.commands sets.new heads.now joint []
+        patterns.now) }
     ensures literal { OnOk result (AreLiteral patterns.now) }
 {
     let group = Group {
@@ -38,7 +42,7 @@ pub(crate) fn add_joint(
         new: None,
     };
     add_stem(sets, old, new, heads, &group, b"")?;
-    add_patterns(sets, old, new, heads, &group, b"", patterns)
+    add_joint_patterns(sets, alloc, old, new, heads, patterns)
 }
 
 #[tactic(auto, using(crate::proofs::OrderLemmas::none_in_order))]

@@ -71,7 +71,10 @@ fn is_pick(
 }
 
 /// The longer of two technology prefixes, the first if they are as long; none if there is none.
-fn longer_of(technology: &Option<TechPrefix>, other: &Option<TechPrefix>) -> Option<TechPrefix>
+pub(crate) fn longer_of(
+    technology: &Option<TechPrefix>,
+    other: &Option<TechPrefix>,
+) -> Option<TechPrefix>
     ensures { result ≡ longer_of technology.now other.now }
 {
     match technology {

@@ -3,5 +3,5 @@ use Rattle.difference_report.specs.ReportText.{wider}
 use Rattle.difference_report.proofs.blocks.width_of.Given as goal
 
 abbrev pub invariant-loop-place : goal.invariant-loop-place
-invariant-loop-place l = l.width ≡ fold (wider l.old.commands l.new.commands l.group) 0
+invariant-loop-place l = l.width ≡ fold (wider l.found.old l.found.new l.group) 0
     (take l.place l.sets)

@@ -1,0 +1,5 @@
+use Rattle.difference_report.proofs.LengthLaws.{lengths_are_told}
+use Rattle.difference_report.proofs.laws.lengths_are_told.Goals as goal
+
+pub returns : goal.returns
+returns c = lengths_are_told
