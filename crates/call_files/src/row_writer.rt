@@ -105,6 +105,10 @@ impl RowWriter {
 
     /// Sends what waits. Nothing waits any more, not even after a fault: then the writer has taken
     /// a front of it. `WriteFault` comes only if the writer fails in this call.
+    ///
+    /// In a function of its own, since a row writer is some 8 KB: a row that is only added clears no
+    /// place for another one.
+    #[inline(never)]
     pub fn send<W: Sink>(&mut self, writer: &mut W) -> Result<(), WriteRowsFault>
         ensures whole { OnOk result (Appends (W.contents writer.old) (W.contents writer.new)
             self.old) }
@@ -133,10 +137,19 @@ impl RowWriter {
                 Ok(())
             }
             Err(_) => {
-                self.batch = batch_over(Vec::new(self.alloc));
+                self.forget();
                 Err(AllocError)
             }
         }
+    }
+
+    /// Nothing waits any more.
+    #[cold]
+    #[inline(never)]
+    fn forget(&mut self)
+        ensures { self.new ≡ [] }
+    {
+        self.batch = batch_over(Vec::new(self.alloc));
     }
 
     /// Takes what waits.
