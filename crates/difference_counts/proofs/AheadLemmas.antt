@@ -1,13 +1,13 @@
 -- What a configuration finds for texts that go on from a front with a character.
 use Rattle.std.proofs.Common.{◌≡◌, ℕ, zero, suc, ◌-◌, ◌≤◌, ◌||◌, ◌==◌, ◌⊎◌, inl, inr, Bool, true, false, cond, List, [], ◌∷◌, ◌++◌, length, length-drop, drop, filter, slice_get, append-nil, refl, sym, ap, subst, ◌∙◌, true≢false}
-use Rattle.std.specs.Prelude.{Option, Some, None, Result, Ok, Err, IfOk, unwrap_or}
+use Rattle.std.specs.Prelude.{Option, Some, None, Result, Ok, Err, IfOk, unwrap_or, option_map}
 use Rattle.std.specs.List.{list_any, starts_with}
 use Rattle.digit_patterns.specs.PatternParts.{PatternParts}
 use Rattle.command_reader.specs.declared.commands.Command.{Command}
-use Rattle.compiler.specs.Rows.{ZoneRow, rows_of}
+use Rattle.compiler.specs.Rows.{ZoneRow, rows_of, row_for}
 use Rattle.compiler.specs.Technology.{technology_of, prefixes_of, found_length}
 use Rattle.plan_difference.specs.Gathered.{Has}
-use Rattle.plan_difference.specs.Sets.{hops_off, set_of, set_by, is_joint}
+use Rattle.plan_difference.specs.Sets.{hops_off, row_after, pattern_used, set_of, set_by, is_joint}
 use Rattle.plan_difference.specs.Walk.{starred}
 use Rattle.plan_difference.proofs.Lookups.{PrefixesStay, LiteralsStay, RowsStay, FindsSame, finds_same, same_technology_found, drop_front}
 use Rattle.plan_difference.proofs.Finding.{found_within}
@@ -52,16 +52,36 @@ kept {X} test (y ∷ ys) (suc place) x at passes = by (test y) (kept test ys pla
     by false there = there
 
 -- ---- nothing goes on with a character
-module _ (commands : List Command) (front : List ℕ) (technology : Option (List ℕ))
-    (prefixes : List (List ℕ)) (patterns : List PatternParts) (literal : AreLiteral commands)
-    (ahead : IsAhead commands front technology prefixes patterns)
-    (known : technology ≡ technology_of commands front) (character : ℕ)
-    (no_prefix : list_any (has_at (length front) character) prefixes ≡ false)
-    (no_pattern : list_any (pattern_has_at (length front - found_length technology) character)
-    patterns ≡ false) (rest : List ℕ) where
-  abbrev taken : ℕ
-  taken = found_length technology
+-- no literals that begin a text go past it
+module _ (commands : List Command) (text : List ℕ) (patterns : List PatternParts)
+    (literal : AreLiteral commands)
+    (on : (place : ℕ) (row : ZoneRow) → slice_get (rows_of commands) place ≡ Some row
+    → starts_with ◌==◌ row.0.literals text ≡ true → Has patterns row.0)
+    (character : ℕ)
+    (no_pattern : list_any (pattern_has_at (length text) character) patterns ≡ false)
+    (rest : List ℕ) where
+  pub literals_end : LiteralsStay (rows_of commands) text (character ∷ rest)
+  literals_end = record {
+    stay = λ place row at. (
+      literal.rows place row at,
+      λ b. by place row at (short_or_on text rest row.0.literals character b),
+    );
+  }
+    where
+      by : (place : ℕ) (row : ZoneRow) → slice_get (rows_of commands) place ≡ Some row
+          → (length row.0.literals ≤ length text) ⊎ GoesOn text row.0.literals character
+          → length row.0.literals ≤ length text
+      by place row at (inl short) = short
+      by place row at (inr more) =
+          let there = on place row at more.begins in
+          absurd (none_there (pattern_has_at (length text) character) patterns there.place
+          row.0 there.stands no_pattern more.next)
 
+module _ (commands : List Command) (front : List ℕ) (technology : Option (List ℕ))
+    (prefixes : List (List ℕ)) (literal : AreLiteral commands)
+    (at_front : IsAt commands front technology prefixes) (character : ℕ)
+    (no_prefix : list_any (has_at (length front) character) prefixes ≡ false)
+    (rest : List ℕ) where
   prefixes_stay : PrefixesStay (prefixes_of commands) front (character ∷ rest)
   prefixes_stay = record {
     stay = λ place prefix at. (
@@ -76,46 +96,50 @@ module _ (commands : List Command) (front : List ℕ) (technology : Option (List
           → length prefix ≤ length front
       by place prefix at (inl short) = short
       by place prefix at (inr on) =
-          let there = ahead.prefixes_on place prefix at on.begins in
+          let there = at_front.ahead.prefixes_on place prefix at on.begins in
           absurd (none_there (has_at (length front) character) prefixes there.place prefix
           there.stands no_prefix on.next)
 
-  found_is : technology_of commands (front ++ character ∷ rest) ≡ technology
+  pub found_is : technology_of commands (front ++ character ∷ rest) ≡ technology
   found_is =
       same_technology_found commands front (character ∷ rest) 0 prefixes_stay
-      ∙ ap (technology_of commands) (append-nil front) ∙ sym known
+      ∙ ap (technology_of commands) (append-nil front) ∙ sym at_front.known
 
-  literals_stay : hops_off commands technology ≡ false
-      → LiteralsStay (rows_of commands) (drop taken front) (character ∷ rest)
-  literals_stay stays = record {
-    stay = λ place row at. (
-      literal.rows place row at,
-      λ b. by place row at (short_or_on (drop taken front) rest
-          row.0.literals character b),
-    );
-  }
-    where
-      by : (place : ℕ) (row : ZoneRow) → slice_get (rows_of commands) place ≡ Some row
-          → (length row.0.literals ≤ length (drop taken front))
-          ⊎ GoesOn (drop taken front) row.0.literals character
-          → length row.0.literals ≤ length (drop taken front)
-      by place row at (inl short) = short
-      by place row at (inr on) =
-          let there = ahead.patterns_on stays place row at on.begins in
-          absurd (none_there (pattern_has_at (length front - taken) character) patterns there.place
-          row.0 there.stands no_pattern
-          (ap (λ n. has_at n character row.0.literals) (sym (length-drop taken front)) ∙ on.next))
+  -- the zone prefix goes by what is after the technology prefix
+  pub pattern_after : hops_off commands technology ≡ false
+      → pattern_used commands (front ++ character ∷ rest)
+      ≡ option_map (λ row. row.0)
+      (row_for commands (drop (found_length technology) front ++ character ∷ rest))
+  pattern_after stays =
+      ap (option_map (λ row. row.0))
+      (ap (λ t. row_after commands t (front ++ character ∷ rest)) found_is
+      ∙ ap (λ hops. cond hops None
+      (row_for commands (drop (found_length technology) (front ++ character ∷ rest)))) stays
+      ∙ ap (row_for commands)
+      (drop_front (found_length technology) front (character ∷ rest) at_front.ahead.within))
 
-  rows_stay : RowsStay commands front (character ∷ rest)
-  rows_stay = record {
-    within = subst (λ t. found_length t ≤ length front) (sym found_is) ahead.within;
-    rows = subst (λ t. hops_off commands t ≡ false
-        → LiteralsStay (rows_of commands) (drop (found_length t) front) (character ∷ rest))
-        (sym found_is) literals_stay;
-  }
+  module _ (patterns : List PatternParts) (on : HasPatternsOn commands front technology patterns)
+      (no_pattern : list_any (pattern_has_at (length front - found_length technology) character)
+      patterns ≡ false) where
+    literals_stay : hops_off commands technology ≡ false
+        → LiteralsStay (rows_of commands) (drop (found_length technology) front)
+        (character ∷ rest)
+    literals_stay stays =
+        literals_end commands (drop (found_length technology) front) patterns literal (on stays)
+        character
+        (ap (λ n. list_any (pattern_has_at n character) patterns)
+        (length-drop (found_length technology) front) ∙ no_pattern) rest
 
-  pub finds : FindsSame commands front (character ∷ rest)
-  finds = finds_same commands front (character ∷ rest) prefixes_stay rows_stay
+    rows_stay : RowsStay commands front (character ∷ rest)
+    rows_stay = record {
+      within = subst (λ t. found_length t ≤ length front) (sym found_is) at_front.ahead.within;
+      rows = subst (λ t. hops_off commands t ≡ false
+          → LiteralsStay (rows_of commands) (drop (found_length t) front) (character ∷ rest))
+          (sym found_is) literals_stay;
+    }
+
+    pub finds : FindsSame commands front (character ∷ rest)
+    finds = finds_same commands front (character ∷ rest) prefixes_stay rows_stay
 
 -- both configurations find the same, so the set is the same
 pub same_set_of : (old new : List Command) (front : List ℕ) (character : ℕ) (rest : List ℕ)
@@ -128,51 +152,55 @@ same_set_of old new front character rest f g =
 
 -- ---- what goes on with a character
 module _ (commands : List Command) (front : List ℕ) (technology : Option (List ℕ))
-    (prefixes : List (List ℕ)) (patterns : List PatternParts)
-    (ahead : IsAhead commands front technology prefixes patterns) (character : ℕ) where
-  abbrev longer : List ℕ
-  longer = front ++ character ∷ []
-
-  pub prefixes_next : HasPrefixesOn commands longer
+    (prefixes : List (List ℕ)) (ahead : IsAhead commands front technology prefixes)
+    (character : ℕ) where
+  pub prefixes_next : HasPrefixesOn commands (front ++ character ∷ [])
       (filter (has_at (length front) character) prefixes)
   prefixes_next place prefix at begins =
       let on = goes_on_from front prefix character begins in
       let there = ahead.prefixes_on place prefix at on.begins in
       kept (has_at (length front) character) prefixes there.place prefix there.stands on.next
 
+-- with the same technology prefix
+module _ (commands : List Command) (front : List ℕ) (technology : Option (List ℕ))
+    (patterns : List PatternParts) (within : found_length technology ≤ length front)
+    (on : HasPatternsOn commands front technology patterns) (character : ℕ) where
   abbrev taken_off : ℕ
   taken_off = found_length technology
 
-  -- with the same technology prefix
   pub patterns_next : (found : Option (List ℕ)) → found ≡ technology
-      → HasPatternsOn commands longer found
+      → HasPatternsOn commands (front ++ character ∷ []) found
       (filter (pattern_has_at (length front - found_length technology) character) patterns)
   patterns_next found e =
-      subst (λ t. HasPatternsOn commands longer t
+      subst (λ t. HasPatternsOn commands (front ++ character ∷ []) t
       (filter (pattern_has_at (length front - taken_off) character) patterns)) (sym e)
       (λ stays place row at begins. by place row at
       (goes_on_from (drop taken_off front) row.0.literals character
       (ap (starts_with ◌==◌ row.0.literals)
-      (sym (drop_front taken_off front (character ∷ []) ahead.within)) ∙ begins))
+      (sym (drop_front taken_off front (character ∷ []) within)) ∙ begins))
       stays)
     where
       by : (place : ℕ) (row : ZoneRow) → slice_get (rows_of commands) place ≡ Some row
           → GoesOn (drop taken_off front) row.0.literals character
           → hops_off commands technology ≡ false
           → Has (filter (pattern_has_at (length front - taken_off) character) patterns) row.0
-      by place row at on stays =
-          let there = ahead.patterns_on stays place row at on.begins in
+      by place row at more stays =
+          let there = on stays place row at more.begins in
           kept (pattern_has_at (length front - taken_off) character) patterns there.place row.0
           there.stands
           (ap (λ n. has_at n character row.0.literals) (sym (length-drop taken_off front)) ∙
-          on.next)
+          more.next)
 
--- with another one all patterns are ahead
-pub patterns_all : (commands : List Command) (front : List ℕ) (found : Option (List ℕ))
+-- with another one all patterns that begin with what is after it are ahead
+pub patterns_from : (commands : List Command) (text : List ℕ) (found : Option (List ℕ))
     (patterns : List PatternParts) → HasPatternsOn commands [] None patterns
-    → HasPatternsOn commands front found patterns
-patterns_all commands front found patterns whole stays place row at begins =
-    whole refl place row at refl
+    → HasPatternsOn commands text found
+    (filter (λ pattern. starts_with ◌==◌ pattern.literals (drop (found_length found) text))
+    patterns)
+patterns_from commands text found patterns whole stays place row at begins =
+    let there = whole refl place row at refl in
+    kept (λ pattern. starts_with ◌==◌ pattern.literals (drop (found_length found) text)) patterns
+    there.place row.0 there.stands begins
 
 -- and if that hops off, none need be
 pub patterns_none : (commands : List Command) (front : List ℕ) (found : Option (List ℕ))
@@ -186,23 +214,19 @@ pub found_next : (commands : List Command) (text : List ℕ) (found : Option (Li
 found_next commands text found e = found_within commands text found (sym e)
 
 pub at_next : (commands : List Command) (front : List ℕ) (technology : Option (List ℕ))
-    (prefixes : List (List ℕ)) (patterns : List PatternParts)
-    → IsAhead commands front technology prefixes patterns → (character : ℕ)
+    (prefixes : List (List ℕ)) → IsAhead commands front technology prefixes → (character : ℕ)
     → (text : List ℕ) → text ≡ front ++ character ∷ []
     → (found : Option (List ℕ)) → found ≡ technology_of commands text
     → (kept_prefixes : List (List ℕ))
     → kept_prefixes ≡ filter (has_at (length front) character) prefixes
-    → (kept_patterns : List PatternParts)
-    → HasPatternsOn commands (front ++ character ∷ []) found kept_patterns
-    → IsAt commands text found kept_prefixes kept_patterns
-at_next commands front technology prefixes patterns ahead character text e found known
-    kept_prefixes f kept_patterns on = record {
+    → IsAt commands text found kept_prefixes
+at_next commands front technology prefixes ahead character text e found known kept_prefixes f =
+    record {
       ahead = record {
         within = found_next commands text found known;
         prefixes_on = subst (λ t. HasPrefixesOn commands t kept_prefixes) (sym e)
             (subst (HasPrefixesOn commands (front ++ character ∷ [])) (sym f)
-            (prefixes_next commands front technology prefixes patterns ahead character));
-        patterns_on = subst (λ t. HasPatternsOn commands t found kept_patterns) (sym e) on;
+            (prefixes_next commands front technology prefixes ahead character));
       };
       known = known;
     }

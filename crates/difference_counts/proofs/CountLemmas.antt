@@ -24,7 +24,7 @@ use Rattle.plan_difference.proofs.EntryLemmas.{same_texts}
 use Rattle.difference_counts.specs.Counted.{number_in, numbers_in}
 use Rattle.difference_counts.specs.Numbers.{CHARACTERS, up_to, how_many}
 use Rattle.difference_counts.specs.Places.{is_just}
-use Rattle.difference_counts.specs.Walk.{GrewBy, place_of, is_placed, below, first_below, all_shorter, shared_below, IsShared}
+use Rattle.difference_counts.specs.Walk.{GrewBy, place_of, below, first_below}
 
 -- ---- the test of two sets
 same_patterns : (x y : Option PatternParts) → option_eq same_pattern x y ≡ true → x ≡ y
@@ -185,8 +185,8 @@ sum_zeros (suc count) =
 module _ (old new : List Command) (sets : List NumberSet) (apart : AreApart sets) (place : ℕ)
     (set : NumberSet) (at : slice_get sets place ≡ Some set) where
   placed_is : (text : List ℕ)
-      → is_placed old new sets place text ≡ same_set (set_of old new text) set
-  unfolding is_placed place_of
+      → is_just place (place_of old new sets text) ≡ same_set (set_of old new text) set
+  unfolding place_of
   placed_is text =
       only_place (same_set (set_of old new text)) sets place set at
       (λ one other y z first second passes also.
@@ -197,14 +197,14 @@ module _ (old new : List Command) (sets : List NumberSet) (apart : AreApart sets
       some_set : {y z : NumberSet} → y ≡ z → Some y ≡ Some z
       some_set e = ap (λ s. Some s) e
 
-  first_below_is : first_below old new sets place ≡ number_in old new set
+  first_below_is : first_below (place_of old new sets) place ≡ number_in old new set
   unfolding first_below below how_many
   first_below_is =
       λ i. sum_by (λ first. up_to 31 (λ rest. placed_is (first ∷ rest) i)) CHARACTERS
 
 pub numbers_are : (old new : List Command) (entries : Entries) (numbers : List ℕ) (count : ℕ)
     → count ≡ length entries → length numbers ≡ count → AreOnce entries
-    → GrewBy (replicate count 0) numbers (first_below old new (keys_of entries))
+    → GrewBy (replicate count 0) numbers (first_below (place_of old new (keys_of entries)))
     → numbers ≡ numbers_in old new entries
 numbers_are old new entries numbers count size again once grew =
     same_numbers (number_in old new) (keys_of entries) numbers
@@ -219,40 +219,13 @@ numbers_are old new entries numbers count size again once grew =
         let low : place < length (replicate {A = ℕ} count 0) =
         omega (arith, within, keys, zeros, size) in
         let whole : get_or numbers place 0
-        ≡ get_or (replicate count 0) place 0 + first_below old new (keys_of entries) place =
+        ≡ get_or (replicate count 0) place 0
+        + first_below (place_of old new (keys_of entries)) place =
         grew place low in
         let zero_there = zero_at count place in
         let number = first_below_is old new (keys_of entries) (are_apart entries once) place set at
         in
         omega (arith, whole, zero_there, number)
-
--- the numbers of the texts that go on from a front are those for any such front
-pub shared_from : (old new : List Command) (sets : List NumberSet) (front : List ℕ) (most : ℕ)
-    (count : ℕ) (start numbers : List ℕ) → start ≡ replicate count 0 → count ≡ length sets
-    → length numbers ≡ length start → GrewBy start numbers (below old new sets front most)
-    → ((place : ℕ) → below old new sets front most place ≡ shared_below old new sets most place)
-    → sum numbers ≤ sum start + all_shorter (most + 1) → IsShared old new sets most numbers
-shared_from old new sets front most count start numbers zeros size again grew same bounded =
-    record {
-      size = again ∙ start_size ∙ size;
-      counted = λ place h. by place h;
-      bounded =
-          let none : sum start ≡ 0 = ap sum zeros ∙ sum_zeros count in
-          omega (arith, none, bounded);
-    }
-  where
-    start_size : length start ≡ count
-    start_size = ap length zeros ∙ length-replicate {A = ℕ} count 0
-
-    by : (place : ℕ) → place < length sets
-        → get_or numbers place 0 ≡ shared_below old new sets most place
-    by place h =
-        let e = start_size in
-        let a = grew place (let w : place < length start = omega (arith, e, size, h) in w) in
-        let b : get_or start place 0 ≡ 0 =
-        ap (λ l. get_or l place 0) zeros ∙ zero_at count place in
-        let d = same place in
-        omega (arith, a, b, d)
 
 -- no set has no number
 pub none_in : (old new : List Command) (entries : Entries) → (length entries == 0) ≡ true

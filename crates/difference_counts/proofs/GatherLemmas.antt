@@ -37,14 +37,12 @@ module _ (commands : List Command) where
   rows_ahead : HasPatternsOn commands [] None (patterns_of commands)
   rows_ahead stays place row at begins = has_patterns place row at
 
-  pub all_ahead : (prefixes : List (List ℕ)) (patterns : List PatternParts)
-      → prefixes ≡ prefixes_of commands → patterns ≡ patterns_of commands
-      → IsAhead commands [] None prefixes patterns
-  all_ahead prefixes patterns e f = record {
+  pub all_ahead : (prefixes : List (List ℕ)) → prefixes ≡ prefixes_of commands
+      → IsAhead commands [] None prefixes
+  all_ahead prefixes e = record {
     within = omega arith;
     prefixes_on = λ place prefix at begins.
         record { place = place; stands = ap (λ l. slice_get l place) e ∙ at };
-    patterns_on = subst (HasPatternsOn commands [] None) (sym f) rows_ahead;
   }
 
   pub all_whole : (prefixes : List (List ℕ)) (patterns : List PatternParts)

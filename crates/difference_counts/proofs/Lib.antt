@@ -1,9 +1,13 @@
 pub mod AheadLemmas
+pub mod BranchLemmas
 pub mod FrontLemmas
 pub mod GatherLemmas
+pub mod JointLemmas
 pub mod NumberLemmas
+pub mod SumLemmas
 pub mod TextLemmas
+pub mod VisitLemmas
 pub mod WalkLemmas
 pub mod CountLemmas
 pub mod PlaceLemmas
-pub mod SharedLemmas
+pub mod RestLemmas

@@ -49,3 +49,14 @@ goes_on_from (y ∷ front) (x ∷ text) character h =
     let parts = and_parts (y == x) (begins text (front ++ character ∷ [])) h in
     let on = goes_on_from front text character parts.1 in
     record { begins = λ i. parts.0 i && on.begins i; next = on.next }
+
+-- what goes on from a front with a character begins with both
+pub begins_on : (front text : List ℕ) (character : ℕ) → begins text front ≡ true
+    → has_at (length front) character text ≡ true
+    → begins text (front ++ character ∷ []) ≡ true
+begins_on [] [] character h e = absurd (true≢false (sym e))
+begins_on [] (x ∷ text) character h e = λ i. swapped x character e i && true
+begins_on (y ∷ front) [] character h e = absurd (true≢false (sym h))
+begins_on (y ∷ front) (x ∷ text) character h e =
+    let parts = and_parts (y == x) (begins text front) h in
+    λ i. parts.0 i && begins_on front text character parts.1 e i

@@ -1,12 +1,13 @@
 -- What of a configuration goes on from a front of dialled characters.
-use Rattle.std.specs.Prelude.{◌≡◌, ℕ, ◌-◌, ◌≤◌, ◌==◌, ◌||◌, Bool, true, false, List, [], length, drop, slice_get, Option, Some, None, nat_le}
-use Rattle.std.specs.List.{list_all, list_any, starts_with}
+use Rattle.std.specs.Prelude.{◌≡◌, ℕ, ◌-◌, ◌<◌, ◌≤◌, ◌==◌, ◌||◌, Bool, true, false, not, List, [], length, drop, get_or, slice_get, Option, Some, None}
+use Rattle.std.specs.List.{list_any, starts_with}
 use Rattle.digit_patterns.specs.PatternParts.{PatternParts}
 use Rattle.command_reader.specs.declared.commands.Command.{Command}
 use Rattle.compiler.specs.Rows.{ZoneRow, rows_of}
 use Rattle.compiler.specs.Technology.{prefixes_of, technology_of, found_length}
 use Rattle.plan_difference.specs.Gathered.{Has, has_no_star}
-use Rattle.plan_difference.specs.Sets.{hops_off}
+use Rattle.plan_difference.specs.Sets.{hops_off, is_joint}
+use Rattle.difference_counts.specs.Numbers.{character_at}
 use Rattle.difference_counts.specs.Places.{has_at}
 
 -- whether the literals of a pattern have a character at a place
@@ -28,12 +29,11 @@ HasPatternsOn commands front technology patterns =
     → starts_with ◌==◌ row.0.literals (drop (found_length technology) front) ≡ true
     → Has patterns row.0
 
--- both
+-- the technology prefixes ahead of a front, for which this one is found
 pub record IsAhead (commands : List Command) (front : List ℕ) (technology : Option (List ℕ))
-    (prefixes : List (List ℕ)) (patterns : List PatternParts) : Type 0 where
+    (prefixes : List (List ℕ)) : Type 0 where
   pub within : found_length technology ≤ length front
   pub prefixes_on : HasPrefixesOn commands front prefixes
-  pub patterns_on : HasPatternsOn commands front technology patterns
 
 -- no technology prefix and no literals have a star
 pub record AreLiteral (commands : List Command) : Type 0 where
@@ -44,9 +44,22 @@ pub record AreLiteral (commands : List Command) : Type 0 where
 
 -- and the technology prefix is the one that is found for the front
 pub record IsAt (commands : List Command) (front : List ℕ) (technology : Option (List ℕ))
-    (prefixes : List (List ℕ)) (patterns : List PatternParts) : Type 0 where
-  pub ahead : IsAhead commands front technology prefixes patterns
+    (prefixes : List (List ℕ)) : Type 0 where
+  pub ahead : IsAhead commands front technology prefixes
   pub known : technology ≡ technology_of commands front
+
+-- so for two configurations; of the patterns that go on none need be there if both have found the
+-- same technology prefix, or none, and in neither hop off with it
+pub record AreAt (old new : List Command) (front : List ℕ) (old_technology : Option (List ℕ))
+    (old_prefixes : List (List ℕ)) (old_patterns : List PatternParts)
+    (new_technology : Option (List ℕ)) (new_prefixes : List (List ℕ))
+    (new_patterns : List PatternParts) : Type 0 where
+  pub old_at : IsAt old front old_technology old_prefixes
+  pub new_at : IsAt new front new_technology new_prefixes
+  pub old_patterns_on : is_joint old new old_technology new_technology ≡ false
+      → HasPatternsOn old front old_technology old_patterns
+  pub new_patterns_on : is_joint old new old_technology new_technology ≡ false
+      → HasPatternsOn new front new_technology new_patterns
 
 -- all patterns of a configuration are among these, and nothing of it has a star
 pub record IsWhole (commands : List Command) (patterns : List PatternParts) : Type 0 where
@@ -63,10 +76,7 @@ has_next technology prefixes patterns count character =
 abbrev pub literal_pattern : PatternParts → Bool
 literal_pattern pattern = has_no_star pattern.literals
 
--- the technology prefix is the whole front, and no longer one begins with it; digits do not hop off
--- with it
-pub record IsEnd (commands : List Command) (front : List ℕ) (technology : Option (List ℕ))
-    (prefixes : List (List ℕ)) : Type 0 where
-  pub whole : technology ≡ Some front
-  pub stays : hops_off commands technology ≡ false
-  pub last : list_all (λ prefix. nat_le (length prefix) (length front)) prefixes ≡ true
+-- of each character, whether nothing goes on with it
+pub record AreEnds (goes_on : ℕ → Bool) (flags : List Bool) : Type 0 where
+  pub each : (number : ℕ) → number < 12
+      → get_or flags number false ≡ not (goes_on (character_at number))

@@ -1,4 +1,5 @@
 pub mod Ahead
+pub mod Branches
 pub mod Counted
 pub mod Laws
 pub mod Numbers

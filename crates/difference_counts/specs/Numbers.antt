@@ -1,10 +1,19 @@
 -- How many dialled texts pass a test.
-use Rattle.std.specs.Prelude.{ℕ, zero, suc, ◌+◌, Bool, List, [], ◌∷◌, cond}
+use Rattle.std.specs.Prelude.{ℕ, zero, suc, ◌+◌, Bool, List, [], ◌∷◌, cond, slice_index}
 use Rattle.std.specs.List.{sum_by}
 
 -- the characters that may be dialled: 0 to 9, the hash sign and the star
 abbrev pub CHARACTERS : List ℕ
 CHARACTERS = 48 ∷ 49 ∷ 50 ∷ 51 ∷ 52 ∷ 53 ∷ 54 ∷ 55 ∷ 56 ∷ 57 ∷ 35 ∷ 42 ∷ []
+
+-- the one of a number, 0 to 11
+abbrev pub character_at : ℕ → ℕ
+character_at number = slice_index CHARACTERS number
+
+-- the sum over all numbers that are less than this
+unfoldable pub sum_to : ℕ → (ℕ → ℕ) → ℕ
+sum_to zero f = 0
+sum_to (suc count) f = sum_to count f + f count
 
 -- 1 for what passes
 abbrev pub one_if : Bool → ℕ

@@ -16,7 +16,7 @@ use std::alloc::{AllocError, Global};
 /// All that is ahead of the empty front.
 pub(crate) fn all_of(alloc: Global, tables: &Tables) -> Result<Ahead, AllocError>
     ensures ahead { IfOk result (λ all. IsAhead tables.now.commands [] all.technology
-        all.prefixes.items all.patterns.items) }
+        all.prefixes.items) }
     ensures none { IfOk result (λ all. all.technology ≡ None) }
     ensures whole { IfOk result (λ all. IsWhole tables.now.commands all.patterns.items) }
 {

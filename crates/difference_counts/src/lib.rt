@@ -2,19 +2,21 @@
 #![tactic(auto)]
 
 mod ahead;
+mod branches;
 mod characters;
 mod counting;
 mod counts;
 mod gathering;
 mod held_sets;
-mod known;
 pub mod laws;
+mod lengths;
 mod notes;
 mod places;
-mod shared;
+mod rests;
 mod technologies;
 mod texts;
 mod walk;
+mod ways;
 
 pub use counting::count;
 pub use counts::Counts;

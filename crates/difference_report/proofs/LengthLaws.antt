@@ -1,5 +1,5 @@
 -- A set is said to have digits of another length exactly if it has some.
-use Rattle.std.proofs.Common.{◌≡◌, ℕ, zero, suc, ◌==◌, ◌&&◌, ◌||◌, not, ◌-◌, ◌<◌, ◌≤◌, Bool, true, false, cond, nat_le, List, [], ◌∷◌, ◌++◌, length, refl, sym, ap, subst, ◌∙◌, arith, true≢false}
+use Rattle.std.proofs.Common.{◌≡◌, ℕ, zero, suc, ◌==◌, ◌&&◌, ◌||◌, not, ◌-◌, ◌<◌, ◌≤◌, Bool, true, false, cond, nat_le, List, [], ◌∷◌, ◌++◌, length, length-append, refl, sym, ap, subst, ◌∙◌, arith, true≢false}
 use Rattle.std.specs.Prelude.{Option, Some, None, bytes_eq}
 use Rattle.std.specs.List.{list_all, list_any}
 use Rattle.std.specs.Option.{option_eq}
@@ -22,10 +22,11 @@ use Rattle.difference_counts.specs.Ahead.{AreLiteral}
 use Rattle.difference_report.specs.Groups.{is_own}
 use Rattle.difference_report.specs.Headings.{shared_prefixes}
 use Rattle.difference_report.specs.Laws.{HasOther, LengthsAreTold}
-use Rattle.difference_report.specs.Lengths.{any_below, has_others, has_others_after, has_others_shared, is_other, is_other_text, is_other_with, length_after}
+use Rattle.difference_report.specs.Lengths.{any_below, has_others, has_others_after, has_others_with, has_rows, is_other, is_other_rest, is_other_text, is_other_with, is_rest, length_after, may_follow, other_count, rest_row}
 use Rattle.difference_report.specs.Shape.{shape_of}
-use Rattle.difference_report.proofs.Steps.{any_at}
-use Rattle.difference_report.proofs.LengthLemmas.{IsFilled, alike_without_star, any_shared, filled, is_filled, lead, set_if, z}
+use Rattle.difference_report.proofs.DialledLemmas.{fewer_stars, rest_is}
+use Rattle.difference_report.proofs.Steps.{IsLeast, any_at, least_of}
+use Rattle.difference_report.proofs.LengthLemmas.{IsFilled, alike_without_star, any_shared, filled, is_filled, lead, old_after, own_is, rest_rows, set_after, set_if, sizes, stars_after, stem, z}
 
 -- ---- tests
 or_first : (c d : Bool) → c ≡ true → (c || d) ≡ true
@@ -94,18 +95,28 @@ sets_same set other e =
     let q = patterns_same set.new_row other.new_row g.1 in
     λ i. record { old_technology = s i; new_technology = t i; old_row = p i; new_row = q i }
 
+row_itself : (row : Option PatternParts) → option_eq same_pattern row row ≡ true
+row_itself None = refl
+row_itself (Some pattern) = same_pattern-itself pattern
+
 pub set_itself : (set : NumberSet) → same_set set set ≡ true
 set_itself set =
     λ i. text set.old_technology i && (text set.new_technology i
-    && (pattern set.old_row i && pattern set.new_row i))
+    && (row_itself set.old_row i && row_itself set.new_row i))
   where
     text : (x : Option (List ℕ)) → option_eq bytes_eq x x ≡ true
     text None = refl
     text (Some x) = (bytes_eq-Decides x x).1 refl
 
-    pattern : (x : Option PatternParts) → option_eq same_pattern x x ≡ true
-    pattern None = refl
-    pattern (Some x) = same_pattern-itself x
+rows_are : (set : NumberSet) (old_row new_row : Option PatternParts) → old_row ≡ set.old_row
+    → new_row ≡ set.new_row
+    → (option_eq same_pattern old_row set.old_row && option_eq same_pattern new_row set.new_row)
+    ≡ true
+rows_are set old_row new_row e f =
+    and_from (option_eq same_pattern old_row set.old_row)
+    (option_eq same_pattern new_row set.new_row)
+    (ap (λ row. option_eq same_pattern row set.old_row) e ∙ row_itself set.old_row)
+    (ap (λ row. option_eq same_pattern row set.new_row) f ∙ row_itself set.new_row)
 
 -- ---- what is said is so
 module _ (old new : List Command) (entry : Entry) where
@@ -128,24 +139,41 @@ module _ (old new : List Command) (entry : Entry) where
       let some = some_below (is_other_with old new entry front) STARS h in
       from_text (starred (front ++ (shape_of entry.0).literals) some.one) some.passes
 
-  from_shared : has_others_shared old new entry ≡ true → HasOther old new entry
-  from_shared h = by (is_own (group_of entry.0)) h
-    where
-      by : (own : Bool)
-          → cond own false (list_any (has_others_after old new entry) (shared_prefixes old new))
-          ≡ true → HasOther old new entry
-      by true e = absurd (true≢false (sym e))
-      by false e =
-          let some = some_of (has_others_after old new entry) (shared_prefixes old new) e in
-          from_front some.one some.passes
+  module _ (count : ℕ) where
+    abbrev after : List ℕ → Bool
+    after front = is_other_with old new entry front count
+
+    from_after : (front : List ℕ) → after front ≡ true → HasOther old new entry
+    from_after front = from_text (starred (front ++ (shape_of entry.0).literals) count)
+
+    from_shared : list_any after (shared_prefixes old new) ≡ true → HasOther old new entry
+    from_shared h =
+        let some = some_of after (shared_prefixes old new) h in from_after some.one some.passes
+
+  from_with : (count : Option ℕ) → has_others_with old new entry count ≡ true
+      → HasOther old new entry
+  from_with None h = absurd (true≢false (sym h))
+  from_with (Some count) h =
+      one_of (after count (text_of (technology_of old entry.1)))
+      (has_others_after old new entry [] || list_any (after count) (shared_prefixes old new)) h
+      (from_after count (text_of (technology_of old entry.1)))
+      (λ others. one_of (has_others_after old new entry [])
+      (list_any (after count) (shared_prefixes old new)) others (from_front [])
+      (from_shared count))
 
   is_so : has_others old new entry ≡ true → HasOther old new entry
   unfolding has_others
   is_so h =
-      one_of (has_others_after old new entry []) (has_others_shared old new entry)
+      by (is_own (group_of entry.0))
       (and_parts (shape_of entry.0).star
-      (has_others_after old new entry [] || has_others_shared old new entry) h).1
-      (from_front []) from_shared
+      (cond (is_own (group_of entry.0)) (has_others_after old new entry [])
+      (has_others_with old new entry (other_count old new entry))) h).1
+    where
+      by : (own : Bool) → cond own (has_others_after old new entry [])
+          (has_others_with old new entry (other_count old new entry)) ≡ true
+          → HasOther old new entry
+      by true = from_front []
+      by false = from_with (other_count old new entry)
 
 -- ---- what is so is said
 module _ (old new : List Command) (old_literal : AreLiteral old) (new_literal : AreLiteral new)
@@ -204,32 +232,145 @@ module _ (old new : List Command) (old_literal : AreLiteral old) (new_literal : 
           any_at (is_other_with old new (set joint, digits) (lead old new x joint))
           (length (z old new x joint)) STARS few text_passes
 
+  -- of the joint group: with the least number of stars that may follow a technology prefix
+  module _ (e : is_joint old new (technology_of old x) (technology_of new x) ≡ true)
+      (differs : ¬ (length_after old (set true, x) ≡ length_after old (set true, digits))) where
+    abbrev known : ℕ
+    known = length_after old (set true, digits)
+
+    abbrev front : List ℕ
+    front = text_of (technology_of old x)
+
+    abbrev rest : ℕ → List ℕ
+    rest count = starred (stem old new x) count
+
+    abbrev whole : ℕ → List ℕ
+    whole count = starred (front ++ stem old new x) count
+
+    abbrev count : ℕ
+    count = length (z old new x true)
+
+    filled_is : IsFilled old new x true
+    filled_is = is_filled old new x old_literal new_literal true e
+
+    rest_length : length_after old (set true, x) ≡ length (rest count)
+    rest_length =
+        let size = filled_is.size in
+        let more = sizes old new x count in
+        (let is : length x - length front ≡ length (rest count) = omega (arith, size, more) in is)
+
+    rest_follows : may_follow old new (set true) known count ≡ true
+    unfolding may_follow
+    rest_follows =
+        and_from (not (length (rest count) == known))
+        (is_rest (rest count) && has_rows old new (set true) (rest count))
+        (other_number (length (rest count)) known (λ same. differs (rest_length ∙ same)))
+        (and_from (is_rest (rest count)) (has_rows old new (set true) (rest count))
+        (rest_is front (rest count)
+        (subst IsDialled (stars_after front (stem old new x) count) (filled_is.dialled dialled)))
+        (rows_are (set true) (rest_row old (rest count)) (rest_row new (rest count))
+        (rest_rows old new x old_literal new_literal e).0
+        (rest_rows old new x old_literal new_literal e).1))
+
+    least : IsLeast (may_follow old new (set true) known) STARS count
+    least =
+        least_of (may_follow old new (set true) known) count STARS (few true e differs)
+        rest_follows
+
+    least_is : other_count old new (set true, digits) ≡ Some least.one
+    unfolding other_count
+    least_is = least.is
+
+    least_follows : is_other_rest old new (set true) known (rest least.one) ≡ true
+    unfolding may_follow
+    least_follows = least.passes
+
+    least_rows : has_rows old new (set true) (rest least.one) ≡ true
+    least_rows =
+        (and_parts (is_rest (rest least.one)) (has_rows old new (set true) (rest least.one))
+        (and_parts (not (length (rest least.one) == known))
+        (is_rest (rest least.one) && has_rows old new (set true) (rest least.one))
+        least_follows).1).1
+
+    least_set : set_of old new (whole least.one) ≡ set true
+    least_set =
+        let rows = and_parts
+        (option_eq same_pattern (rest_row old (rest least.one)) (set true).old_row)
+        (option_eq same_pattern (rest_row new (rest least.one)) (set true).new_row) least_rows in
+        set_after old new x old_literal new_literal e least.one
+        (patterns_same (rest_row old (rest least.one)) (set true).old_row rows.0)
+        (patterns_same (rest_row new (rest least.one)) (set true).new_row rows.1)
+
+    least_length : length_after old (set true, whole least.one) ≡ length (rest least.one)
+    least_length =
+        let more = sizes old new x least.one in
+        ap (λ t. length (whole least.one) - length (text_of t))
+        (old_after old new x old_literal new_literal e least.one)
+        ∙ (let is : length (whole least.one) - length front ≡ length (rest least.one) =
+        omega (arith, more) in is)
+
+    least_passes : 1 ≤ length front
+        → is_other_with old new (set true, digits) front least.one ≡ true
+    unfolding is_other_text
+    least_passes some =
+        and_from (is_dialled (whole least.one))
+        (is_other old new (set true, digits) (whole least.one))
+        (fewer_stars (front ++ stem old new x) least.one count least.low
+        (let size = length-append front (stem old new x) in omega (arith, some, size))
+        (filled_is.dialled dialled))
+        (and_from (same_set (set_of old new (whole least.one)) (set true))
+        (not (length_after old (set true, whole least.one) == known))
+        (ap (λ s. same_set s (set true)) least_set ∙ set_itself (set true))
+        (ap (λ n. not (n == known)) least_length
+        ∙ (and_parts (not (length (rest least.one) == known))
+        (is_rest (rest least.one) && has_rows old new (set true) (rest least.one))
+        least_follows).0))
+
+    -- after the technology prefix of the other digits, unless that is empty
+    abbrev least_after : List ℕ → Bool
+    least_after text = is_other_with old new (set true, digits) text least.one
+
+    abbrev alone : Bool
+    alone = has_others_after old new (set true, digits) []
+
+    said_alone : front ≡ [] → (alone || list_any least_after (shared_prefixes old new)) ≡ true
+    said_alone h =
+        or_first alone (list_any least_after (shared_prefixes old new))
+        (ap (has_others_after old new (set true, digits)) (sym h) ∙ front_passes true e differs)
+
+    said_after : (t : Option (List ℕ)) → technology_of old x ≡ t
+        → (alone || list_any least_after (shared_prefixes old new)) ≡ true
+    said_after None f = said_alone (ap text_of f)
+    said_after (Some []) f = said_alone (ap text_of f)
+    said_after (Some (c ∷ prefix)) f =
+        or_second alone (list_any least_after (shared_prefixes old new))
+        (any_shared old new x (c ∷ prefix) least_after f e
+        (ap (λ t. least_after (text_of t)) (sym f)
+        ∙ least_passes (subst (λ t. 1 ≤ length (text_of t)) (sym f) (omega arith))))
+
+    said_joint : has_others_with old new (set true, digits)
+        (other_count old new (set true, digits)) ≡ true
+    said_joint =
+        ap (has_others_with old new (set true, digits)) least_is
+        ∙ or_second (least_after (text_of (technology_of old digits)))
+        (alone || list_any least_after (shared_prefixes old new))
+        (said_after (technology_of old x) refl)
+
   abbrev either : Bool → Bool
   either joint =
-      has_others_after old new (set joint, digits) []
-      || has_others_shared old new (set joint, digits)
+      cond (is_own (group_of (set joint))) (has_others_after old new (set joint, digits) [])
+      (has_others_with old new (set joint, digits) (other_count old new (set joint, digits)))
 
   said : (joint : Bool)
       → is_joint old new (technology_of old x) (technology_of new x) ≡ joint
       → ¬ (length_after old (set joint, x) ≡ length_after old (set joint, digits))
       → either joint ≡ true
   said false e differs =
-      or_first (has_others_after old new (set false, digits) [])
-      (has_others_shared old new (set false, digits)) (front_passes false e differs)
-  said true e differs = by (technology_of old x) refl (front_passes true e differs)
-    where
-      by : (t : Option (List ℕ)) → technology_of old x ≡ t
-          → has_others_after old new (set true, digits) (text_of (technology_of old x)) ≡ true
-          → either true ≡ true
-      by None f h =
-          or_first (has_others_after old new (set true, digits) [])
-          (has_others_shared old new (set true, digits))
-          (ap (λ t. has_others_after old new (set true, digits) (text_of t)) (sym f) ∙ h)
-      by (Some prefix) f h =
-          or_second (has_others_after old new (set true, digits) [])
-          (has_others_shared old new (set true, digits))
-          (any_shared old new x prefix (has_others_after old new (set true, digits)) f e
-          (ap (λ t. has_others_after old new (set true, digits) (text_of t)) (sym f) ∙ h))
+      ap (λ own. cond own (has_others_after old new (set false, digits) [])
+      (has_others_with old new (set false, digits) (other_count old new (set false, digits))))
+      (own_is old new x e)
+      ∙ front_passes false e differs
+  said true e differs = said_joint e differs
 
 -- ---- the law
 module _ (old new : List Command) (entry : Entry) (covers : Covers old new entry.0 entry.1)
@@ -240,22 +381,25 @@ module _ (old new : List Command) (entry : Entry) (covers : Covers old new entry
       absurd (other.differs (alike_without_star old new entry.0 other.digits entry.1
       other.covers.1 covers.1 e))
 
+  abbrev others : NumberSet → Bool
+  others set =
+      cond (is_own (group_of set)) (has_others_after old new (set, entry.1) [])
+      (has_others_with old new (set, entry.1) (other_count old new (set, entry.1)))
+
   is_said : AreLiteral old → AreLiteral new → has_others old new entry ≡ true
   unfolding has_others
   is_said old_literal new_literal =
-      and_from (shape_of entry.0).star
-      (has_others_after old new entry [] || has_others_shared old new entry)
-      (star (shape_of entry.0).star refl)
+      and_from (shape_of entry.0).star (others entry.0) (star (shape_of entry.0).star refl)
       (subst (λ (s : NumberSet).
-      ¬ (length_after old (s, other.digits) ≡ length_after old (s, entry.1))
-      → (has_others_after old new (s, entry.1) [] || has_others_shared old new (s, entry.1))
-      ≡ true) other.covers.1
+      ¬ (length_after old (s, other.digits) ≡ length_after old (s, entry.1)) → others s ≡ true)
+      other.covers.1
       (said old new old_literal new_literal entry.1 other.digits other.covers.0
       (is_joint old new (technology_of old other.digits) (technology_of new other.digits)) refl)
       other.differs)
 
-pub lengths_are_told : LengthsAreTold
-lengths_are_told old new entry old_literal new_literal covers = (
+pub lengths_are_told : (old new : List Command) → AreLiteral old → AreLiteral new
+    → LengthsAreTold old new
+lengths_are_told old new old_literal new_literal entry covers = (
   is_so old new entry,
   λ other. is_said old new entry covers other old_literal new_literal,
 )

@@ -1,6 +1,6 @@
 -- Whether a set has digits of another length.
-use Rattle.std.proofs.Common.{◌≡◌, ℕ, zero, suc, ◌==◌, ◌&&◌, ◌||◌, not, ◌+◌, ◌-◌, ◌<◌, ◌≤◌, Bool, true, false, cond, nat_lt, nat_le, List, [], ◌∷◌, ◌++◌, length, length-append, length-drop, drop, take-append-drop, append-nil, fold, refl, sym, ap, subst, ◌∙◌, arith, tests, true≢false}
-use Rattle.std.specs.Prelude.{Option, Some, None, option_map, is_some, replicate, unwrap_or, bytes_eq}
+use Rattle.std.proofs.Common.{◌≡◌, ℕ, ◌==◌, ◌&&◌, ◌||◌, not, ◌+◌, ◌-◌, ◌<◌, ◌≤◌, Bool, true, false, cond, nat_lt, nat_le, List, [], ◌∷◌, ◌++◌, length, length-append, length-drop, drop, take-append-drop, append-nil, fold, refl, sym, ap, subst, ◌∙◌, arith, tests, true≢false}
+use Rattle.std.specs.Prelude.{Option, Some, None, option_map, is_some, unwrap_or, bytes_eq}
 use Rattle.std.specs.List.{list_all, list_any, cons_option}
 use Rattle.std.specs.Option.{option_eq}
 use Rattle.std.proofs.lemmas.Bool.{and_parts, and_from}
@@ -19,17 +19,20 @@ use Rattle.compiler.specs.TablesIndex.{is_among}
 use Rattle.compiler.proofs.TechnologyLemmas.{begins_is, begins_within}
 use Rattle.compiler.proofs.LearnedLemmas.{IsLongestOf, is_longest, longest_from}
 use Rattle.plan_difference.specs.declared.number_sets.NumberSet.{NumberSet}
-use Rattle.plan_difference.specs.Sets.{hopoff_of, hops_off, is_joint, pattern_used, set_by, set_of}
+use Rattle.plan_difference.specs.Entries.{group_of}
+use Rattle.plan_difference.specs.Sets.{hopoff_of, hops_off, is_joint, pattern_used, row_after, set_by, set_of}
 use Rattle.plan_difference.specs.Walk.{starred, text_of}
 use Rattle.plan_difference.proofs.Beginnings.{begins}
 use Rattle.plan_difference.proofs.Finding.{found_within}
 use Rattle.plan_difference.proofs.Lookups.{FindsSame}
 use Rattle.plan_difference.proofs.Plans.{AreJoint, are_joint, none_is_joint}
 use Rattle.difference_counts.specs.Ahead.{AreLiteral}
+use Rattle.difference_report.specs.Groups.{is_own}
 use Rattle.difference_report.specs.Headings.{is_next, is_shared, shared_prefixes, takes_off, with_shared}
-use Rattle.difference_report.specs.Lengths.{front_of, length_after}
+use Rattle.difference_report.specs.Lengths.{front_of, length_after, rest_row}
 use Rattle.difference_report.specs.Shape.{longer, shape_of, whole}
-use Rattle.difference_report.proofs.RestLemmas.{finds_it, pattern_for, same_size}
+use Rattle.difference_report.proofs.DialledLemmas.{all_stars}
+use Rattle.difference_report.proofs.RestLemmas.{finds_it, found_after, pattern_for, same_size}
 
 -- ---- beginnings
 begins_itself : (front rest : List ℕ) → begins (front ++ rest) front ≡ true
@@ -121,19 +124,31 @@ module _ (commands : List Command) (digits : List ℕ) where
       let f = length-append (text_of found) pattern.literals in
       omega (arith, e, f)
 
+  within_literals : (u : List ℕ) → length (found_literals commands digits) ≤ length u
+      → found_length found ≤ length u
+  within_literals u long =
+      let low = literal_length (pattern_used commands digits) in omega (arith, low, long)
+
+  -- the technology prefix is found for a front that they are in, with any number of stars after it
+  pub finds_after : AreLiteral commands → (u z : List ℕ) → digits ≡ u ++ z
+      → length (found_literals commands digits) ≤ length u → (count : ℕ)
+      → technology_of commands (starred u count) ≡ found
+  finds_after literal u z parts long count =
+      found_after commands literal u z
+      (subst (λ x. found_length (technology_of commands x) ≤ length u) parts
+      (within_literals u long)) count
+      ∙ ap (technology_of commands) (sym parts)
+
   -- they are found for the front of digits that they are in, filled up with stars
   pub finds_filled : AreLiteral commands → (u z : List ℕ) → digits ≡ u ++ z
       → length (found_literals commands digits) ≤ length u → FindsSame commands u z
   finds_filled literal u z parts long =
       finds_it commands literal u z
-      (subst (λ x. found_length (technology_of commands x) ≤ length u) parts within)
+      (subst (λ x. found_length (technology_of commands x) ≤ length u) parts
+      (within_literals u long))
       (subst (λ x. (pattern : PatternParts) → pattern_used commands x ≡ Some pattern
       → found_length (technology_of commands x) + length pattern.literals ≤ length u) parts fits)
     where
-      within : found_length found ≤ length u
-      within =
-          let low = literal_length (pattern_used commands digits) in omega (arith, low, long)
-
       fits : (pattern : PatternParts) → pattern_used commands digits ≡ Some pattern
           → found_length found + length pattern.literals ≤ length u
       fits pattern e =
@@ -159,14 +174,40 @@ module _ (commands : List Command) (digits : List ℕ) where
       by true f h = absurd (true≢false f)
       by false f h = grind (arith, nat_tests)
 
+-- ---- what follows a technology prefix
+pub stars_after : (front stem : List ℕ) (count : ℕ)
+    → starred (front ++ stem) count ≡ front ++ starred stem count
+stars_after [] stem count = refl
+stars_after (c ∷ front) stem count = ap (λ t. c ∷ t) (stars_after front stem count)
+
+drop_prefix : (technology : Option (List ℕ)) (rest : List ℕ)
+    → drop (found_length technology) (text_of technology ++ rest) ≡ rest
+drop_prefix None rest = refl
+drop_prefix (Some prefix) rest = drop_it prefix
+  where
+    drop_it : (front : List ℕ) → drop (length front) (front ++ rest) ≡ rest
+    drop_it [] = refl
+    drop_it (c ∷ front) = drop_it front
+
+-- the zone prefix is looked up for it alone
+module _ (commands : List Command) (technology : Option (List ℕ)) (stem : List ℕ) (count : ℕ) where
+  abbrev prefixed : List ℕ
+  prefixed = starred (text_of technology ++ stem) count
+
+  used_after : technology_of commands prefixed ≡ technology → hopoff_of commands technology ≡ None
+      → pattern_used commands prefixed ≡ rest_row commands (starred stem count)
+  used_after is stays =
+      ap (λ t. option_map (λ (row : ZoneRow). row.0) (row_after commands t prefixed)) is
+      ∙ ap (λ zone. option_map (λ (row : ZoneRow). row.0)
+      (cond (is_some zone) None (row_for commands (drop (found_length technology) prefixed)))) stays
+      ∙ ap (rest_row commands)
+      (ap (drop (found_length technology)) (stars_after (text_of technology) stem count)
+      ∙ drop_prefix technology (starred stem count))
+
 -- ---- digits that are filled up
 all_front : (u z : List ℕ) → list_all is_dialled_byte (u ++ z) ≡ true
     → list_all is_dialled_byte (starred u (length z)) ≡ true
 all_front [] z h = all_stars (length z)
-  where
-    all_stars : (n : ℕ) → list_all is_dialled_byte (replicate n 42) ≡ true
-    all_stars zero = refl
-    all_stars (suc n) = all_stars n
 all_front (c ∷ u) z h =
     let both = and_parts (is_dialled_byte c) (list_all is_dialled_byte (u ++ z)) h in
     and_from (is_dialled_byte c) (list_all is_dialled_byte (starred u (length z)))
@@ -249,16 +290,20 @@ module _ (old new : List Command) (x : List ℕ) where
   abbrev pub lead : Bool → List ℕ
   lead joint = cond joint (text_of a) []
 
-  pub front_is : (joint : Bool) → is_joint old new a b ≡ joint
-      → front_of old (set_if joint, x) ≡ lead joint
-  front_is true e = refl
-  front_is false e = ap (λ own. cond own [] (text_of a)) (is_one a b e)
+  -- a set of another group names a technology prefix
+  pub own_is : is_joint old new a b ≡ false → is_own (group_of (set_if false)) ≡ true
+  own_is e = is_one a b e
     where
       is_one : (s t : Option (List ℕ)) → is_joint old new s t ≡ false
           → (is_some s || is_some t) ≡ true
       is_one None None f = absurd (true≢false (sym (none_is_joint old new) ∙ f))
       is_one None (Some t) f = refl
       is_one (Some s) t f = refl
+
+  pub front_is : (joint : Bool) → is_joint old new a b ≡ joint
+      → front_of old (set_if joint, x) ≡ lead joint
+  front_is true e = refl
+  front_is false e = ap (λ own. cond own [] (text_of a)) (own_is e)
 
   -- the literals of the set, after the front, are a beginning
   old_literals : (joint : Bool)
@@ -335,6 +380,64 @@ module _ (old new : List Command) (x : List ℕ) where
         shorter = omega (arith, cut);
         dialled = λ h. filled_dialled (u joint) (z joint) (subst IsDialled (parts joint e) h);
       }
+
+  -- ---- of the joint group: what follows the technology prefix
+  abbrev pub stem : List ℕ
+  stem = (shape_of (set_if true)).literals
+
+  pub sizes : (count : ℕ)
+      → length (starred (u true) count) ≡ length (text_of a) + length (starred stem count)
+  sizes count =
+      ap length (stars_after (text_of a) stem count)
+      ∙ length-append (text_of a) (starred stem count)
+
+  module _ (old_literal : AreLiteral old) (new_literal : AreLiteral new)
+      (e : is_joint old new a b ≡ true) where
+    both : AreJoint old new a b
+    both = are_joint old new a b e
+
+    pub old_after : (count : ℕ) → technology_of old (starred (u true) count) ≡ a
+    old_after =
+        finds_after old x old_literal (u true) (z true) (parts true e)
+        (subst (λ t. length t ≤ length (u true)) (old_literals true) (lead_is true e).first)
+
+    new_after : (count : ℕ) → technology_of new (starred (u true) count) ≡ b
+    new_after =
+        finds_after new x new_literal (u true) (z true) (parts true e)
+        (subst (λ t. length t ≤ length (u true)) (new_literals true e) (lead_is true e).second)
+
+    old_rest : (count : ℕ)
+        → pattern_used old (starred (u true) count) ≡ rest_row old (starred stem count)
+    old_rest count = used_after old a stem count (old_after count) both.old_stays
+
+    new_rest : (count : ℕ)
+        → pattern_used new (starred (u true) count) ≡ rest_row new (starred stem count)
+    new_rest count =
+        used_after new a stem count (new_after count ∙ sym both.same)
+        (ap (hopoff_of new) both.same ∙ both.new_stays)
+
+    -- it is looked up as in these digits
+    pub rest_rows : (rest_row old (starred stem (length (z true))) ≡ p)
+        × (rest_row new (starred stem (length (z true))) ≡ q)
+    rest_rows = (
+      sym (old_rest (length (z true))) ∙ (finds_old old_literal true e).pattern
+          ∙ ap (pattern_used old) (sym (parts true e)),
+      sym (new_rest (length (z true))) ∙ (finds_new new_literal true e).pattern
+          ∙ ap (pattern_used new) (sym (parts true e)),
+    )
+
+    -- with another number of stars they are digits of the set if it is looked up alike
+    pub set_after : (count : ℕ) → rest_row old (starred stem count) ≡ p
+        → rest_row new (starred stem count) ≡ q
+        → set_of old new (starred (u true) count) ≡ set_if true
+    set_after count f g =
+        let s = old_after count in
+        let t = new_after count in
+        let h = old_rest count ∙ f in
+        let k = new_rest count ∙ g in
+        let same : set_of old new (starred (u true) count) ≡ set_if (is_joint old new a b) =
+        λ i. set_by (is_joint old new (s i) (t i)) (s i) (t i) (h i) (k i) in
+        same ∙ ap set_if e
 
 -- ---- one length without a star
 -- how many characters digits have at least after the technology prefix of the joint group
@@ -454,30 +557,29 @@ later true d h = refl
 later false d h = h
 
 among_last : (list : List (List ℕ)) (prefix : List ℕ)
-    → list_any (λ one. bytes_eq one prefix) (list ++ prefix ∷ []) ≡ true
+    → list_any (bytes_eq prefix) (list ++ prefix ∷ []) ≡ true
 among_last [] prefix =
     ap (λ t. t || false) ((bytes_eq-Decides prefix prefix).1 refl)
 among_last (one ∷ list) prefix =
-    later (bytes_eq one prefix) (list_any (λ other. bytes_eq other prefix) (list ++ prefix ∷ []))
+    later (bytes_eq prefix one) (list_any (bytes_eq prefix) (list ++ prefix ∷ []))
     (among_last list prefix)
 
 among_more : (list more : List (List ℕ)) (prefix : List ℕ)
-    → list_any (λ one. bytes_eq one prefix) list ≡ true
-    → list_any (λ one. bytes_eq one prefix) (list ++ more) ≡ true
+    → list_any (bytes_eq prefix) list ≡ true → list_any (bytes_eq prefix) (list ++ more) ≡ true
 among_more [] more prefix h = absurd (true≢false (sym h))
 among_more (one ∷ list) more prefix h =
-    by (bytes_eq one prefix) h (among_more list more prefix)
+    by (bytes_eq prefix one) h (among_more list more prefix)
   where
-    by : (t : Bool) → (t || list_any (λ other. bytes_eq other prefix) list) ≡ true
-        → (list_any (λ other. bytes_eq other prefix) list ≡ true
-        → list_any (λ other. bytes_eq other prefix) (list ++ more) ≡ true)
-        → (t || list_any (λ other. bytes_eq other prefix) (list ++ more)) ≡ true
+    by : (t : Bool) → (t || list_any (bytes_eq prefix) list) ≡ true
+        → (list_any (bytes_eq prefix) list ≡ true
+        → list_any (bytes_eq prefix) (list ++ more) ≡ true)
+        → (t || list_any (bytes_eq prefix) (list ++ more)) ≡ true
     by true g rest = refl
     by false g rest = rest g
 
 module _ (old new : List Command) (prefix : List ℕ) where
   abbrev is_there : List (List ℕ) → Bool
-  is_there list = list_any (λ one. bytes_eq one prefix) list
+  is_there list = list_any (bytes_eq prefix) list
 
   stays_there : (list : List (List ℕ)) (next : Option (List ℕ)) → is_there list ≡ true
       → is_there (with_shared old new list next) ≡ true
@@ -549,14 +651,14 @@ module _ (old new : List Command) (prefix : List ℕ) where
       → test prefix ≡ true → list_any test list ≡ true
   any_there test [] h passes = absurd (true≢false (sym h))
   any_there test (one ∷ list) h passes =
-      by (bytes_eq one prefix) refl h (λ g. any_there test list g passes)
+      by (bytes_eq prefix one) refl h (λ g. any_there test list g passes)
     where
-      by : (t : Bool) → bytes_eq one prefix ≡ t → (t || is_there list) ≡ true
+      by : (t : Bool) → bytes_eq prefix one ≡ t → (t || is_there list) ≡ true
           → (is_there list ≡ true → list_any test list ≡ true)
           → (test one || list_any test list) ≡ true
       by true e g rest =
           ap (λ t. t || list_any test list)
-          (ap test ((bytes_eq-Decides one prefix).0 e) ∙ passes)
+          (ap test (sym ((bytes_eq-Decides prefix one).0 e)) ∙ passes)
       by false e g rest = later (test one) (list_any test list) (rest g)
 
 -- the technology prefix that both find, and that hops off in neither, is one of them

@@ -185,9 +185,7 @@ module _ (commands : List Command) (literal : AreLiteral commands) where
     abbrev found : Option (List ℕ)
     found = technology_of commands (u ++ z)
 
-    module _ (within : found_length found ≤ length u)
-        (fits : (pattern : PatternParts) → pattern_used commands (u ++ z) ≡ Some pattern
-        → found_length found + length pattern.literals ≤ length u) where
+    module _ (within : found_length found ≤ length u) where
       prefixes_stay : PrefixesStay (prefixes_of commands) u z
       prefixes_stay = record {
         stay = λ place prefix at. (
@@ -210,8 +208,15 @@ module _ (commands : List Command) (literal : AreLiteral commands) where
               or_later true b h = refl
               or_later false b h = h
 
+      -- with any number of stars
+      pub found_after : (count : ℕ) → technology_of commands (starred u count) ≡ found
+      found_after count = sym (same_technology_found commands u z count prefixes_stay)
+
+    module _ (within : found_length found ≤ length u)
+        (fits : (pattern : PatternParts) → pattern_used commands (u ++ z) ≡ Some pattern
+        → found_length found + length pattern.literals ≤ length u) where
       same_found : technology_of commands (starred u (length z)) ≡ found
-      same_found = sym (same_technology_found commands u z (length z) prefixes_stay)
+      same_found = found_after within (length z)
 
       pub finds_it : FindsSame commands u z
       finds_it = record {

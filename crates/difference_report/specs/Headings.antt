@@ -37,7 +37,7 @@ is_shared old new prefix = takes_off old prefix && takes_off new prefix
 -- whether a prefix is to be added to those before it
 abbrev pub is_next : (old new : List Command) → List (List ℕ) → List ℕ → Bool
 is_next old new list prefix =
-    not (list_any (λ one. bytes_eq one prefix) list) && is_shared old new prefix
+    not (list_any (bytes_eq prefix) list) && is_shared old new prefix
 
 -- prefixes, and one more
 abbrev pub with_shared : (old new : List Command) → List (List ℕ) → Option (List ℕ)

@@ -12,12 +12,15 @@ use std::marker::Model;
 /// which sets are listed and which have changed.
 #[derive(Drop)]
 pub(crate) struct Findings<'a> {
+    /// The allocator for texts.
     pub(crate) alloc: Global,
+    /// The old configuration.
     pub(crate) old: &'a Tables,
+    /// The new configuration.
     pub(crate) new: &'a Tables,
     /// The technology prefixes of their joint group.
     pub(crate) shared: &'a [TechPrefix],
-    /// The sets that are listed.
+    /// The sets that are listed, of which those of one group stand together.
     pub(crate) listed: &'a Sets,
     /// How many digits each of these has.
     pub(crate) counts: &'a Counts,
@@ -49,10 +52,12 @@ impl<'a> Model for Findings<'a> {
 
 impl<'a> Findings<'a> {
     ghost use Rattle.std.specs.Prelude.{◌≡◌, IfSome, slice_get, sum};
+    ghost use Rattle.std.specs.Map.{keys_of};
     ghost use Rattle.difference_counts.specs.Counted.{number_in, numbers_in};
+    ghost use Rattle.plan_difference.specs.Order.{AreGrouped};
     ghost use Rattle.difference_report.specs.Headings.{shared_prefixes};
 
-    /// Whose memory is used.
+    /// The allocator for texts.
     pub(crate) fn alloc(&self) -> Global {
         self.alloc
     }
@@ -78,9 +83,10 @@ impl<'a> Findings<'a> {
         self.shared
     }
 
-    /// The sets that are listed.
+    /// The sets that are listed. Those of one group stand together.
     pub(crate) fn listed(&self) -> &'a Sets
-        ensures { result.now ≡ self.now.listed }
+        ensures sets { result.now ≡ self.now.listed }
+        ensures grouped { AreGrouped (keys_of self.now.listed) }
     {
         self.listed
     }

@@ -1,9 +1,7 @@
 //! How long the digits of a set are.
 
-ghost use Rattle.std.specs.Prelude.{◌≡◌, ◌++◌, IfOk, length};
+ghost use Rattle.std.specs.Prelude.{◌≡◌, ◌++◌, IfOk, Some, length};
 ghost use Rattle.std.specs.List.{list_any};
-ghost use Rattle.std.specs.Option.{option_eq};
-ghost use Rattle.digit_patterns.specs.Pattern.{same_pattern};
 ghost use Rattle.plan_difference.specs.Entries.{same_set};
 ghost use Rattle.plan_difference.specs.Sets.{set_of};
 ghost use Rattle.plan_difference.specs.Walk.{starred};
@@ -12,17 +10,17 @@ ghost use Rattle.difference_report.specs.Shape.{shape_of};
 
 use crate::findings::Findings;
 use crate::headings::is_own;
+use crate::rests::{is_same_row, other_count};
 use crate::shape::{add_literals, is_open};
 use crate::shared_prefixes::is_same;
 use crate::texts::{add_repeated, text_of};
 use compiler::Tables;
-use digit_patterns::Pattern;
 use gk_terms::{Dialled, TechPrefix};
 use plan_difference::{NumberSet, set_of};
 use std::alloc::{AllocError, Global};
 
-/// As many stars as are tried, and one more.
-const STARS: usize = 33;
+/// Numbers of stars below this one are tried.
+pub(crate) const STARS: usize = 33;
 
 #[tactic(auto, unfolding(crate::specs::Lengths::has_others))]
 /// Whether digits of another length than these are of the set too, each after its technology
@@ -38,25 +36,44 @@ pub(crate) fn has_others(
     if !is_open(set) {
         return Ok(false);
     }
-    if has_others_after(found, set, digits, b"")? {
-        return Ok(true);
+    if is_own(&set.group()) {
+        return has_others_after(found, set, digits, b"");
     }
-    has_others_shared(found, set, digits)
+    has_others_joint(found, set, digits)
 }
 
-/// Whether there are such digits after a technology prefix of the joint group, if the set is of it.
-fn has_others_shared(
+/// Whether there are such digits, if the set is of the joint group. No technology prefix is looked
+/// at unless what may follow one has another length, and then mostly that of these digits alone.
+fn has_others_joint(found: &Findings, set: &NumberSet, digits: &Dialled) -> Result<bool, AllocError>
+    ensures { IfOk result (λ others. others ≡ Spec.has_others_with found.now.old found.now.new
+        (set.now, digits.now)
+        (Spec.other_count found.now.old found.now.new (set.now, digits.now))) }
+{
+    match other_count(found, set, digits)? {
+        Some(count) => has_others_with(found, set, digits, count),
+        None => Ok(false),
+    }
+}
+
+/// Whether there are such digits with so many stars: after the technology prefix of these digits,
+/// none, or another one of the joint group.
+fn has_others_with(
     found: &Findings,
     set: &NumberSet,
     digits: &Dialled,
+    count: usize,
 ) -> Result<bool, AllocError>
-    ensures { IfOk result (λ others. others
-        ≡ Spec.has_others_shared found.now.old found.now.new (set.now, digits.now)) }
+    ensures { IfOk result (λ others. others ≡ Spec.has_others_with found.now.old found.now.new
+        (set.now, digits.now) (Some count)) }
 {
-    if is_own(&set.group()) {
-        return Ok(false);
+    let technology = found.old().declared(digits);
+    if is_other_with(found, set, digits, text_of(&technology), count)? {
+        return Ok(true);
     }
-    has_others_among(found, set, digits, found.shared())
+    if has_others_after(found, set, digits, b"")? {
+        return Ok(true);
+    }
+    has_others_among(found, set, digits, found.shared(), count)
 }
 
 /// Whether there are such digits after one of these.
@@ -65,12 +82,13 @@ fn has_others_among(
     set: &NumberSet,
     digits: &Dialled,
     fronts: &[TechPrefix],
+    count: usize,
 ) -> Result<bool, AllocError>
-    ensures { IfOk result (λ others. others ≡ list_any
-        (Spec.has_others_after found.now.old found.now.new (set.now, digits.now)) fronts.now) }
+    ensures { IfOk result (λ others. others ≡ list_any (λ front. Spec.is_other_with
+        found.now.old found.now.new (set.now, digits.now) front count) fronts.now) }
 {
     for front in fronts {
-        if has_others_after(found, set, digits, front.as_bytes())? {
+        if is_other_with(found, set, digits, front.as_bytes(), count)? {
             return Ok(true);
         }
     }
@@ -127,7 +145,7 @@ fn is_other_with(
 }
 
 /// A front, the literals of the set, and so many stars.
-fn starred(
+pub(crate) fn starred(
     alloc: Global,
     set: &NumberSet,
     front: &[u8],
@@ -200,11 +218,4 @@ fn is_same_set(set: &NumberSet, other: &NumberSet) -> bool
         && is_same(&set.new_technology, &other.new_technology)
         && is_same_row(&set.old_row, &other.old_row)
         && is_same_row(&set.new_row, &other.new_row)
-}
-
-/// Whether two zone prefixes, if there are any, are the same.
-fn is_same_row(row: &Option<Pattern>, other: &Option<Pattern>) -> bool
-    ensures { result ≡ option_eq same_pattern row.now other.now }
-{
-    *row == *other
 }

@@ -11,6 +11,7 @@ mod lengths;
 mod numbers;
 mod plan_words;
 mod report;
+mod rests;
 mod row_fields;
 mod row_text;
 mod rows;

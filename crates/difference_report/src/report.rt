@@ -1,8 +1,8 @@
 //! The text of a report.
 
-ghost use Rattle.std.specs.Prelude.{◌≡◌, ◌++◌, IfOk, IfSome, OnOk, slice_get};
+ghost use Rattle.std.specs.Prelude.{◌≡◌, ◌+◌, ◌++◌, IfOk, IfSome, OnOk, slice_get};
 ghost use Rattle.plan_difference.specs.Entries.{group_of};
-ghost use Rattle.difference_report.specs.Blocks.{IsWide, group_in};
+ghost use Rattle.difference_report.specs.Blocks.{IsBlock, IsOf, group_in};
 ghost use Rattle.difference_report.specs.ReportText as Spec;
 ghost use Rattle.difference_report.specs.Writing.{IsReport, text_in};
 ghost use Rattle.difference_report.specs.declared.wanted.Listing.TheVariants as listings;
@@ -65,7 +65,7 @@ fn changed_report(
         alloc,
         old,
         new,
-        shared: &shared,
+        shared: shared.as_slice(),
         listed: &changed,
         counts: &counts,
         changed: &changed,
@@ -88,7 +88,7 @@ fn whole_report(alloc: Global, old: &Tables, new: &Tables, form: Form) -> Result
         alloc,
         old,
         new,
-        shared: &shared,
+        shared: shared.as_slice(),
         listed: &sets,
         counts: &counts,
         changed: &changed,
@@ -144,6 +144,7 @@ fn sets_text(found: &Findings) -> Result<Vec<u8>, AllocError>
     Ok(text)
 }
 
+#[tactic(auto, using(crate::proofs::BlockLemmas::is_block))]
 /// Adds the lines of the set at a place after such a block; its own block.
 fn add_at(
     text: &mut Vec<u8>,
@@ -151,31 +152,33 @@ fn add_at(
     before: &Option<Block>,
     place: usize,
 ) -> Result<Option<Block>, AllocError>
-    requires { IsWide found.now.old found.now.new found.now.listed before.now }
+    requires { IsBlock found.now.old found.now.new found.now.listed place before.now }
     ensures text { IfOk result (λ block. IfSome (slice_get found.now.listed place) (λ entry.
         (text.new.items, group_in block) ≡ Spec.with_entry found.now.old found.now.new
         found.now.listed found.now.changed (text.old.items, group_in before.now) entry)) }
-    ensures wide { IfOk result (λ block.
-        IsWide found.now.old found.now.new found.now.listed block) }
+    ensures block { IfOk result (λ block. IfSome (slice_get found.now.listed place) (λ entry.
+        IsBlock found.now.old found.now.new found.now.listed (place + 1) block)) }
 {
     let Some((set, digits)) = found.listed().get(place) else {
         return Ok(None);
     };
     let number = found.number_at(place);
-    let block = add_entry(text, found, before, number, set, digits)?;
+    let block = add_entry(text, found, before, place, number, set, digits)?;
     Ok(Some(block))
 }
 
-/// Adds the lines of a set after such a block; its own block.
+/// Adds the lines of the set that stands at a place, after such a block; its own block.
 fn add_entry(
     text: &mut Vec<u8>,
     found: &Findings,
     before: &Option<Block>,
+    place: usize,
     number: u128,
     set: &NumberSet,
     digits: &Dialled,
 ) -> Result<Block, AllocError>
-    requires { IsWide found.now.old found.now.new found.now.listed before.now }
+    requires before { IsBlock found.now.old found.now.new found.now.listed place before.now }
+    requires here { IsOf found.now.listed place (group_of set.now) }
     ensures text { OnOk result (text.new.items ≡ text.old.items
         ++ Spec.entry_text found.now.old found.now.new found.now.listed found.now.changed
         (group_in before.now) number (set.now, digits.now)) }
@@ -184,7 +187,7 @@ fn add_entry(
         found.now.new found.now.listed (group_of set.now)) }
 {
     let group = set.group();
-    let block = next_block(found, before, &group)?;
+    let block = next_block(found, before, place, &group)?;
     add_heading_if(text, found, before, &group)?;
     add_set_line(text, found, block.width(), number, set, digits)?;
     Ok(block)

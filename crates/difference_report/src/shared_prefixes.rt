@@ -1,7 +1,6 @@
 //! The technology prefixes of the joint group.
 
 ghost use Rattle.std.specs.Prelude.{◌≡◌, [], IfOk, OnOk, bytes_eq, fold, Some};
-ghost use Rattle.std.specs.List.{list_any};
 ghost use Rattle.std.specs.Option.{option_eq};
 ghost use Rattle.compiler.specs.Technology.{prefix_in, technology_of};
 ghost use Rattle.plan_difference.specs.Sets.{hops_off};
@@ -10,6 +9,7 @@ ghost use Rattle.difference_report.specs.Headings as Spec;
 use command_reader::Command;
 use compiler::Tables;
 use gk_terms::{Dialled, TechPrefix};
+use indexmap::IndexSet;
 use std::alloc::{AllocError, Global};
 
 /// The prefixes that both configurations declare, and that hop off in neither, each once, in the
@@ -18,8 +18,8 @@ pub(crate) fn shared_prefixes(
     alloc: Global,
     old: &Tables,
     new: &Tables,
-) -> Result<Vec<TechPrefix>, AllocError>
-    ensures { IfOk result (λ prefixes. prefixes.items
+) -> Result<IndexSet<TechPrefix>, AllocError>
+    ensures { IfOk result (λ prefixes. prefixes.keys
         ≡ Spec.shared_prefixes old.now.commands new.now.commands) }
 {
     shared_in(alloc, old, new, old.commands().as_slice())
@@ -31,12 +31,12 @@ fn shared_in(
     old: &Tables,
     new: &Tables,
     commands: &[Command],
-) -> Result<Vec<TechPrefix>, AllocError>
-    ensures { IfOk result (λ prefixes. prefixes.items
+) -> Result<IndexSet<TechPrefix>, AllocError>
+    ensures { IfOk result (λ prefixes. prefixes.keys
         ≡ fold (λ list command. Spec.with_shared old.now.commands new.now.commands list
         (prefix_in command)) [] commands.now) }
 {
-    let mut prefixes = Vec::new(alloc);
+    let mut prefixes = IndexSet::new(alloc);
     for command in commands {
         add_shared(&mut prefixes, old, new, &prefix_in(command))?;
     }
@@ -45,37 +45,43 @@ fn shared_in(
 
 /// Adds a prefix, if there is one, it is shared and is not there yet.
 fn add_shared(
-    prefixes: &mut Vec<TechPrefix>,
+    prefixes: &mut IndexSet<TechPrefix>,
     old: &Tables,
     new: &Tables,
     prefix: &Option<TechPrefix>,
 ) -> Result<(), AllocError>
-    ensures { OnOk result (prefixes.new.items ≡ Spec.with_shared old.now.commands
-        new.now.commands prefixes.old.items prefix.now) }
+    ensures { OnOk result (prefixes.new.keys ≡ Spec.with_shared old.now.commands
+        new.now.commands prefixes.old.keys prefix.now) }
 {
     match prefix {
-        Some(prefix) => {
-            if is_next(prefixes, old, new, prefix) {
-                prefixes.push(*prefix)?;
-            }
-            Ok(())
-        }
+        Some(prefix) => add_if_shared(prefixes, old, new, prefix),
         None => Ok(()),
     }
 }
 
-/// Whether a prefix is shared, and is not there yet.
-fn is_next(prefixes: &[TechPrefix], old: &Tables, new: &Tables, prefix: &TechPrefix) -> bool
-    ensures { result ≡ Spec.is_next old.now.commands new.now.commands prefixes.now prefix.now }
+#[tactic(auto, using(crate::proofs::SharedLemmas::shared_added, crate::proofs::SharedLemmas::other_added))]
+/// Adds a prefix, if it is shared and is not there yet.
+fn add_if_shared(
+    prefixes: &mut IndexSet<TechPrefix>,
+    old: &Tables,
+    new: &Tables,
+    prefix: &TechPrefix,
+) -> Result<(), AllocError>
+    ensures { OnOk result (prefixes.new.keys ≡ Spec.with_shared old.now.commands
+        new.now.commands prefixes.old.keys (Some prefix.now)) }
 {
-    !is_among(prefixes, prefix) && takes_off(old, prefix) && takes_off(new, prefix)
+    if !is_shared(old, new, prefix) {
+        return Ok(());
+    }
+    prefixes.insert(*prefix)?;
+    Ok(())
 }
 
-/// Whether a prefix is there.
-fn is_among(prefixes: &[TechPrefix], prefix: &TechPrefix) -> bool
-    ensures { result ≡ list_any (λ one. bytes_eq one prefix.now) prefixes.now }
+/// Whether both configurations declare a prefix, and it hops off in neither.
+fn is_shared(old: &Tables, new: &Tables, prefix: &TechPrefix) -> bool
+    ensures { result ≡ Spec.is_shared old.now.commands new.now.commands prefix.now }
 {
-    prefixes.iter().any(|one| *one == *prefix)
+    takes_off(old, prefix) && takes_off(new, prefix)
 }
 
 /// Whether a configuration declares a prefix, and it does not hop off.

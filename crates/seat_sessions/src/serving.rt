@@ -1,6 +1,6 @@
 //! A server: a desk, and as many sessions as it has seats.
 
-ghost use Rattle.std.specs.Prelude.{◌≡◌, IfOk};
+ghost use Rattle.std.specs.Prelude.{◌≡◌, ◌+◌, ◌^◌, ◌<◌, ◌≤◌, IfOk, IfErr};
 ghost use Rattle.std.specs.Arc.{arc_value};
 ghost use Rattle.rulings.specs.State.{opening_of};
 ghost use Rattle.seat_sessions.specs.Served.{IsServed, stated_limits};
@@ -9,8 +9,8 @@ use crate::peers::{Peer, PeerReader, PeerWriter};
 use crate::sittings::Sitting;
 use admission::{Limits, STATED_LIMITS};
 use compiler::Tables;
-use gk_lines::Noted;
-use gk_protocol::session;
+use gk_lines::{Noted, Sink, Source};
+use gk_protocol::{Answerer, SessionFault, session};
 use live_desk::{Blank, Desk, FinishFault, House, OpenFault, Seat};
 use std::alloc::Global;
 use std::marker::Brand;
@@ -195,9 +195,25 @@ fn serve_peer<J: House, R: Threads + Wait>(
     let peer = Peer::new(stream);
     let mut reader = Noted::new(PeerReader::of(&peer));
     let mut writer = Noted::new(PeerWriter::of(&peer));
-    let _ = session(alloc, &mut reader, &mut writer, sitting, MOST_TURNS);
+    let _ = whole_session(alloc, &mut reader, &mut writer, sitting);
     let _ = peer.send();
     let _ = peer.shut_down();
+}
+
+/// A session whose reader may be called `MOST_TURNS` times.
+fn whole_session<R: Source, W: Sink, A: Answerer>(
+    alloc: Global,
+    reader: &mut R,
+    writer: &mut W,
+    answerer: &mut A,
+) -> Result<u64, SessionFault>
+    ensures turns { R.calls reader.old + 4294967295 < 2 ^ 64
+        → R.calls reader.new ≤ R.calls reader.old + 4294967295 }
+    ensures turns_spent { IfErr result (λ fault. fault ≡ SessionFault.TurnsSpent
+        → R.calls reader.old + 4294967295 < 2 ^ 64
+        → R.calls reader.new ≡ R.calls reader.old + 4294967295) }
+{
+    session(alloc, reader, writer, answerer, MOST_TURNS)
 }
 
 /// Takes all seats back, and counts the record.

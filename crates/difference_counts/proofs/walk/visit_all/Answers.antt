@@ -1,6 +1,7 @@
-use Rattle.std.proofs.Common.{subst, refl, arith, get_or}
+use Rattle.std.proofs.Common.{◌<◌, ℕ, subst, refl, arith, get_or, length, ◌∷◌, []}
 use Rattle.difference_counts.specs.Numbers.{CHARACTERS}
-use Rattle.difference_counts.specs.Walk.{GrewBy, below}
+use Rattle.difference_counts.specs.Branches.{GrewWith}
+use Rattle.difference_counts.specs.Walk.{below, place_of, rest_place}
 use Rattle.difference_counts.proofs.WalkLemmas.{first_more, first_all}
 use Rattle.difference_counts.proofs.walk.visit_all.Goals as goal
 
@@ -13,17 +14,27 @@ loop-character-preserved c =
     let now = c.loop-character.numbers in
     let before = c.loop-character.invariant.bounded in
     let more = c.in_ok-visit.ensures.bounded in
+    let grew : GrewWith (rest_place old new sets) now c.loop-character.branches.items
+    c.visit.new.numbers c.visit.new.branches.items
+    (below (place_of old new sets) (get_or CHARACTERS index 0 ∷ []) 31) =
+    subst (λ text. GrewWith (rest_place old new sets) now c.loop-character.branches.items
+    c.visit.new.numbers c.visit.new.branches.items (below (place_of old new sets) text 31))
+    c.with_character-first.ensures c.in_ok-visit.ensures.grew in
     record {
-      first = first_more old new sets index c.args.numbers.now now c.visit.new.numbers
-          (get_or CHARACTERS index 0) refl c.loop-character-test.true
-          c.loop-character.auto.numbers c.loop-character.invariant.first
-          (subst (λ text. GrewBy now c.visit.new.numbers (below old new sets text 31))
-          c.with_character-first.ensures c.in_ok-visit.ensures.grew);
+      grew = λ place h.
+          let size = c.loop-character.auto.numbers in
+          let a = c.loop-character.invariant.grew place h in
+          let b = grew place (let e : place < length now = omega (arith, size, h) in e) in
+          let d = first_more (place_of old new sets) index place (get_or CHARACTERS index 0) refl
+          c.loop-character-test.true in
+          omega (arith, a, b, d);
       bounded = omega (arith, before, more);
     }
 
 pub returns-clause-grew : goal.returns-clause-grew
-returns-clause-grew c =
-    first_all c.args.walk.now.old.tables.now.commands c.args.walk.now.new.tables.now.commands
-    c.args.walk.now.places.now c.loop-character.character-index c.args.numbers.now
-    c.loop-character.numbers c.loop-character-test.false c.loop-character.invariant.first
+returns-clause-grew c = λ (place : ℕ) h.
+    let a = c.loop-character.invariant.grew place h in
+    let b = first_all (place_of c.args.walk.now.old.tables.now.commands
+    c.args.walk.now.new.tables.now.commands c.args.walk.now.places.now)
+    c.loop-character.character-index place c.loop-character-test.false in
+    omega (arith, a, b)

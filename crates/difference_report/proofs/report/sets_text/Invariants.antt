@@ -1,5 +1,5 @@
 use Rattle.std.proofs.Common.{◌≡◌, [], take, fold, None}
-use Rattle.difference_report.specs.Blocks.{IsWide, group_in}
+use Rattle.difference_report.specs.Blocks.{IsBlock, group_in}
 use Rattle.difference_report.specs.ReportText.{with_entry}
 use Rattle.difference_report.proofs.report.sets_text.Given as goal
 
@@ -8,5 +8,5 @@ invariant-loop-place l = record {
   text : (l.text.items, group_in l.block)
       ≡ fold (with_entry l.found.old l.found.new l.found.listed l.found.changed) ([], None)
       (take l.place l.found.listed);
-  wide : IsWide l.found.old l.found.new l.found.listed l.block;
+  block : IsBlock l.found.old l.found.new l.found.listed l.place l.block;
 }
