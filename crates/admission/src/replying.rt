@@ -191,11 +191,10 @@ impl Core {
         match asked {
             LentEvent::Register(endpoint) => self.reply_registration(asked, endpoint, taker),
             LentEvent::Admit { .. } => match routed {
-                Some(routed) => {
-                    let plan = &self.plan_for(routed);
-                    self.reply_planned(Some(plan), asked, taker);
+                Some(routed) if routed.version == self.version() => {
+                    self.reply_planned(Some(&routed.plan), asked, taker);
                 }
-                None => self.reply_planned(None, asked, taker),
+                _ => self.reply_planned(None, asked, taker),
             },
             LentEvent::Unregister { .. }
             | LentEvent::Incoming { .. }

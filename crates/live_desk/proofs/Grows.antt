@@ -257,6 +257,31 @@ asked_by opening live new entries before after astray event answer same free is 
       seen = λ kept. seen kept ∙ ap generations new_held;
     }
 
+-- a plan made before changes nothing that was asked, nor does a receipt that is kept afterwards
+pub asked_kept : (opening : State) (before asking : SeatParts) (event : PlainEvent)
+    (replied answer : Result (Reply × Receipt) Reply) (after kept : SeatParts)
+    (last : Option Receipt) → asking.share ≡ before.share → asking.last ≡ before.last
+    → asking.astray ≡ before.astray → replied ≡ answer → kept ≡ record after { last = last }
+    → Asked opening asking event replied after → Asked opening before event answer kept
+asked_kept opening before asking event replied answer after kept last share before_last astray is
+    same asked =
+    subst (Asked opening before event answer) (sym same)
+    (record {
+      history = asked.history;
+      next = asked.next;
+      legal = asked.legal;
+      long = subst (λ (n : ℕ). n ≤ length asked.history) share asked.long;
+      found = subst (λ (l : Option Receipt).
+          after.astray ≡ false ↔ (before.astray ≡ false) × LastStands asked.history l) before_last
+          (subst (λ (b : Bool).
+          after.astray ≡ false ↔ (b ≡ false) × LastStands asked.history asking.last) astray
+          asked.found);
+      answers = subst (λ (a : Result (Reply × Receipt) Reply).
+          Steps (seats.held opening asked.history) event a (seats.held opening asked.next)) is
+          asked.answers;
+      seen = asked.seen;
+    })
+
 -- a step under the lock, of what is shown of it
 pub step_held : (opening : State) (live new : CoreParts) (entries after : List PlainEntry)
     (event : PlainEvent) (answer : Result (Reply × Receipt) Reply) → live.opening ≡ opening

@@ -7,14 +7,14 @@ ghost use mathlib.Core.List.{IsPrefix};
 ghost use Rattle.rulings.specs.Events.{event_meant, put_in_force, Reloading};
 ghost use Rattle.rulings.specs.State.{opening_of};
 ghost use Rattle.decision_record.specs.History.{generations, IsLegal, Steps};
-ghost use Rattle.admission.specs.Answering.{answered, receipt_for, reply_kept};
+ghost use Rattle.admission.specs.Answering.{answered, reply_kept};
 ghost use Rattle.live_desk.specs.Seats.{Asked, held, IsAstrayIn, IsFound, IsPlanFor, IsPut, IsReceiptOf, IsTheirs, snapshot_of};
 
 use crate::house::House;
 use crate::live::Live;
 use crate::seats::{Seat, all_found, merge_all};
 use crate::turns::{reload_turn, turn};
-use admission::{KeptReply, LentEvent, Receipt, Record, Reply, Snapshot, receipt_for};
+use admission::{KeptReply, LentEvent, Receipt, Record, Reply, Snapshot};
 use compiler::{Routed, Tables};
 use gk_terms::Version;
 use publisher::Told;
@@ -153,8 +153,9 @@ impl<J: House> Room<J> {
 
     #[tactic(auto, using(crate::proofs::Grows::rising_by))]
     /// Answers one event for a seat; the event is lent, and is not a reload. If it was recorded, it
-    /// is entered in the ledger, and the number of its entry is given back. The history of which
-    /// the clauses speak is the one under the lock.
+    /// is entered in the ledger, and the number of its entry is given back: the seat keeps its
+    /// receipt after the lock was let go. The history of which the clauses speak is the one under
+    /// the lock.
     pub fn ask(
         &mut self,
         seat: &mut Seat<J>,
@@ -171,11 +172,9 @@ impl<J: House> Room<J> {
             (answered (event_meant event.now) (reply_kept kept.new.kept) result)
             (held (opening_of J.begun J.limits) self.new.entries) }
         ensures given { (self.new.given ≡ self.old.given) × (self.new.most ≡ self.old.most) }
-        ensures some { IfSome result (λ number. (seat.new.share ≡ seat.old.share + 1)
-            × (seat.new.last ≡ Some (receipt_for (event_meant event.now)
-            (reply_kept kept.new.kept) number))) }
-        ensures none { IfNone result
-            ((seat.new.share ≡ seat.old.share) × (seat.new.last ≡ seat.old.last)) }
+        ensures some { IfSome result (λ _. seat.new.share ≡ seat.old.share + 1) }
+        ensures none { IfNone result (seat.new.share ≡ seat.old.share) }
+        ensures last { seat.new.last ≡ seat.old.last }
         ensures astray { seat.new.astray ≡ false ↔ IsFound self.old.entries seat.old }
         ensures lost { seat.old.lost ≡ true → seat.new.lost ≡ true }
         ensures seen { IsPrefix seat.old.seen seat.new.seen }
@@ -187,8 +186,8 @@ impl<J: House> Room<J> {
         self.begin(seat);
         let (number, met) = turn(&mut self.live, &mut seat.reader, routed, event, kept);
         seat.see(met);
-        if let Some(number) = number {
-            seat.enter(&mut self.book, receipt_for(event, &kept.reply(), number));
+        if let Some(_) = number {
+            seat.enter(&mut self.book);
         }
         number
     }
@@ -206,9 +205,9 @@ impl<J: House> Room<J> {
             (Reloading (arc_value tables).commands) result
             (held (opening_of J.begun J.limits) self.new.entries) }
         ensures given { (self.new.given ≡ self.old.given) × (self.new.most ≡ self.old.most) }
-        ensures book { MatchResult result
-            (λ a. (seat.new.share ≡ seat.old.share + 1) × (seat.new.last ≡ Some a.1))
-            (λ _. (seat.new.share ≡ seat.old.share) × (seat.new.last ≡ seat.old.last)) }
+        ensures book { MatchResult result (λ _. seat.new.share ≡ seat.old.share + 1)
+            (λ _. seat.new.share ≡ seat.old.share) }
+        ensures last { seat.new.last ≡ seat.old.last }
         ensures names { IfOk result
             (λ a. IsReceiptOf (Reloading (arc_value tables).commands) a.0 a.1) }
         ensures astray { seat.new.astray ≡ false ↔ IsFound self.old.entries seat.old }
@@ -226,8 +225,8 @@ impl<J: House> Room<J> {
         self.begin(seat);
         let (answer, met) = reload_turn(rt, &mut self.live, &mut seat.reader, tables);
         seat.see(met);
-        if let Ok((_, receipt)) = &answer {
-            seat.enter(&mut self.book, *receipt);
+        if let Ok(_) = &answer {
+            seat.enter(&mut self.book);
         }
         answer
     }

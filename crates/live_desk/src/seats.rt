@@ -112,13 +112,19 @@ impl<J: House> Seat<J> {
         self.lost = self.lost || !met;
     }
 
-    /// Enters its recorded event in the ledger, and keeps the receipt.
-    pub(crate) fn enter(&mut self, book: &mut Book<J>, receipt: Receipt)
+    /// Enters its recorded event in the ledger.
+    pub(crate) fn enter(&mut self, book: &mut Book<J>)
         ensures book { book.new.total ≡ book.old.total + 1 }
-        ensures entered { self.new
-            ≡ record self.old { share = self.old.share + 1; last = Some receipt } }
+        ensures entered { self.new ≡ record self.old { share = self.old.share + 1 } }
     {
         book.add(&mut self.share, 1);
+    }
+
+    /// Keeps the receipt of its recorded event. Nobody else sees it, so this is done after the lock
+    /// was let go.
+    fn keep(&mut self, receipt: Receipt)
+        ensures { self.new ≡ record self.old { last = Some receipt } }
+    {
         self.last = Some(receipt);
     }
 
@@ -235,6 +241,9 @@ impl<J: House> Seat<J> {
         let mut room = desk.room.lock(rt);
         let number = room.ask(self, routed.as_ref(), event, kept);
         let _room = MutexGuard::unlock(room);
+        if let Some(number) = number {
+            self.keep(receipt_for(event, &kept.reply(), number));
+        }
         number
     }
 
@@ -296,6 +305,9 @@ impl<J: House> Seat<J> {
         let mut room = desk.room.lock(rt);
         let answer = room.reload(rt, self, tables);
         let _room = MutexGuard::unlock(room);
+        if let Ok((_, receipt)) = &answer {
+            self.keep(*receipt);
+        }
         answer
     }
 
