@@ -137,19 +137,10 @@ impl RowWriter {
                 Ok(())
             }
             Err(_) => {
-                self.forget();
+                forget(&mut self.batch, self.alloc);
                 Err(AllocError)
             }
         }
-    }
-
-    /// Nothing waits any more.
-    #[cold]
-    #[inline(never)]
-    fn forget(&mut self)
-        ensures { self.new ≡ [] }
-    {
-        self.batch = batch_over(Vec::new(self.alloc));
     }
 
     /// Takes what waits.
@@ -172,4 +163,14 @@ fn batch_over(text: Vec<u8>) -> Writer<Vec<u8>>
     ensures between { IsBetweenRows result }
 {
     WriterBuilder::new().from_writer(text)
+}
+
+/// Puts a row writer without rows in this one's place.
+#[cold]
+#[inline(never)]
+fn forget(batch: &mut Writer<Vec<u8>>, alloc: Global)
+    ensures text { waiting batch.new ≡ [] }
+    ensures between { IsBetweenRows batch.new }
+{
+    *batch = batch_over(Vec::new(alloc));
 }
