@@ -1,0 +1,4 @@
+pub mod ItemLemmas
+pub mod PieceLemmas
+pub mod PlaceLemmas
+pub mod RoomLemmas

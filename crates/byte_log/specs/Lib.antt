@@ -1,0 +1,5 @@
+pub mod Filled
+pub mod Items
+pub mod Parts
+pub mod Pieces
+pub mod Room

@@ -1,0 +1,6 @@
+pub mod PartLaws
+pub mod EndpointLemmas
+pub mod VerdictLaws
+pub mod EntryLaws
+pub mod AgreeLaws
+pub mod ReadLemmas

@@ -1,0 +1,10 @@
+pub mod Codes
+pub mod Refusals
+pub mod EndpointBytes
+pub mod Entry
+pub mod VerdictBytes
+pub mod EventBytes
+pub mod EntryBytes
+pub mod Laws
+pub mod ReadEvent
+pub mod ReadEntry

@@ -1,0 +1,21 @@
+//! Laws of the definitions.
+
+ghost use Rattle.entry_bytes.specs.Laws.{CodesReadBack, OversReadBack, AdmitRefusalsReadBack, ChangeRefusalsReadBack, EndpointsReadBack, EntriesReadBack, RulingsAgree, ReleasesAreShort};
+
+/// The bytes of a part of an entry are read as what was added, whatever follows them; those of an
+/// endpoint if nothing follows them.
+pub fn parts_read_back()
+    ensures codes { CodesReadBack }
+    ensures overs { OversReadBack }
+    ensures admissions { AdmitRefusalsReadBack }
+    ensures changes { ChangeRefusalsReadBack }
+    ensures endpoints { EndpointsReadBack }
+{}
+
+/// The bytes of an entry are read as the entry, if the ruling agrees with the event, as each does
+/// that is ruled on it; and those of a granted release are at most 135.
+pub fn entries_read_back()
+    ensures entries { EntriesReadBack }
+    ensures rulings { RulingsAgree }
+    ensures releases { ReleasesAreShort }
+{}

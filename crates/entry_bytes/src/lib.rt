@@ -1,0 +1,34 @@
+//! Entries of the record as bytes: how they are added to a vector, and how they are read again.
+#![tactic(auto)]
+
+pub mod codes;
+mod endpoint_adding;
+mod endpoint_bytes;
+mod entry_reading;
+mod entry_writing;
+mod event_adding;
+mod event_reading;
+pub mod laws;
+mod read_events;
+mod refusal_reading;
+mod refusals;
+mod sizes;
+mod told;
+mod verdict_adding;
+mod verdict_kinds;
+mod verdict_reading;
+mod verdict_sizes;
+mod verdicts;
+
+pub use endpoint_adding::{add_endpoint, size_of_endpoint};
+pub use endpoint_bytes::EndpointBytes;
+pub use entry_reading::{ReadEntry, read_entry};
+pub use entry_writing::{add_entry, size_of_entry, write_entry};
+pub use event_reading::read_event;
+pub use read_events::ReadEvent;
+pub use refusal_reading::{read_admit_refusal, read_change_refusal, read_over};
+pub use refusals::{add_admit_refusal, add_change_refusal, add_over};
+pub use sizes::{size_of_admit_refusal, size_of_change_refusal, size_of_over};
+pub use verdict_kinds::VerdictKind;
+pub use verdict_reading::read_verdict;
+pub use verdicts::Verdict;

@@ -1,0 +1,83 @@
+//! What an entry tells beside its event.
+
+use bandwidth::Over;
+use gk_terms::{Address, Name, Units, Version};
+use rulings::{
+    ChangeRefusal, DestinationKind, RegisterRefusal, ReleaseRefusal, RouteRefusal,
+    UnregisterRefusal,
+};
+
+/// What an entry tells beside its event: what the event names itself is not in it.
+#[derive(Clone, Copy)]
+pub enum Verdict {
+    /// The endpoint registers in this zone.
+    Registered {
+        zone: Name,
+    },
+    /// The endpoint may not register.
+    RegisterRefused {
+        reason: RegisterRefusal,
+    },
+    /// The endpoint leaves.
+    Unregistered,
+    /// The endpoint may not leave.
+    UnregisterRefused {
+        reason: UnregisterRefusal,
+    },
+    /// The call is opened, from this zone to this destination.
+    Admitted {
+        zone: Name,
+        kind: DestinationKind,
+        name: Name,
+        address: Address,
+    },
+    /// The endpoint, which is in this zone, answers a call, which is opened for it.
+    Answering {
+        zone: Name,
+        kind: DestinationKind,
+        address: Address,
+    },
+    /// The open call of the number was admitted to the endpoint, with this bandwidth.
+    Repeated {
+        zone: Name,
+        units: Units,
+        kind: DestinationKind,
+        name: Name,
+        address: Address,
+    },
+    /// The caller is not registered.
+    CallerNotRegistered,
+    /// A call of the number is open.
+    CallOpen {
+        zone: Name,
+    },
+    /// The digits lead nowhere.
+    NoRoute {
+        zone: Name,
+        refusal: RouteRefusal,
+    },
+    /// The digits lead to this destination, but a sum of the call would be above its limit.
+    OverLimit {
+        zone: Name,
+        kind: DestinationKind,
+        name: Name,
+        address: Address,
+        over: Over,
+    },
+    /// The call has the bandwidth that was asked for.
+    Changed,
+    /// The call keeps the bandwidth that it has.
+    ChangeRefused {
+        reason: ChangeRefusal,
+    },
+    /// The call is closed.
+    Released,
+    /// The call stays as it is.
+    ReleaseRefused {
+        reason: ReleaseRefusal,
+    },
+    /// The configuration that is asked for is in force, as this version.
+    Reloaded {
+        version: Version,
+    },
+}
