@@ -16,6 +16,7 @@ use Rattle.rulings.specs.Lent.{ruling_meant}
 use Rattle.rulings.specs.Routing.{destination_of, route_of, target_for}
 use Rattle.rulings.specs.Ruling.{Ruling, admission_ruling, admission_to, admission_unless, admitted_call, answered_call, answering_ruling, answering_to, call_open_ruling, change_ruling, change_unless, is_that, register_refusal, registration_unless, release_refused, release_ruling, repeated_answer, ruling_of, unrouted}
 use Rattle.rulings.specs.State.{State}
+use Rattle.rulings.specs.Step.{no_memory_reply_of, places_needed}
 use Rattle.rulings.specs.declared.lent_rulings.LentRuling.{LentRuling}
 use Rattle.rulings.specs.declared.lent_rulings.LentRuling.TheVariants as ruling
 use Rattle.rulings.specs.declared.replies.ChangeRefusal.TheVariants as change
@@ -43,7 +44,8 @@ RepliesTo event (reply.AdmitRefused call reason) = call ≡ asked_call event
 RepliesTo event (reply.Changed call units) =
     (call ≡ asked_call event) × (units ≡ asked_units event)
 RepliesTo event (reply.ChangeRefused call reason) = call ≡ asked_call event
-RepliesTo event (reply.Released call) = call ≡ asked_call event
+RepliesTo event (reply.Released call) =
+    (call ≡ asked_call event) × (no_memory_reply_of event ≡ None)
 RepliesTo event (reply.ReleaseRefused call reason) = call ≡ asked_call event
 RepliesTo event (reply.Reloaded version) = ⊤
 RepliesTo event (reply.ReloadRefused reason) = ⊤
@@ -146,7 +148,7 @@ releasing s id call None = kept s id call release.NoCall
 releasing s id call (Some held) =
     fits_either (Releasing id call) (has_owner id held)
     (unrouted (reply.Released call) (effects.Close call id))
-    (release_refused s id call release.NotYours) (refl, tt) (kept s id call release.NotYours)
+    (release_refused s id call release.NotYours) ((refl, refl), tt) (kept s id call release.NotYours)
 
 -- an endpoint that is found by its ID has that ID
 found : (id : List ℕ) (endpoints : List EndpointParts)
@@ -207,3 +209,38 @@ agrees event (ruling.Reloaded version) f = tt
 pub ruling_agrees : (s : State) (event : PlainEvent) (r : LentRuling)
     → ruling_meant r ≡ ruling_of s event → Agrees event r
 ruling_agrees s event r is = agrees event r (subst (Fits event) (sym is) (fits s event))
+
+-- only what is granted to a release needs no place
+pub needs_no_place : (event : PlainEvent) (r : LentRuling) → Agrees event r
+    → places_needed (ruling_meant r).effect ≡ 0 → no_memory_reply_of event ≡ None
+needs_no_place event (ruling.Registered id zone) is none =
+    let impossible : ⊥ = cc in absurd impossible
+needs_no_place event (ruling.RegisterRefused id reason) is none =
+    let impossible : ⊥ = cc in absurd impossible
+needs_no_place event (ruling.Unregistered id) is none =
+    let impossible : ⊥ = cc in absurd impossible
+needs_no_place event (ruling.UnregisterRefused id reason) is none =
+    let impossible : ⊥ = cc in absurd impossible
+needs_no_place event (ruling.Admitted call owner source target remote units kind name address) is none =
+    let impossible : ⊥ = cc in absurd impossible
+needs_no_place event (ruling.Answering call owner zone units kind address) is none =
+    let impossible : ⊥ = cc in absurd impossible
+needs_no_place event (ruling.Repeated call zone units kind name address) is none =
+    let impossible : ⊥ = cc in absurd impossible
+needs_no_place event (ruling.CallerNotRegistered call) is none =
+    let impossible : ⊥ = cc in absurd impossible
+needs_no_place event (ruling.CallOpen call source) is none =
+    let impossible : ⊥ = cc in absurd impossible
+needs_no_place event (ruling.NoRoute call source refusal) is none =
+    let impossible : ⊥ = cc in absurd impossible
+needs_no_place event (ruling.OverLimit call source kind name address over) is none =
+    let impossible : ⊥ = cc in absurd impossible
+needs_no_place event (ruling.Changed call id units) is none =
+    let impossible : ⊥ = cc in absurd impossible
+needs_no_place event (ruling.ChangeRefused call reason) is none =
+    let impossible : ⊥ = cc in absurd impossible
+needs_no_place event (ruling.Released call id) is none = is.1
+needs_no_place event (ruling.ReleaseRefused call reason) is none =
+    let impossible : ⊥ = cc in absurd impossible
+needs_no_place event (ruling.Reloaded version) is none =
+    let impossible : ⊥ = cc in absurd impossible

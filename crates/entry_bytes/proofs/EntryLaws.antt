@@ -1,10 +1,6 @@
 -- An entry reads back.
-use Rattle.std.proofs.Common.{◌≡◌, ℕ, ◌≤◌, length, arith, ◌<◌, ◌^◌, true, false, List, [], ◌++◌, Option, Some, None, refl, sym, ap, ◌∙◌}
-use Rattle.std.specs.Prelude.{nat_le}
-use Rattle.std.proofs.lemmas.Bool.{and_parts}
-use Rattle.std.proofs.lemmas.Bool.Decides.{nat_tests}
+use Rattle.std.proofs.Common.{◌≡◌, ℕ, ◌<◌, ◌^◌, true, false, List, [], ◌++◌, Option, Some, None, refl, sym, ap, ◌∙◌}
 use Rattle.std.proofs.lemmas.List.{append-nil}
-use Rattle.gk_terms.specs.declared.limits.TheConstants.{MOST_NAME_BYTES}
 use Rattle.gk_terms.specs.Name.{IsName}
 use Rattle.registry.specs.Endpoint.{EndpointParts}
 use Rattle.rulings.specs.Events.{PlainEvent, Registering, Unregistering, Admitting, Answering, Changing, Releasing, Reloading}
@@ -23,7 +19,6 @@ use Rattle.entry_bytes.specs.EntryBytes.{entry_bytes, entry_in}
 use Rattle.entry_bytes.specs.EventBytes.{IsEvent, event_at, event_bytes, event_in}
 use Rattle.entry_bytes.specs.VerdictBytes.{IsVerdict}
 use Rattle.entry_bytes.specs.declared.verdicts.Verdict.{Verdict}
-use Rattle.entry_bytes.specs.declared.verdicts.Verdict.TheVariants as verdict
 use Rattle.entry_bytes.proofs.PartLaws.{endpoint_bytes_back}
 use Rattle.entry_bytes.proofs.VerdictLaws.{verdict_back}
 
@@ -146,7 +141,7 @@ told_by event (ruling.Changed call id units) is =
 told_by event (ruling.ChangeRefused call reason) is =
     ap (λ (c : ℕ). unrouted_entry event (reply.ChangeRefused c reason)) (sym is)
 told_by event (ruling.Released call id) is =
-    ap (λ (c : ℕ). unrouted_entry event (reply.Released c)) (sym is)
+    ap (λ (c : ℕ). unrouted_entry event (reply.Released c)) (sym is.0)
 told_by event (ruling.ReleaseRefused call reason) is =
     ap (λ (c : ℕ). unrouted_entry event (reply.ReleaseRefused c reason)) (sym is)
 told_by event (ruling.Reloaded version) is = refl
@@ -158,13 +153,3 @@ pub entry_by_back : (event : PlainEvent) (r : LentRuling) → IsEvent event
 entry_by_back event r is_event is_verdict agrees =
     entry_back event (verdict_meant r) is_event is_verdict
     ∙ ap (λ (e : PlainEntry). Some e) (told_by event r agrees)
-
--- ---- how long the entry of a granted release is
-pub releases_are_short : (id : List ℕ) (call : ℕ) → IsName id
-    → length (entry_bytes (Releasing id call) verdict.Released) ≤ 135
-releases_are_short id call is =
-    let parts = and_parts _ _ is in
-    let sizes = and_parts (nat_le 1 (length id)) (nat_le (length id) MOST_NAME_BYTES) parts.0 in
-    let short = sizes.1 in
-    let most : length id ≤ 128 = grind (arith, nat_tests, short) in
-    omega arith

@@ -3,7 +3,7 @@ use Rattle.std.specs.Prelude.{◌≡◌, ℕ, Bool, true, false, List, [], Optio
 use Rattle.rulings.specs.Events.{PlainEvent, Registering, Unregistering, Admitting, Answering, Changing, Releasing, Reloading}
 use Rattle.rulings.specs.Lent.{destination_meant}
 use Rattle.rulings.specs.Ruling.{Ruling}
-use Rattle.rulings.specs.Step.{opens_call}
+use Rattle.rulings.specs.Step.{no_memory_reply_of, opens_call}
 use Rattle.rulings.specs.declared.lent_rulings.LentRuling.{LentRuling}
 use Rattle.rulings.specs.declared.lent_rulings.LentRuling.TheVariants as ruling
 use Rattle.rulings.specs.declared.replies.AdmitRefusal.{AdmitRefusal}
@@ -152,7 +152,7 @@ verdict_meant (ruling.ReleaseRefused call reason) = verdict.ReleaseRefused reaso
 verdict_meant (ruling.Reloaded version) = verdict.Reloaded version
 
 -- the ruling names the call, the bandwidth and the ID that the event asks with, where it replies
--- with them
+-- with them; and a release alone, which never lacks memory, is granted as one
 abbrev pub Agrees : PlainEvent → LentRuling → Type 0
 Agrees event (ruling.Registered id zone) = id.now ≡ asked_id event
 Agrees event (ruling.RegisterRefused id reason) = id.now ≡ asked_id event
@@ -170,6 +170,7 @@ Agrees event (ruling.OverLimit call source kind name address over) = call ≡ as
 Agrees event (ruling.Changed call id units) =
     (call ≡ asked_call event) × (units ≡ asked_units event)
 Agrees event (ruling.ChangeRefused call reason) = call ≡ asked_call event
-Agrees event (ruling.Released call id) = call ≡ asked_call event
+Agrees event (ruling.Released call id) =
+    (call ≡ asked_call event) × (no_memory_reply_of event ≡ None)
 Agrees event (ruling.ReleaseRefused call reason) = call ≡ asked_call event
 Agrees event (ruling.Reloaded version) = ⊤

@@ -10,8 +10,12 @@ use Rattle.entry_bytes.specs.declared.verdicts.Verdict.{Verdict}
 abbrev pub entry_bytes : PlainEvent → Verdict → List ℕ
 entry_bytes event v = verdict_bytes v ++ event_bytes event
 
-abbrev pub entry_in : List ℕ → Option PlainEntry
-entry_in bytes = do
-  v ← verdict_in bytes
+-- the entry whose verdict was read, with these bytes left
+abbrev pub entry_after : Option (Verdict × List ℕ) → Option PlainEntry
+entry_after read = do
+  v ← read
   event ← event_in v.1
   Some (entry_told event v.0)
+
+abbrev pub entry_in : List ℕ → Option PlainEntry
+entry_in bytes = entry_after (verdict_in bytes)

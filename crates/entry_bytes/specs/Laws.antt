@@ -1,9 +1,8 @@
 -- What is added of a field reads back, whatever follows it.
-use Rattle.std.specs.Prelude.{◌≡◌, ◌≤◌, ℕ, List, length, Option, Some}
+use Rattle.std.specs.Prelude.{◌≡◌, ℕ, Option, Some}
 use Rattle.bandwidth.specs.declared.over.Over.{Over}
-use Rattle.gk_terms.specs.Name.{IsName}
 use Rattle.registry.specs.Endpoint.{EndpointParts}
-use Rattle.rulings.specs.Events.{PlainEvent, Releasing}
+use Rattle.rulings.specs.Events.{PlainEvent}
 use Rattle.rulings.specs.Lent.{ruling_meant}
 use Rattle.rulings.specs.Ruling.{ruling_of}
 use Rattle.rulings.specs.State.{State}
@@ -18,7 +17,6 @@ use Rattle.entry_bytes.specs.Entry.{Agrees, entry_by, verdict_meant}
 use Rattle.entry_bytes.specs.EntryBytes.{entry_bytes, entry_in}
 use Rattle.entry_bytes.specs.EventBytes.{IsEvent}
 use Rattle.entry_bytes.specs.VerdictBytes.{IsVerdict}
-use Rattle.entry_bytes.specs.declared.verdicts.Verdict.TheVariants.{Released}
 
 -- the code of a value means that value
 abbrev pub HasCodes : {A : Type 0} → (A → ℕ) → (ℕ → Option A) → Type 0
@@ -66,9 +64,3 @@ abbrev pub RulingsAgree : Type 0
 RulingsAgree =
     (s : State) (event : PlainEvent) (ruling : LentRuling)
     → ruling_meant ruling ≡ ruling_of s event → Agrees event ruling
-
--- the entry of a granted release, whatever the ID
-abbrev pub ReleasesAreShort : Type 0
-ReleasesAreShort =
-    (id : List ℕ) (call : ℕ) → IsName id
-    → length (entry_bytes (Releasing id call) Released) ≤ 135

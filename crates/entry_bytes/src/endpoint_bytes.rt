@@ -6,8 +6,8 @@ ghost use Rattle.registry.specs.BriefTexts.{HasRightTexts, after_text, first_tex
 ghost use Rattle.entry_bytes.specs.EndpointBytes.{endpoint_in};
 
 use crate::codes::endpoint_kind_of;
-use field_bytes::Fields;
-use gk_terms::{Address, Name};
+use field_bytes::{Fields, NameText};
+use gk_terms::Address;
 use registry::EndpointKind;
 use std::marker::Model;
 
@@ -55,14 +55,14 @@ impl<'a> EndpointBytes<'a> {
     }
 
     /// Its ID.
-    pub fn id(&self) -> Name
+    pub fn id(&self) -> NameText<'a>
         ensures { result ≡ self.now.id }
     {
         first_name(self.texts)
     }
 
     /// The zone in which it registers.
-    pub fn zone(&self) -> Name
+    pub fn zone(&self) -> NameText<'a>
         ensures { result ≡ self.now.zone }
     {
         let (_, rest) = cut_text(self.texts);
@@ -78,14 +78,14 @@ impl<'a> EndpointBytes<'a> {
 }
 
 /// The name at the beginning of the bytes.
-fn first_name(bytes: &[u8]) -> Name
+fn first_name(bytes: &[u8]) -> NameText<'_>
     requires { IsName (first_text bytes.now) }
     ensures { result ≡ first_text bytes.now }
 {
     let (name, _) = cut_text(bytes);
-    match Name::read(name) {
-        Ok(name) => name,
-        Err(_) => unreachable!(),
+    match NameText::read(name) {
+        Some(name) => name,
+        None => unreachable!(),
     }
 }
 

@@ -17,7 +17,7 @@ pub struct ReadEntry<'a> {
     /// What was asked.
     pub event: ReadEvent<'a>,
     /// What was decided.
-    pub verdict: Verdict,
+    pub verdict: Verdict<'a>,
 }
 
 /// The entry that the bytes are, if they are one.

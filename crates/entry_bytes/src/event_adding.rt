@@ -2,6 +2,7 @@
 
 ghost use Rattle.std.specs.Prelude.{◌≡◌, ◌≤◌, None, length};
 ghost use Rattle.rulings.specs.Events.{event_meant, put_in_force, Admitting, Answering, Changing, Releasing};
+ghost use Rattle.rulings.specs.Step.{no_memory_reply_of};
 ghost use Rattle.field_bytes.specs.Adding.{Adds, HasRoom};
 ghost use Rattle.entry_bytes.specs.EventBytes.{IsEvent, event_bytes};
 ghost use Rattle.entry_bytes.specs.ReadEvent.{HasRightEndpoint};
@@ -19,6 +20,7 @@ pub fn size_of_event(event: &LentEvent<'_>) -> usize
     requires other { put_in_force (event_meant event.now) ≡ None }
     ensures value { result ≡ length (event_bytes (event_meant event.now)) }
     ensures most { result ≤ 1000 }
+    ensures release { no_memory_reply_of (event_meant event.now) ≡ None → result ≤ 134 }
 {
     match event {
         LentEvent::Register(endpoint) => 1 + size_of_endpoint(endpoint),

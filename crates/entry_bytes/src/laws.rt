@@ -1,6 +1,6 @@
 //! Laws of the definitions.
 
-ghost use Rattle.entry_bytes.specs.Laws.{CodesReadBack, OversReadBack, AdmitRefusalsReadBack, ChangeRefusalsReadBack, EndpointsReadBack, EntriesReadBack, RulingsAgree, ReleasesAreShort};
+ghost use Rattle.entry_bytes.specs.Laws.{CodesReadBack, OversReadBack, AdmitRefusalsReadBack, ChangeRefusalsReadBack, EndpointsReadBack, EntriesReadBack, RulingsAgree};
 
 /// The bytes of a part of an entry are read as what was added, whatever follows them; those of an
 /// endpoint if nothing follows them.
@@ -13,9 +13,8 @@ pub fn parts_read_back()
 {}
 
 /// The bytes of an entry are read as the entry, if the ruling agrees with the event, as each does
-/// that is ruled on it; and those of a granted release are at most 135.
+/// that is ruled on it.
 pub fn entries_read_back()
     ensures entries { EntriesReadBack }
     ensures rulings { RulingsAgree }
-    ensures releases { ReleasesAreShort }
 {}

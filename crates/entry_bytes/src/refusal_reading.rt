@@ -23,7 +23,7 @@ fn read_zone_over(fields: &mut Fields<'_>, code: u8) -> Option<Over>
     ensures { Gives (zone_over_in code fields.old) result fields.new }
 {
     let kind = limit_kind_of(code)?;
-    let zone = fields.name()?;
+    let zone = fields.name()?.name();
     Some(Over::Zone { kind, zone })
 }
 

@@ -8,12 +8,13 @@ ghost use Rattle.entry_bytes.specs.ReadEvent.{event_read};
 use crate::entry_reading::ReadEntry;
 use crate::read_events::ReadEvent;
 use crate::verdicts::Verdict;
+use field_bytes::NameText;
 use gk_terms::{Name, Units};
 use rulings::{AdmitRefusal, Reply, Route};
 
-impl ReadEvent<'_> {
+impl<'a> ReadEvent<'a> {
     /// The ID of the endpoint that asks.
-    pub fn id(&self) -> Name
+    pub fn id(&self) -> NameText<'a>
         ensures { result ≡ asked_id (event_read self.now) }
     {
         match self {
@@ -22,7 +23,7 @@ impl ReadEvent<'_> {
             | ReadEvent::Admit { id, .. }
             | ReadEvent::Incoming { id, .. }
             | ReadEvent::Change { id, .. }
-            | ReadEvent::Release { id, .. } => *id,
+            | ReadEvent::Release { id, .. } => id.lent(),
         }
     }
 
@@ -62,16 +63,18 @@ impl ReadEntry<'_> {
         let event = &self.event;
         match &self.verdict {
             Verdict::Registered { zone } => Reply::Registered {
-                id: event.id(),
-                zone: *zone,
+                id: event.id().name(),
+                zone: zone.name(),
             },
             Verdict::RegisterRefused { reason } => Reply::RegisterRefused {
-                id: event.id(),
+                id: event.id().name(),
                 reason: *reason,
             },
-            Verdict::Unregistered => Reply::Unregistered { id: event.id() },
+            Verdict::Unregistered => Reply::Unregistered {
+                id: event.id().name(),
+            },
             Verdict::UnregisterRefused { reason } => Reply::UnregisterRefused {
-                id: event.id(),
+                id: event.id().name(),
                 reason: *reason,
             },
             Verdict::Admitted {
@@ -81,12 +84,12 @@ impl ReadEntry<'_> {
                 ..
             } => Reply::Admitted {
                 call: event.call(),
-                destination: kind.destination(name, *address),
+                destination: kind.destination(&name.name(), *address),
                 units: event.units(),
             },
             Verdict::Answering { kind, address, .. } => Reply::Admitted {
                 call: event.call(),
-                destination: kind.destination(&event.id(), *address),
+                destination: kind.destination(&event.id().name(), *address),
                 units: event.units(),
             },
             Verdict::Repeated {
@@ -97,7 +100,7 @@ impl ReadEntry<'_> {
                 ..
             } => Reply::Admitted {
                 call: event.call(),
-                destination: kind.destination(name, *address),
+                destination: kind.destination(&name.name(), *address),
                 units: *units,
             },
             Verdict::CallerNotRegistered => Reply::AdmitRefused {
@@ -143,7 +146,7 @@ impl ReadEntry<'_> {
             | Verdict::Repeated { zone, .. }
             | Verdict::CallOpen { zone }
             | Verdict::NoRoute { zone, .. }
-            | Verdict::OverLimit { zone, .. } => Some(*zone),
+            | Verdict::OverLimit { zone, .. } => Some(zone.name()),
             _ => None,
         }
     }
@@ -170,9 +173,9 @@ impl ReadEntry<'_> {
                 name,
                 address,
                 ..
-            } => Some(Route::To(kind.destination(name, *address))),
+            } => Some(Route::To(kind.destination(&name.name(), *address))),
             Verdict::Answering { kind, address, .. } => {
-                Some(Route::To(kind.destination(&self.event.id(), *address)))
+                Some(Route::To(kind.destination(&self.event.id().name(), *address)))
             }
             Verdict::NoRoute { refusal, .. } => Some(Route::Refused(*refusal)),
             _ => None,

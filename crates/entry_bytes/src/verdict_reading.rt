@@ -15,7 +15,7 @@ use gk_terms::Version;
 
 #[tactic(auto, unfolding(crate::specs::VerdictBytes::verdict_in))]
 /// What an entry tells beside its event.
-pub fn read_verdict(fields: &mut Fields<'_>) -> Option<Verdict>
+pub fn read_verdict<'a>(fields: &mut Fields<'a>) -> Option<Verdict<'a>>
     ensures { Gives (Spec.verdict_in fields.old) result fields.new }
 {
     let code = fields.byte()?;
@@ -25,7 +25,7 @@ pub fn read_verdict(fields: &mut Fields<'_>) -> Option<Verdict>
 
 #[tactic(auto, unfolding(crate::specs::VerdictBytes::verdict_at))]
 /// The same of this kind.
-fn read_of_kind(fields: &mut Fields<'_>, kind: VerdictKind) -> Option<Verdict>
+fn read_of_kind<'a>(fields: &mut Fields<'a>, kind: VerdictKind) -> Option<Verdict<'a>>
     ensures { Gives (Spec.verdict_at kind fields.old) result fields.new }
 {
     match kind {
@@ -49,7 +49,7 @@ fn read_of_kind(fields: &mut Fields<'_>, kind: VerdictKind) -> Option<Verdict>
 }
 
 /// That an endpoint registers.
-fn read_registered(fields: &mut Fields<'_>) -> Option<Verdict>
+fn read_registered<'a>(fields: &mut Fields<'a>) -> Option<Verdict<'a>>
     ensures { Gives (Spec.registered_in fields.old) result fields.new }
 {
     let zone = fields.name()?;
@@ -57,7 +57,7 @@ fn read_registered(fields: &mut Fields<'_>) -> Option<Verdict>
 }
 
 /// Why it may not.
-fn read_register_refused(fields: &mut Fields<'_>) -> Option<Verdict>
+fn read_register_refused<'a>(fields: &mut Fields<'a>) -> Option<Verdict<'a>>
     ensures { Gives (Spec.register_refused_in fields.old) result fields.new }
 {
     let code = fields.byte()?;
@@ -66,7 +66,7 @@ fn read_register_refused(fields: &mut Fields<'_>) -> Option<Verdict>
 }
 
 /// Why an endpoint may not leave.
-fn read_unregister_refused(fields: &mut Fields<'_>) -> Option<Verdict>
+fn read_unregister_refused<'a>(fields: &mut Fields<'a>) -> Option<Verdict<'a>>
     ensures { Gives (Spec.unregister_refused_in fields.old) result fields.new }
 {
     let code = fields.byte()?;
@@ -75,7 +75,7 @@ fn read_unregister_refused(fields: &mut Fields<'_>) -> Option<Verdict>
 }
 
 /// Where an admitted call leads.
-fn read_admitted(fields: &mut Fields<'_>) -> Option<Verdict>
+fn read_admitted<'a>(fields: &mut Fields<'a>) -> Option<Verdict<'a>>
     ensures { Gives (Spec.admitted_in fields.old) result fields.new }
 {
     let zone = fields.name()?;
@@ -92,7 +92,7 @@ fn read_admitted(fields: &mut Fields<'_>) -> Option<Verdict>
 }
 
 /// Where an endpoint answers a call.
-fn read_answering(fields: &mut Fields<'_>) -> Option<Verdict>
+fn read_answering<'a>(fields: &mut Fields<'a>) -> Option<Verdict<'a>>
     ensures { Gives (Spec.answering_in fields.old) result fields.new }
 {
     let zone = fields.name()?;
@@ -107,7 +107,7 @@ fn read_answering(fields: &mut Fields<'_>) -> Option<Verdict>
 }
 
 /// Where the open call of the number leads.
-fn read_repeated(fields: &mut Fields<'_>) -> Option<Verdict>
+fn read_repeated<'a>(fields: &mut Fields<'a>) -> Option<Verdict<'a>>
     ensures { Gives (Spec.repeated_in fields.old) result fields.new }
 {
     let units = fields.units()?;
@@ -126,7 +126,7 @@ fn read_repeated(fields: &mut Fields<'_>) -> Option<Verdict>
 }
 
 /// That a call of the number is open.
-fn read_call_open(fields: &mut Fields<'_>) -> Option<Verdict>
+fn read_call_open<'a>(fields: &mut Fields<'a>) -> Option<Verdict<'a>>
     ensures { Gives (Spec.call_open_in fields.old) result fields.new }
 {
     let zone = fields.name()?;
@@ -134,7 +134,7 @@ fn read_call_open(fields: &mut Fields<'_>) -> Option<Verdict>
 }
 
 /// Why digits lead nowhere.
-fn read_no_route(fields: &mut Fields<'_>) -> Option<Verdict>
+fn read_no_route<'a>(fields: &mut Fields<'a>) -> Option<Verdict<'a>>
     ensures { Gives (Spec.no_route_from fields.old) result fields.new }
 {
     let code = fields.byte()?;
@@ -144,7 +144,7 @@ fn read_no_route(fields: &mut Fields<'_>) -> Option<Verdict>
 }
 
 /// Where a call would lead, and the sum that would be above its limit.
-fn read_over_limit(fields: &mut Fields<'_>) -> Option<Verdict>
+fn read_over_limit<'a>(fields: &mut Fields<'a>) -> Option<Verdict<'a>>
     ensures { Gives (Spec.over_limit_in fields.old) result fields.new }
 {
     let zone = fields.name()?;
@@ -163,7 +163,7 @@ fn read_over_limit(fields: &mut Fields<'_>) -> Option<Verdict>
 }
 
 /// Why a bandwidth is not changed.
-fn read_change_refused(fields: &mut Fields<'_>) -> Option<Verdict>
+fn read_change_refused<'a>(fields: &mut Fields<'a>) -> Option<Verdict<'a>>
     ensures { Gives (Spec.change_refused_in fields.old) result fields.new }
 {
     let reason = read_change_refusal(fields)?;
@@ -171,7 +171,7 @@ fn read_change_refused(fields: &mut Fields<'_>) -> Option<Verdict>
 }
 
 /// Why a call is not released.
-fn read_release_refused(fields: &mut Fields<'_>) -> Option<Verdict>
+fn read_release_refused<'a>(fields: &mut Fields<'a>) -> Option<Verdict<'a>>
     ensures { Gives (Spec.release_refused_in fields.old) result fields.new }
 {
     let code = fields.byte()?;
@@ -180,7 +180,7 @@ fn read_release_refused(fields: &mut Fields<'_>) -> Option<Verdict>
 }
 
 /// The version that is in force.
-fn read_reloaded(fields: &mut Fields<'_>) -> Option<Verdict>
+fn read_reloaded<'a>(fields: &mut Fields<'a>) -> Option<Verdict<'a>>
     ensures { Gives (Spec.reloaded_in fields.old) result fields.new }
 {
     let version = Version::new(fields.number()?);

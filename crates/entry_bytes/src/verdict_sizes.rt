@@ -1,6 +1,8 @@
 //! How many bytes what an entry tells beside its event takes.
 
 ghost use Rattle.std.specs.Prelude.{◌≡◌, ◌≤◌, length};
+ghost use Rattle.rulings.specs.Lent.{ruling_meant};
+ghost use Rattle.rulings.specs.Step.{places_needed};
 ghost use Rattle.entry_bytes.specs.Entry.{verdict_meant};
 ghost use Rattle.entry_bytes.specs.VerdictBytes.{led_bytes, verdict_bytes};
 
@@ -13,6 +15,7 @@ use rulings::LentRuling;
 pub fn size_of_verdict(ruling: &LentRuling<'_>) -> usize
     ensures value { result ≡ length (verdict_bytes (verdict_meant ruling.now)) }
     ensures most { result ≤ 396 }
+    ensures released { places_needed (ruling_meant ruling.now).effect ≡ 0 → result ≡ 1 }
 {
     match ruling {
         LentRuling::Unregistered { .. }

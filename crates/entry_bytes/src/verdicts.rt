@@ -1,18 +1,20 @@
 //! What an entry tells beside its event.
 
 use bandwidth::Over;
-use gk_terms::{Address, Name, Units, Version};
+use field_bytes::NameText;
+use gk_terms::{Address, Units, Version};
 use rulings::{
     ChangeRefusal, DestinationKind, RegisterRefusal, ReleaseRefusal, RouteRefusal,
     UnregisterRefusal,
 };
 
-/// What an entry tells beside its event: what the event names itself is not in it.
-#[derive(Clone, Copy)]
-pub enum Verdict {
+/// What an entry tells beside its event: what the event names itself is not in it. The names stand
+/// in the entry.
+#[derive(Drop)]
+pub enum Verdict<'a> {
     /// The endpoint registers in this zone.
     Registered {
-        zone: Name,
+        zone: NameText<'a>,
     },
     /// The endpoint may not register.
     RegisterRefused {
@@ -26,41 +28,41 @@ pub enum Verdict {
     },
     /// The call is opened, from this zone to this destination.
     Admitted {
-        zone: Name,
+        zone: NameText<'a>,
         kind: DestinationKind,
-        name: Name,
+        name: NameText<'a>,
         address: Address,
     },
     /// The endpoint, which is in this zone, answers a call, which is opened for it.
     Answering {
-        zone: Name,
+        zone: NameText<'a>,
         kind: DestinationKind,
         address: Address,
     },
     /// The open call of the number was admitted to the endpoint, with this bandwidth.
     Repeated {
-        zone: Name,
+        zone: NameText<'a>,
         units: Units,
         kind: DestinationKind,
-        name: Name,
+        name: NameText<'a>,
         address: Address,
     },
     /// The caller is not registered.
     CallerNotRegistered,
     /// A call of the number is open.
     CallOpen {
-        zone: Name,
+        zone: NameText<'a>,
     },
     /// The digits lead nowhere.
     NoRoute {
-        zone: Name,
+        zone: NameText<'a>,
         refusal: RouteRefusal,
     },
     /// The digits lead to this destination, but a sum of the call would be above its limit.
     OverLimit {
-        zone: Name,
+        zone: NameText<'a>,
         kind: DestinationKind,
-        name: Name,
+        name: NameText<'a>,
         address: Address,
         over: Over,
     },

@@ -27,11 +27,16 @@ fn a_name_comes_after_its_length(rt: HostRuntime) -> Result<(), Fail> {
     let name = Name::read(b"gk-a")?;
     let bytes = named(rt.alloc(), &name)?;
     assert!(rt; bytes.as_slice() == b"\x04gk-a".as_slice());
-    assert!(rt; Fields::of(&bytes).name() == Some(name));
+    assert!(rt; Fields::of(&bytes).name().map(|read| read.name()) == Some(name));
     assert!(rt; Fields::of(&bytes[..4]).name().is_none());
     assert!(rt; Fields::of(b"\x04g\nk ").name().is_none());
     let longest = Name::read(&[b'a'; 128])?;
-    assert!(rt; Fields::of(&named(rt.alloc(), &longest)?).name() == Some(longest));
+    assert!(rt;
+        Fields::of(&named(rt.alloc(), &longest)?)
+            .name()
+            .map(|read| read.name())
+            == Some(longest)
+    );
     Ok(())
 }
 

@@ -3,7 +3,8 @@
 ghost use Rattle.std.specs.Prelude.{◌≡◌, MatchOption, Some, None};
 ghost use Rattle.field_bytes.specs.Fields.{Gives, address_in, byte_in, dialled_in, name_in, number_in, text_in};
 
-use gk_terms::{Address, Dialled, Name, Units};
+use crate::name_texts::NameText;
+use gk_terms::{Address, Dialled, Units};
 use std::marker::Model;
 
 /// The bytes of an entry that are still to be read, from the left. Each call reads one field; it
@@ -84,10 +85,10 @@ impl<'a> Fields<'a> {
     }
 
     /// A name.
-    pub fn name(&mut self) -> Option<Name>
+    pub fn name(&mut self) -> Option<NameText<'a>>
         ensures { Gives (name_in self.old) result self.new }
     {
-        Name::read(self.text()?).ok()
+        NameText::read(self.text()?)
     }
 
     /// Dialled digits.

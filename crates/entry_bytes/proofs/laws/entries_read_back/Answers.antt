@@ -1,5 +1,5 @@
 use Rattle.entry_bytes.proofs.AgreeLaws.{ruling_agrees}
-use Rattle.entry_bytes.proofs.EntryLaws.{entry_by_back, releases_are_short}
+use Rattle.entry_bytes.proofs.EntryLaws.{entry_by_back}
 use Rattle.entry_bytes.proofs.laws.entries_read_back.Goals as goal
 
 pub returns-clause-entries : goal.returns-clause-entries
@@ -7,6 +7,3 @@ returns-clause-entries c = entry_by_back
 
 pub returns-clause-rulings : goal.returns-clause-rulings
 returns-clause-rulings c = ruling_agrees
-
-pub returns-clause-releases : goal.returns-clause-releases
-returns-clause-releases c = releases_are_short
