@@ -9,7 +9,8 @@ use Rattle.command_reader.specs.declared.commands.Command.{Command}
 use Rattle.rulings.specs.Events.{PlainEvent, Registering, Unregistering, Admitting, Answering, Changing, Releasing, Reloading, put_in_force}
 use Rattle.rulings.specs.Ruling.{ruling_of, verdict_of}
 use Rattle.rulings.specs.Step.{places_needed, count_refusal, step, no_memory_reply_of}
-use Rattle.decision_record.specs.History.{PlainEntry, entry_of, IsLegal, replay, CoreParts, RecordParts, in_force, generations_of, generations, state_of, with_entry, receipt_of, MayReply, core_after}
+use Rattle.entry_bytes.specs.Entry.{PlainEntry}
+use Rattle.decision_record.specs.History.{entry_of, IsLegal, replay, CoreParts, RecordParts, in_force, generations_of, generations, state_of, with_entry, receipt_of, MayReply, core_after}
 use Rattle.admission.specs.CoreInvariant.{IsOrderKept}
 use Rattle.rulings.specs.Ruling.{Ruling}
 use Rattle.rulings.specs.declared.replies.Reply.{Reply}

@@ -17,7 +17,8 @@ use Rattle.rulings.specs.Events.{PlainEvent, endpoint_asking, put_in_force}
 use Rattle.rulings.specs.Ruling.{register_refusal, ruling_of}
 use Rattle.rulings.specs.Step.{with_registered, with_commands, with_effect, state_after, step}
 use Rattle.rulings.specs.Founded.{IsPlaceable, IsFounded}
-use Rattle.decision_record.specs.History.{PlainEntry, IsLegal, replay}
+use Rattle.entry_bytes.specs.Entry.{PlainEntry}
+use Rattle.decision_record.specs.History.{IsLegal, replay}
 use Rattle.admission.specs.HistoryLaws.{EndpointsAreLocal}
 use Rattle.admission.proofs.FoundedLemmas.{founded}
 use Rattle.admission.proofs.StepLemmas.{step_not_refused, step_state}

@@ -2,6 +2,7 @@
 use Rattle.std.proofs.Common.{◌≡◌, ◌+◌, Bool, true, false, not, ◌&&◌, length, Option, Some, None, inl, inr, refl, sym, ap, ◌∙◌, arith}
 use Rattle.std.proofs.lemmas.List.{length_push}
 use Rattle.std.specs.Prelude.{is_some}
+use Rattle.std.specs.Option.{unwrap_or}
 use Rattle.rulings.specs.State.{State, MachineParts, bare}
 use Rattle.rulings.specs.Events.{PlainEvent, kind_of, id_of, call_number_of}
 use Rattle.rulings.specs.Founded.{IsUnder}
@@ -112,6 +113,16 @@ module _ (m : MachineParts) (s : State) (is : IsUnder m s) (event : PlainEvent) 
           ap (λ (r : Ruling). r.verdict) given
           ∙ sym (ap (λ (o : Option Reply). (outcome_of s event (ruling_of s event) o).reply)
           (ap (count_refusal s event) (sym given) ∙ sym counts_under ∙ found))
+
+      -- so this is the reply, whether a count refuses or not
+      pub refused_reply : unwrap_or (count_refusal (bare m) event ruling) ruling.verdict
+          ≡ (step s event).reply
+      refused_reply = by (count_refusal (bare m) event ruling) refl
+        where
+          by : (o : Option Reply) → count_refusal (bare m) event ruling ≡ o
+              → unwrap_or o ruling.verdict ≡ (step s event).reply
+          by None found = verdict_reply found
+          by (Some refusal) found = refusal_reply refusal found
 
 -- ---- a core
 -- the verdict on an event that is recorded may be replied

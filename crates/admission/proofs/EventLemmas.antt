@@ -1,5 +1,5 @@
 -- One event of a core, and its record: what it leaves if it is recorded, and if it is not.
-use Rattle.std.proofs.Common.{◌≡◌, ◌≤◌, ◌+◌, Bool, true, false, cond, List, [], ◌∷◌, ◌++◌, length, Option, Some, None, refl, sym, ap, ap₂, subst, ◌∙◌, arith}
+use Rattle.std.proofs.Common.{◌≡◌, ◌≤◌, ◌+◌, ℕ, Bool, true, false, cond, List, [], ◌∷◌, ◌++◌, length, Option, Some, None, refl, sym, ap, ap₂, subst, ◌∙◌, arith}
 use Rattle.rulings.specs.State.{State, MachineParts, bare, opening_of, under}
 use Rattle.rulings.specs.Founded.{IsUnder}
 use Rattle.std.specs.Prelude.{IfSome}
@@ -11,9 +11,8 @@ use Rattle.rulings.specs.Ruling.{reload_ruling, ruling_of, verdict_of}
 use Rattle.rulings.specs.declared.replies.Reply.TheVariants.{ReloadRefused}
 use Rattle.rulings.specs.declared.replies.ReloadRefusal.TheVariants.{NoMemory}
 use Rattle.rulings.specs.Step.{is_recorded, reload_refusal, count_refusal, state_after, Outcome, outcome_of, step, no_memory_reply_of}
-use Rattle.decision_record.specs.History.{entry_of, IsLegal, replay, CoreParts, RecordParts, in_force, in_force_of, generations_of, state_of, receipt_of, unrecorded_reply, IsRecorded, IsUnrecorded}
+use Rattle.decision_record.specs.History.{entry_of, reload_entry, IsLegal, replay, CoreParts, RecordParts, in_force, in_force_of, generations_of, state_of, receipt_of, unrecorded_reply, IsRecorded, IsUnrecorded}
 use Rattle.rulings.specs.Ruling.{Ruling}
-use Rattle.decision_record.specs.Slots.{other_entry}
 use Rattle.rulings.specs.declared.replies.Reply.{Reply}
 use Rattle.decision_record.specs.declared.entries.Receipt.{Receipt}
 use Rattle.admission.proofs.VersionLemmas.{all_more}
@@ -67,11 +66,17 @@ step_unrecorded s event free unrecorded =
     }) unrecorded
 
 -- what is recorded of a reload
-pub reload_entry : (s : State) (commands : List Command) (reply : Reply)
-    → reply ≡ (ruling_of s (Reloading commands)).verdict
-    → other_entry (Reloading commands) reply ≡ entry_of s (Reloading commands)
-unfolding ruling_of
-reload_entry s commands reply is = ap (other_entry (Reloading commands)) is
+pub entry_of_reload : (s : State) (commands : List Command) (version : ℕ)
+    → version ≡ (state_after s (Reloading commands) (ruling_of s (Reloading commands))).version
+    → reload_entry commands version ≡ entry_of s (Reloading commands)
+unfolding ruling_of state_after
+entry_of_reload s commands version is = ap (reload_entry commands) is
+
+-- and it leaves the calls
+pub reload_calls : (s : State) (commands : List Command)
+    → (state_after s (Reloading commands) (ruling_of s (Reloading commands))).calls ≡ s.calls
+unfolding ruling_of state_after
+reload_calls s commands = refl
 
 module _ (machine : State) (event : PlainEvent) (core : CoreParts)
     (same : machine ≡ state_of core) where

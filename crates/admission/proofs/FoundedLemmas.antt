@@ -1,6 +1,6 @@
 -- The effect of a ruling that no count refuses can be carried out.
 use Rattle.std.proofs.Common.{◌≡◌, ◌≤◌, ◌+◌, ◌-◌, Bool, true, false, cond, List, length, ⊎_elim, Option, Some, None, refl, sym, ap, subst, ◌∙◌, true≢false, arith}
-use Rattle.std.specs.Prelude.{ℕ, nat_lt, IsSome}
+use Rattle.std.specs.Prelude.{ℕ, zero, suc, nat_lt, IsSome}
 use Rattle.std.proofs.lemmas.Bool.{cases_Bool, ltb-false}
 use Rattle.std.proofs.lemmas.Option.{none-some}
 use Rattle.registry.specs.Endpoint.{EndpointParts}
@@ -336,6 +336,13 @@ module _ (s : State) (event : PlainEvent) (kept : ℕ) (enough : length s.calls 
       by (Some commands) = omega (arith, enough)
 
 -- ---- as a ruling is carried out
+-- a place is needed, if no more than those reserved could be had for a short entry
+pub some_needed : (needed more reserved bytes : ℕ) → more ≡ needed - reserved
+    → (needed ≡ 0 → bytes ≤ 138) → (bytes ≤ 138 → more ≡ 0 → ⊥) → 1 ≤ needed
+some_needed zero more reserved bytes is short fails =
+    absurd (fails (short refl) (omega (arith, is)))
+some_needed (suc n) more reserved bytes is short fails = omega arith
+
 module _ (s : State) (event : PlainEvent) (ruling : Ruling) (ruled : ruling ≡ ruling_of s event)
     (free : count_refusal s event ruling ≡ None) where
   none_refuses : count_refusal s event (ruling_of s event) ≡ None

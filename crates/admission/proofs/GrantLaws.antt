@@ -19,7 +19,8 @@ use Rattle.rulings.specs.State.{State, opening_of}
 use Rattle.rulings.specs.Events.{PlainEvent}
 use Rattle.rulings.specs.Ruling.{ruling_of, verdict_of}
 use Rattle.rulings.specs.Step.{with_effect, with_count, state_after, step}
-use Rattle.decision_record.specs.History.{PlainEntry, IsLegal, replay}
+use Rattle.entry_bytes.specs.Entry.{PlainEntry}
+use Rattle.decision_record.specs.History.{IsLegal, replay}
 use Rattle.admission.specs.HistoryLaws.{StandsAfter, IsGrant, ToOpen, ToRaise, IsCallWithin, sum_named, IsRefusedRightly, RecordedGrantsAreWithin, RecordedRaisesWereWithin, RecordedLimitsAreAbove}
 use Rattle.admission.proofs.StepLemmas.{step_state}
 use Rattle.admission.proofs.HistoryLaws.{verdict_there}

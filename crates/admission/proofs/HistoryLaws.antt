@@ -21,7 +21,8 @@ use Rattle.rulings.specs.declared.limits.Limits.{Limits}
 use Rattle.rulings.specs.Events.{PlainEvent, Admitting, endpoint_asking, put_in_force}
 use Rattle.rulings.specs.Ruling.{ruling_of, verdict_of}
 use Rattle.rulings.specs.Step.{places_needed, count_refusal, is_recorded, with_registered, with_commands, with_effect, with_count, state_after, step}
-use Rattle.decision_record.specs.History.{PlainEntry, entry_of, IsLegal, replay, in_force_after, in_force_of, generations_of}
+use Rattle.entry_bytes.specs.Entry.{PlainEntry}
+use Rattle.decision_record.specs.History.{entry_of, IsLegal, replay, in_force_after, in_force_of, generations_of}
 use Rattle.admission.specs.HistoryLaws.{AreAccepted, StandsAfter, RecordedAdmissionsAreRouted, RecordedRefusalsAreUnrouted, IsWithinLimits, RecordsAreSound}
 use Rattle.rulings.specs.Founded.{IsPlaceable, IsFounded}
 use Rattle.admission.proofs.CallsLemmas.{length-with_call, length-with_changed, length-without_call}

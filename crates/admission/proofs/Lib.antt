@@ -22,3 +22,4 @@ pub mod StepLemmas
 pub mod TargetLaws
 pub mod ToldRowLemmas
 pub mod VersionLemmas
+pub mod WritingLemmas

@@ -14,7 +14,8 @@ use Rattle.command_reader.specs.declared.commands.Command.{Command}
 use Rattle.rulings.specs.Events.{PlainEvent, endpoint_asking, put_in_force}
 use Rattle.rulings.specs.Ruling.{ruling_of}
 use Rattle.rulings.specs.Step.{with_registered, with_commands, with_effect, state_after, step}
-use Rattle.decision_record.specs.History.{PlainEntry, IsLegal, replay}
+use Rattle.entry_bytes.specs.Entry.{PlainEntry}
+use Rattle.decision_record.specs.History.{IsLegal, replay}
 use Rattle.admission.proofs.StepLemmas.{step_state}
 
 -- ---- parts of a list in order

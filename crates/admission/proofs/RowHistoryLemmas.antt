@@ -23,7 +23,8 @@ use Rattle.admission.specs.HistoryLaws.{IsSound}
 use Rattle.rulings.specs.Ruling.{ruling_of}
 use Rattle.rulings.specs.Events.{PlainEvent}
 use Rattle.rulings.specs.Step.{state_after, step}
-use Rattle.decision_record.specs.History.{PlainEntry, entry_of, entry_of_number, IsLegal, replay}
+use Rattle.entry_bytes.specs.Entry.{PlainEntry}
+use Rattle.decision_record.specs.History.{entry_of, entry_of_number, IsLegal, replay}
 use Rattle.decision_record.specs.Rows.{call_event, row_of, entry_row, row_in, rows_from, rows_of}
 use Rattle.admission.proofs.FoundedLemmas.{founded}
 use Rattle.admission.proofs.OrderLemmas.{step_ascends, replay_ascends}

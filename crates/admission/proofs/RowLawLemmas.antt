@@ -4,7 +4,8 @@ use Rattle.std.specs.Prelude.{slice_get}
 use Rattle.std.specs.Option.{option_and_then}
 use Rattle.std.proofs.lemmas.Option.{none-some, slice_get_within}
 use Rattle.rulings.specs.State.{opening_of}
-use Rattle.decision_record.specs.History.{PlainEntry, entry_of_number, replay}
+use Rattle.entry_bytes.specs.Entry.{PlainEntry}
+use Rattle.decision_record.specs.History.{entry_of_number, replay}
 use Rattle.decision_record.specs.Rows.{entry_row}
 use Rattle.admission.specs.RowLaws.{RowsAreNeverRefused}
 use Rattle.admission.proofs.HistoryLaws.{records_are_sound}

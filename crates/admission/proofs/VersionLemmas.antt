@@ -17,7 +17,8 @@ use Rattle.rulings.specs.declared.replies.ReloadRefusal.TheVariants.{ReloadsSpen
 use Rattle.rulings.specs.Events.{PlainEvent, Reloading, put_in_force}
 use Rattle.rulings.specs.Ruling.{reload_ruling, ruling_of, verdict_of}
 use Rattle.rulings.specs.Step.{places_needed, are_reloads_spent, count_refusal, outcome_of, step}
-use Rattle.decision_record.specs.History.{PlainEntry, CoreParts, entry_of, generations_of, generations, state_of, with_entry, Steps}
+use Rattle.entry_bytes.specs.Entry.{PlainEntry}
+use Rattle.decision_record.specs.History.{CoreParts, entry_of, generations_of, generations, state_of, with_entry, Steps}
 use Rattle.rulings.specs.declared.replies.Reply.{Reply}
 use Rattle.rulings.specs.declared.replies.Reply.TheVariants.{Reloaded, ReloadRefused}
 use Rattle.decision_record.specs.declared.entries.Receipt.{Receipt}

@@ -16,7 +16,8 @@ use Rattle.rulings.specs.State.{State, opening_of}
 use Rattle.rulings.specs.Events.{PlainEvent, Answering}
 use Rattle.rulings.specs.Routing.{destination_of}
 use Rattle.rulings.specs.Ruling.{answered_call, verdict_of}
-use Rattle.decision_record.specs.History.{PlainEntry, IsLegal, replay}
+use Rattle.entry_bytes.specs.Entry.{PlainEntry}
+use Rattle.decision_record.specs.History.{IsLegal, replay}
 use Rattle.admission.specs.HistoryLaws.{StandsAfter}
 
 -- the ways in which the endpoint of an ID may answer the call of this number, if it asks these

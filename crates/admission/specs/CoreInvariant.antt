@@ -1,8 +1,10 @@
 -- What every core keeps. A reader of the contracts need not know it.
-use Rattle.std.specs.Prelude.{◌≡◌, ◌≤◌, ℕ, ◌+◌, Bool, length, if◌then◌else◌}
+use Rattle.std.specs.Prelude.{◌≡◌, ◌≤◌, ℕ, ◌+◌, Bool, List, length, if◌then◌else◌}
 use Rattle.std.specs.List.{AllByRecursion}
 use Rattle.command_reader.specs.Accepted.{IsAccepted}
+use Rattle.bandwidth.specs.declared.open_call.OpenCall.{OpenCall}
 use Rattle.rulings.specs.State.{State}
+use Rattle.decision_record.specs.Drafts.{DraftParts}
 use Rattle.decision_record.specs.History.{RecordParts, IsLegal, replay, generations_of}
 
 -- the places that are kept for a reload
@@ -18,3 +20,7 @@ pub record IsOrderKept (opening : State) (history : RecordParts) (machine : Stat
   pub replayed : machine ≡ replay opening history.entries
   pub accepted : AllByRecursion IsAccepted (generations_of opening.commands history.entries)
   pub kept : length machine.calls + places_reserved reserved ≤ history.kept
+
+-- while a call is open, there is room to write the entry of its release
+abbrev pub IsReady : List OpenCall → DraftParts → Type 0
+IsReady calls draft = 1 ≤ length calls → 138 ≤ draft.room

@@ -29,7 +29,8 @@ use Rattle.rulings.specs.State.{State, opening_of}
 use Rattle.rulings.specs.Events.{PlainEvent, Admitting, Answering, Changing}
 use Rattle.rulings.specs.Routing.{target_for, route_of}
 use Rattle.rulings.specs.Ruling.{admitted_call, answered_call}
-use Rattle.decision_record.specs.History.{PlainEntry, IsLegal, replay, generations_of}
+use Rattle.entry_bytes.specs.Entry.{PlainEntry}
+use Rattle.decision_record.specs.History.{IsLegal, replay, generations_of}
 use Rattle.admission.specs.RouteLaws.{IsRouted, IsUnrouted}
 
 -- ---- routes

@@ -6,7 +6,8 @@ use Rattle.call_rows.specs.Pushing.{push_fault}
 use Rattle.rulings.specs.declared.limits.Limits.{Limits}
 use Rattle.rulings.specs.Limits.{are_limits}
 use Rattle.rulings.specs.State.{opening_of}
-use Rattle.decision_record.specs.History.{PlainEntry, entry_of_number, IsLegal}
+use Rattle.entry_bytes.specs.Entry.{PlainEntry}
+use Rattle.decision_record.specs.History.{entry_of_number, IsLegal}
 use Rattle.decision_record.specs.Rows.{entry_row, rows_of}
 
 -- under limits in their ranges: the row of each entry of a record may be put after the rows of

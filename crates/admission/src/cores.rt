@@ -16,7 +16,7 @@ ghost use Rattle.std.specs.List.{AllByRecursion};
 
 use bandwidth::OpenCalls;
 use compiler::{Plan, Routed, Tables};
-use decision_record::{Receipt, Record};
+use decision_record::{Draft, RELOAD_BYTES, Receipt, Record};
 use gk_terms::{Dialled, Name, Units, Version};
 use registry::{Endpoint, Registry};
 use rulings::{Event, Limits, Machine, ReloadRefusal, Reply};
@@ -39,17 +39,19 @@ pub enum OpeningFault {
 /// A gatekeeper's core: the configuration in force, the registered endpoints, the open calls, and
 /// the record from which all of it can be rebuilt. A contract sees it as `CoreParts`: its opening
 /// state, the entries of its record, and whether a place is reserved for the entry of a reload; the
-/// current state is the replay of the entries.
+/// current state is the replay of the entries. While a call is open, `draft` has room for the entry
+/// of its release.
 #[derive(Drop)]
 pub struct Core {
     pub(crate) machine: Machine,
     pub(crate) history: Record,
     pub(crate) reserved: bool,
+    pub(crate) draft: Draft,
 }
 
 impl Model for Core {
     ghost use Rattle.rulings.specs.State.{opening_of, under};
-    ghost use Rattle.admission.specs.CoreInvariant.{IsOrderKept};
+    ghost use Rattle.admission.specs.CoreInvariant.{IsOrderKept, IsReady};
     ghost use Rattle.decision_record.specs.History.{CoreParts, in_force};
 
     ghost Value = { CoreParts };
@@ -61,7 +63,7 @@ impl Model for Core {
     } };
 
     ghost invariant = { λ c. IsOrderKept (opening_of c.history.opening c.machine.limits) c.history
-        (under (in_force c.history) c.machine) c.reserved };
+        (under (in_force c.history) c.machine) c.reserved × IsReady c.machine.calls c.draft };
 }
 
 impl Core {
@@ -86,6 +88,7 @@ impl Core {
             machine: Machine::new(alloc, limits),
             history: Record::new(alloc, tables),
             reserved: false,
+            draft: Draft::new(alloc),
         })
     }
 
@@ -217,7 +220,7 @@ impl Core {
         if self.reserved {
             return Ok(());
         }
-        match self.history.keep(1) {
+        match self.history.keep(RELOAD_BYTES, 1) {
             Ok(()) => {
                 self.reserved = true;
                 Ok(())

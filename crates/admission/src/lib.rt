@@ -15,7 +15,9 @@ pub use call_rows::{
     Snapshot,
 };
 pub use cores::{Core, OpeningFault};
-pub use decision_record::{Entry, EntryEvent, Receipt, Record, ReloadedCommands};
+pub use decision_record::{
+    EndpointBytes, Entry, ReadEntry, ReadEvent, Receipt, Record, ReloadedCommands, Verdict,
+};
 pub use rulings::{
     AdmitRefusal, ChangeRefusal, Destination, DestinationKind, Duplicate, Event, EventKind,
     KeptReply, LentEvent, LentRuling, Limits, RegisterRefusal, ReleaseRefusal, ReloadRefusal,

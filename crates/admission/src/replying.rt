@@ -4,7 +4,7 @@ ghost use Rattle.std.specs.Prelude.{◌≡◌, true, None, IfSome, IsSome};
 ghost use Rattle.std.specs.Arc.{arc_value};
 ghost use Rattle.std.specs.Option.{option_copied};
 ghost use Rattle.rulings.specs.Events as Events;
-ghost use Rattle.rulings.specs.Events.{is_of_names_alone, put_in_force};
+ghost use Rattle.rulings.specs.Events.{put_in_force};
 ghost use Rattle.rulings.specs.Lent.{IsPlanOf};
 ghost use Rattle.rulings.specs.Ruling.{ruling_of};
 ghost use Rattle.rulings.specs.Step.{step};
@@ -13,10 +13,10 @@ ghost use Rattle.admission.specs.Answering.{IsRoutedFor};
 ghost use Rattle.admission.specs.Replying.{RepliesInto};
 
 use crate::cores::Core;
-use crate::entering::places_reserved;
-use crate::settling::prepare;
+use crate::entering::{is_recorded, lack_memory, places_reserved, refuse};
+use crate::settling::{prepare, settle};
 use compiler::{Plan, Routed, Tables};
-use decision_record::{ShortReply, Slot, Told};
+use decision_record::RELOAD_BYTES;
 use gk_terms::{Dialled, Name, Units};
 use registry::Endpoint;
 use rulings::{Effect, Event, KeptReply, LentEvent, ReloadRefusal, Reply, ReplyTaker};
@@ -31,7 +31,7 @@ impl Core {
             self.new }
         ensures same { S.sequence taker.new ≡ S.sequence taker.old }
     {
-        self.reply_registration(&LentEvent::Register(endpoint), endpoint, taker);
+        self.reply_planned(None, &LentEvent::Register(endpoint), taker);
     }
 
     /// Replies to an unregistration, as `unregister` does, into a taker.
@@ -189,14 +189,14 @@ impl Core {
             self.new }
     {
         match asked {
-            LentEvent::Register(endpoint) => self.reply_registration(asked, endpoint, taker),
             LentEvent::Admit { .. } => match routed {
                 Some(routed) if routed.version == self.version() => {
                     self.reply_planned(Some(&routed.plan), asked, taker);
                 }
                 _ => self.reply_planned(None, asked, taker),
             },
-            LentEvent::Unregister { .. }
+            LentEvent::Register(_)
+            | LentEvent::Unregister { .. }
             | LentEvent::Incoming { .. }
             | LentEvent::Change { .. }
             | LentEvent::Release { .. } => {
@@ -206,8 +206,11 @@ impl Core {
         }
     }
 
-    /// The same of an event that is lent, and holds names and numbers alone; the reply goes into
-    /// the taker.
+    /// The same of an event that is lent, and is not a reload, with the plan of its digits, if that
+    /// is known; the reply goes into the taker.
+    ///
+    /// The entry is written before the effect is carried out, since the ruling is lent from what
+    /// that changes.
     fn reply_planned<S: ReplyTaker>(
         &mut self,
         planned: Option<&Plan>,
@@ -216,52 +219,31 @@ impl Core {
     )
         requires planned { IfSome (option_copied planned)
             (IsPlanOf (state_of self.old).commands (Events.event_meant event.now)) }
-        requires names { is_of_names_alone (Events.event_meant event.now) ≡ true }
+        requires other { put_in_force (Events.event_meant event.now) ≡ None }
         ensures reply { RepliesInto S.has self.old (Events.event_meant event.now) taker.new
             self.new }
         ensures same { S.sequence taker.new ≡ S.sequence taker.old }
     {
-        let ruling = &self.machine().ruling(self.tables(), planned, event);
+        let ruling = &self.machine.ruling(self.history.tables(), planned, event);
         taker.take_verdict(ruling);
-        if self.is_recorded(event, ruling) {
-            let effect = &ruling.effect();
-            match &Slot::of(event, ruling) {
-                Some(slot) => self.enter_lent(event, effect, slot, taker),
-                None => {
-                    let told = &Told::of(ruling);
-                    self.enter_whole(event, effect, told, taker);
-                }
-            }
-        } else {
-            self.refuse(event, ruling, taker);
+        if !is_recorded(&self.machine, event, ruling) {
+            refuse(&self.machine, event, ruling, taker);
+            return;
         }
-    }
-
-    /// The same of the registration of this endpoint.
-    fn reply_registration<S: ReplyTaker>(
-        &mut self,
-        event: &LentEvent<'_>,
-        endpoint: &Endpoint,
-        taker: &mut S,
-    )
-        requires asked { Events.event_meant event.now ≡ Events.Registering endpoint.now }
-        ensures reply { RepliesInto S.has self.old (Events.event_meant event.now) taker.new
-            self.new }
-        ensures same { S.sequence taker.new ≡ S.sequence taker.old }
-    {
-        let ruling = &self.machine().ruling(self.tables(), None, event);
-        taker.take_verdict(ruling);
-        if self.is_recorded(event, ruling) {
-            let effect = &ruling.effect();
-            match &ShortReply::of(endpoint, ruling) {
-                Some(replied) => self.enter_registration(event, effect, endpoint, replied, taker),
-                None => {
-                    let told = &Told::of(ruling);
-                    self.enter_whole(event, effect, told, taker);
-                }
-            }
-        } else {
-            self.refuse(event, ruling, taker);
+        let effect = &ruling.effect();
+        let written = self.draft.write(event, ruling);
+        let reserved = places_reserved(self.reserved);
+        match settle(
+            &mut self.history,
+            &mut self.machine,
+            &self.draft,
+            written,
+            event,
+            effect,
+            reserved,
+        ) {
+            Ok(()) => self.reserved = false,
+            Err(_) => lack_memory(event, taker),
         }
     }
 
@@ -295,10 +277,11 @@ impl Core {
             event,
             effect,
             reserved,
+            RELOAD_BYTES,
         ) {
-            Ok(_) => {
+            Ok(()) => {
                 self.reserved = false;
-                self.history.push_reloaded(tables, reply);
+                self.history.push_reload(tables, self.machine.version());
                 taker.take_reply(reply);
             }
             Err(_) => taker.take_reply(&Reply::ReloadRefused {

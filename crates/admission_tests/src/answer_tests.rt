@@ -1,89 +1,117 @@
-//! Answers to calls, as the record keeps them.
+//! Answers to calls, and what their entries read back as.
 
-use crate::test_cores::{core_of, is_recorded, terminal_in};
-use admission::{Core, Destination, EntryEvent, Event, Record, Reply};
-use gk_terms::{Address, Dialled, Name, Units};
+use crate::test_cores::{Given, admission, answer, core_of, is_recorded};
+use crate::wanted::{Asked, Wanted};
+use admission::{AdmitRefusal, AnsweredCall, CallEvent, Core, EventKind, Reply, Route};
+use gk_terms::{Name, Units};
 use std::alloc::Global;
-use std::borrow::Cow;
 use std::process::Abort;
 use std::test::Fail;
 
 #[test]
-fn answers_stand_in_few_bytes_or_whole(rt: HostRuntime) -> Result<(), Fail> {
-    assert_answers(&rt, rt.alloc(), b"terminal-0123456789", true)?;
-    assert_answers(&rt, rt.alloc(), b"terminal-01234567890", false)
+fn answers_read_back(rt: HostRuntime) -> Result<(), Fail> {
+    assert_answers(&rt, rt.alloc(), b"terminal-0123456789")?;
+    assert_answers(&rt, rt.alloc(), b"terminal-01234567890")?;
+    assert_answers(&rt, rt.alloc(), &[b't'; 128])
 }
 
-/// Asserts what comes of an answer to a call from another gatekeeper, and of one to a call that was
-/// admitted to the endpoint of this ID, and what the record has of both: few bytes or the whole.
-fn assert_answers(rt: &impl Abort, alloc: Global, id: &[u8], brief: bool) -> Result<(), Fail> {
-    let id = Name::read(id)?;
+/// Asserts what comes of an answer to a call from another gatekeeper, of one to a call that was
+/// admitted to the endpoint of this ID, and of two that are refused; what the entries read back as;
+/// and that the call from another gatekeeper is open beside the one that was admitted.
+fn assert_answers(rt: &impl Abort, alloc: Global, id: &[u8]) -> Result<(), Fail> {
+    let given = Given::of(id)?;
     let mut core = core_of(alloc)?;
-    assert_kept(rt, alloc, &mut core, id, brief)
-}
-
-/// The same with a core of which nothing was asked.
-fn assert_kept(
-    rt: &impl Abort,
-    alloc: Global,
-    core: &mut Core,
-    id: Name,
-    brief: bool,
-) -> Result<(), Fail> {
-    assert!(rt; is_called(core, alloc, id)?);
-    assert!(rt; is_answered(core, &id, 2001, 1280, 1280));
-    assert!(rt; is_answered(core, &id, 1001, 5000, 640));
+    assert!(rt; given.are_registered(&mut core, alloc)?);
+    assert!(rt; are_answers_recorded(&mut core, &given));
+    for wanted in &answers(&given) {
+        assert!(rt;
+            wanted.is_kept(core.record()),
+            "entry {}",
+            wanted.receipt.number
+        );
+    }
     assert_eq!(rt; core.calls().len(), 2);
     assert_eq!(rt; core.snapshot(alloc)?.len(), 2);
-    for (number, opened) in [(3, true), (4, true), (5, false)] {
-        let kept = kept_as(core.record(), number);
-        assert!(rt; kept == Some((brief, opened, opened)), "entry {number}");
-    }
     Ok(())
 }
 
-/// Whether the endpoint and a caller register, and the call 1001 is admitted to the endpoint.
-fn is_called(core: &mut Core, alloc: Global, id: Name) -> Result<bool, Fail> {
-    let (ta, zone) = (Name::read(b"ta")?, Name::read(b"gk-a")?);
-    let digits = Dialled::read(b"4085551234")?;
-    let mut called = terminal_in(alloc, id, zone);
-    called.add_alias(digits)?;
-    let asks = Event::Admit {
-        id: ta,
-        call: 1001,
-        digits,
-        units: Units::new(640),
-    };
-    Ok(
-        is_recorded(core, Event::Register(called))
-            && is_recorded(core, Event::Register(terminal_in(alloc, ta, zone)))
-            && is_recorded(core, asks),
-    )
+/// Whether these are recorded after an admission to the endpoint: its answer to a call of another
+/// number; its answer to the call that was admitted to it; the answer of another endpoint to the
+/// first; and that of one that is not registered.
+fn are_answers_recorded(core: &mut Core, given: &Given) -> bool {
+    let Given {
+        id,
+        ta,
+        tb,
+        alias,
+        ..
+    } = *given;
+    is_recorded(core, admission(ta, 1001, alias, 640))
+        && is_recorded(core, answer(id, 2001, 1280))
+        && is_recorded(core, answer(id, 1001, 5000))
+        && is_recorded(core, answer(ta, 2001, 64))
+        && is_recorded(core, answer(tb, 2002, 65))
 }
 
-/// Whether the endpoint's answer to the call with so many units is granted with these, and leads to
-/// the endpoint.
-fn is_answered(core: &mut Core, id: &Name, call: u32, asked: u32, granted: u32) -> bool {
-    let want = Reply::Admitted {
-        call,
-        destination: Destination::Terminal {
-            id: *id,
-            address: Address::new([10, 0, 1, 1], 1720),
+/// What they read back as.
+fn answers(given: &Given) -> [Wanted; 4] {
+    let Given {
+        id,
+        ta,
+        tb,
+        gk_a,
+        ..
+    } = *given;
+    let route = Route::To(given.called());
+    [
+        Wanted {
+            opened: true,
+            row: Some(CallEvent::Answered(AnsweredCall {
+                call: 2001,
+                zone: gk_a,
+                units: Units::new(1280),
+                granted: true,
+                route,
+            })),
+            ..granted(4, given, 2001, 1280, 1280)
         },
-        units: Units::new(granted),
+        granted(5, given, 1001, 5000, 640),
+        Wanted {
+            zone: Some(gk_a),
+            ..answered(6, ta, 2001, 64, refused(2001, AdmitRefusal::CallOpen))
+        },
+        answered(
+            7,
+            tb,
+            2002,
+            65,
+            refused(2002, AdmitRefusal::CallerNotRegistered),
+        ),
+    ]
+}
+
+/// The entry of a granted answer with so many units, which opened no call.
+fn granted(number: u32, given: &Given, call: u32, asked: u32, units: u32) -> Wanted {
+    let destination = &given.called();
+    let reply = Reply::Admitted {
+        call,
+        destination: *destination,
+        units: Units::new(units),
     };
-    match core.incoming(id, call, Units::new(asked)) {
-        Ok((reply, receipt)) => {
-            reply == want && receipt.reply == want && core.record().confirm(&[receipt]).is_ok()
-        }
-        Err(_) => false,
+    Wanted {
+        zone: Some(given.gk_a),
+        route: Some(Route::To(*destination)),
+        ..answered(number, given.id, call, asked, reply)
     }
 }
 
-/// Whether the entry of this number is made of few bytes, whether it opened a call, and whether it
-/// has a row.
-fn kept_as(record: &Record, number: u32) -> Option<(bool, bool, bool)> {
-    let entry = record.get(number)?;
-    let brief = matches!(&entry.event, EntryEvent::Asked(Cow::Owned(_)));
-    Some((brief, entry.opened, record.row(number).is_some()))
+/// The entry of an answer that was not routed.
+fn answered(number: u32, id: Name, call: u32, units: u32, reply: Reply) -> Wanted {
+    let asked = Asked::Bandwidth(Units::new(units));
+    Wanted::about(number, EventKind::Incoming, id, call, asked, reply)
+}
+
+/// That an answer is refused.
+fn refused(call: u32, reason: AdmitRefusal) -> Reply {
+    Reply::AdmitRefused { call, reason }
 }

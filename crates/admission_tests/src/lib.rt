@@ -8,8 +8,12 @@ mod core_tests;
 #[cfg(test)]
 mod laws_tests;
 #[cfg(test)]
+mod limit_tests;
+#[cfg(test)]
 mod reading_back_tests;
 #[cfg(test)]
 mod reload_tests;
 #[cfg(test)]
 mod test_cores;
+#[cfg(test)]
+mod wanted;

@@ -1,7 +1,7 @@
-pub mod RecordLemmas
+pub mod ItemLemmas
 pub mod PastLemmas
+pub mod RecordLemmas
 pub mod ReloadLemmas
 pub mod RowLemmas
-pub mod SlotListLemmas
 pub mod StoredLemmas
 pub mod ToldLemmas

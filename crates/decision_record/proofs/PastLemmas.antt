@@ -3,12 +3,11 @@ use Rattle.std.proofs.Common.{◌≡◌, List, [], ◌∷◌, ◌++◌, map, ref
 use Rattle.std.specs.Option.{unwrap_or}
 use Rattle.pieces.specs.Pieces.{PiecesParts}
 use Rattle.command_reader.specs.declared.commands.Command.{Command}
-use Rattle.rulings.specs.Events.{Reloading}
-use Rattle.decision_record.specs.History.{PlainEntry}
+use Rattle.entry_bytes.specs.Entry.{PlainEntry}
 use Rattle.decision_record.specs.declared.reloads.PastConfiguration.{PastConfiguration}
 use Rattle.decision_record.specs.declared.reloads.PastConfiguration.TheVariants as past
 use Rattle.decision_record.specs.declared.reloads.PastReload.{PastReload}
-use Rattle.decision_record.specs.Slots.{other_entry}
+use Rattle.decision_record.specs.History.{reload_entry}
 use Rattle.decision_record.specs.Reloads.{ArePlaced, IsPlaced, KeepsTexts, commands_past, plain_past}
 
 module _ (old new : PiecesParts (List Command)) (keeps : KeepsTexts old new) where
@@ -27,7 +26,7 @@ module _ (old new : PiecesParts (List Command)) (keeps : KeepsTexts old new) whe
   told_still : (r : PastReload) → IsPlaced old.items r.configuration
       → plain_past new.items r ≡ plain_past old.items r
   told_still r within =
-      ap (λ commands. other_entry (Reloading commands) r.reply) (said_still r.configuration within)
+      ap (λ commands. reload_entry commands r.version) (said_still r.configuration within)
 
   -- one more is past
   pub placed_more : (reloads : List PastReload) (last : PastReload) → ArePlaced old.items reloads

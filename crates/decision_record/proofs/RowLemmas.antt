@@ -1,17 +1,17 @@
 -- The rows of a record.
-use Rattle.std.proofs.Common.{◌≡◌, ℕ, Bool, true, false, cond, List, [], Option, Some, None, refl, sym, ap, ◌∙◌, true≢false}
-use Rattle.std.specs.Prelude.{IfSome, ◌↔◌, slice_get}
-use Rattle.std.specs.Option.{option_and_then, option_map}
+use Rattle.std.proofs.Common.{◌≡◌, ℕ, Bool, true, false, cond, Option, Some, None, refl, sym, ap, ◌∙◌, true≢false}
+use Rattle.std.specs.Prelude.{IfSome, ◌↔◌}
+use Rattle.std.specs.Option.{option_and_then}
 use Rattle.call_rows.specs.declared.rows.CallEvent.{CallEvent}
 use Rattle.call_rows.specs.Rows.{RowParts, is_row}
-use Rattle.registry.specs.Endpoint.{EndpointParts}
-use Rattle.decision_record.specs.declared.slot_parts.ShortReply.{ShortReply}
-use Rattle.decision_record.specs.declared.slot_parts.ShortReply.TheVariants as short_reply
-use Rattle.decision_record.specs.declared.slots.BriefSlot.{BriefSlot}
-use Rattle.decision_record.specs.declared.slots.BriefSlot.TheVariants as brief
-use Rattle.decision_record.specs.History.{PlainEntry}
-use Rattle.decision_record.specs.Rows.{call_event, row_of, entry_row}
-use Rattle.decision_record.specs.Slots.{register_entry, brief_entry}
+use Rattle.rulings.specs.Events.{PlainEvent}
+use Rattle.entry_bytes.specs.Entry.{PlainEntry, entry_told}
+use Rattle.entry_bytes.specs.ReadEntry.{entry_read}
+use Rattle.entry_bytes.specs.ReadEvent.{event_read}
+use Rattle.entry_bytes.specs.declared.entry_reading.ReadEntry.{ReadEntry}
+use Rattle.entry_bytes.specs.declared.verdicts.Verdict.{Verdict}
+use Rattle.entry_bytes.specs.declared.verdicts.Verdict.TheVariants as verdict
+use Rattle.decision_record.specs.Rows.{call_event, event_said, row_of, entry_row}
 
 -- a row of a number, if it is one
 pub row_made : (number : ℕ) (event : CallEvent) (o : Option RowParts)
@@ -36,24 +36,31 @@ pub made_of_found : (number : ℕ) (o : Option PlainEntry)
 made_of_found number None = refl
 made_of_found number (Some e) = refl
 
--- ---- entries that say nothing of a call
-pub nothing_of_registered : (replied : ShortReply) (o : Option EndpointParts)
-    → option_and_then call_event (option_map (register_entry replied) o) ≡ None
-nothing_of_registered replied None = refl
-nothing_of_registered replied (Some endpoint) = refl
+-- ---- entries that were read
+-- what is told of an event says what the event says with it
+said_of_told : (event : PlainEvent) (v : Verdict)
+    → event_said event (entry_told event v).reply (entry_told event v).zone
+    (entry_told event v).route (entry_told event v).opened
+    ≡ call_event (entry_told event v)
+said_of_told event (verdict.Registered zone) = refl
+said_of_told event (verdict.RegisterRefused reason) = refl
+said_of_told event verdict.Unregistered = refl
+said_of_told event (verdict.UnregisterRefused reason) = refl
+said_of_told event (verdict.Admitted zone k name address) = refl
+said_of_told event (verdict.Answering zone k address) = refl
+said_of_told event (verdict.Repeated zone units k name address) = refl
+said_of_told event verdict.CallerNotRegistered = refl
+said_of_told event (verdict.CallOpen zone) = refl
+said_of_told event (verdict.NoRoute zone refusal) = refl
+said_of_told event (verdict.OverLimit zone k name address over) = refl
+said_of_told event verdict.Changed = refl
+said_of_told event (verdict.ChangeRefused reason) = refl
+said_of_told event verdict.Released = refl
+said_of_told event (verdict.ReleaseRefused reason) = refl
+said_of_told event (verdict.Reloaded version) = refl
 
--- what a brief slot says of a call, whatever was registered
-pub brief_alone : (registrations : List EndpointParts) (b : BriefSlot)
-    → option_and_then call_event (brief_entry registrations b)
-    ≡ option_and_then call_event (brief_entry [] b)
-brief_alone registrations (brief.RefusedAnswer id call units) = refl
-brief_alone registrations (brief.Change id call units) = refl
-brief_alone registrations (brief.RefusedChange id call units cause) = refl
-brief_alone registrations (brief.Release id call) = refl
-brief_alone registrations (brief.Unregistration id) = refl
-brief_alone registrations (brief.RefusedUnregistration id reason) = refl
-brief_alone registrations (brief.RefusedRegistration place reason) =
-    nothing_of_registered (short_reply.Refused reason) (slice_get registrations place)
-    ∙ sym (nothing_of_registered (short_reply.Refused reason) (slice_get [] place))
-
-pub ruleset says_nothing = (brief_alone, nothing_of_registered)
+pub said_of_read : (read : ReadEntry)
+    → event_said (event_read read.event) (entry_read read).reply (entry_read read).zone
+    (entry_read read).route (entry_read read).opened
+    ≡ call_event (entry_read read)
+said_of_read read = said_of_told (event_read read.event) read.verdict

@@ -1,32 +1,22 @@
 -- The record of a core: a legal history, and the state that it leaves.
-use Rattle.std.specs.Prelude.{◌≡◌, ◌⊎◌, ℕ, ◌+◌, ◌-◌, ◌==◌, Bool, true, false, IsTrue, ⊤, List, [], ◌∷◌, ◌++◌, length, filter_map, slice_get, Option, Some, None, Result, MatchResult, if◌then◌else◌}
-use Rattle.std.specs.Cow.{cow_value}
+use Rattle.std.specs.Prelude.{◌≡◌, ◌⊎◌, ℕ, ◌+◌, ◌-◌, ◌==◌, Bool, false, true, IsTrue, ⊤, List, [], ◌∷◌, ◌++◌, length, filter_map, slice_get, Option, Some, None, Result, MatchResult, if◌then◌else◌}
 use Rattle.command_reader.specs.declared.commands.Command.{Command}
 use Rattle.command_reader.specs.Configuration.{Configuration}
 use Rattle.rulings.specs.State.{State}
-use Rattle.rulings.specs.Events.{PlainEvent, Registering, Reloading, plain, kind_of, id_of, call_number_of, put_in_force}
+use Rattle.rulings.specs.Events.{PlainEvent, Reloading, kind_of, id_of, call_number_of, put_in_force}
 use Rattle.rulings.specs.Ruling.{ruling_of}
-use Rattle.rulings.specs.Step.{step, opens_call, no_memory_reply_of}
-use Rattle.rulings.specs.Ruling.{Ruling}
+use Rattle.rulings.specs.Step.{step, no_memory_reply_of}
 use Rattle.rulings.specs.declared.replies.Reply.{Reply}
-use Rattle.rulings.specs.declared.routes.Route.{Route}
+use Rattle.rulings.specs.declared.replies.Reply.TheVariants as reply
+use Rattle.entry_bytes.specs.Entry.{PlainEntry, asked_id, entry_by, unrouted_entry}
+use Rattle.entry_bytes.specs.ReadEntry.{entry_read}
 use Rattle.decision_record.specs.declared.entries.Entry.{Entry}
-use Rattle.decision_record.specs.declared.entries.EntryEvent.{EntryEvent}
-use Rattle.decision_record.specs.declared.entries.EntryEvent.TheVariants as in_entry
+use Rattle.decision_record.specs.declared.entries.Entry.TheVariants as entry
 use Rattle.decision_record.specs.declared.entries.ReloadedCommands.{ReloadedCommands}
 use Rattle.decision_record.specs.declared.entries.ReloadedCommands.TheVariants as kept_as
 use Rattle.decision_record.specs.declared.entries.Receipt.{Receipt}
 
 -- ---- entries
--- an entry of the record by its values alone
-pub record PlainEntry : Type 0 where
-  pub event : PlainEvent
-  pub reply : Reply
-  pub zone : Option (List ℕ)
-  pub route : Option Route
-  -- whether it opened a call
-  pub opened : Bool
-
 -- what the record has of a reload: its commands, with the count of the lines that were passed over;
 -- or the lines of the commands alone
 abbrev pub configuration_reloaded : ReloadedCommands → Configuration
@@ -42,31 +32,14 @@ abbrev pub AreKeptAsLines : ReloadedCommands → Type 0
 AreKeptAsLines (kept_as.Commands commands) = ⊥
 AreKeptAsLines (kept_as.Lines lines) = ⊤
 
--- the values of its event
-abbrev pub event_in : EntryEvent → PlainEvent
-event_in (in_entry.Asked event) = plain (cow_value event)
-event_in (in_entry.Registration endpoint) = Registering endpoint.now
-event_in (in_entry.Reload commands) = Reloading (commands_reloaded commands)
+-- the entry of a reload of these commands, as this version
+abbrev pub reload_entry : List Command → (version : ℕ) → PlainEntry
+reload_entry commands version = unrouted_entry (Reloading commands) (reply.Reloaded version)
 
 -- the values of an entry
 abbrev pub plain_entry : Entry → PlainEntry
-plain_entry e = record {
-  event = event_in e.event;
-  reply = e.reply;
-  zone = e.zone;
-  route = e.route;
-  opened = e.opened;
-}
-
--- what is recorded of an event on which this was ruled
-abbrev pub entry_by : PlainEvent → Ruling → PlainEntry
-entry_by event ruling = record {
-  event = event;
-  reply = ruling.verdict;
-  zone = ruling.zone;
-  route = ruling.route;
-  opened = opens_call ruling.effect;
-}
+plain_entry (entry.Asked read) = entry_read read
+plain_entry (entry.Reload commands version) = reload_entry (commands_reloaded commands) version
 
 -- what is recorded of an event
 abbrev pub entry_of : State → PlainEvent → PlainEntry
@@ -115,6 +88,12 @@ receipt_of number e = record {
   reply = e.reply;
 }
 
+-- the receipt is of such an event of the same endpoint and call
+pub record IsOfEvent (event : PlainEvent) (receipt : Receipt) : Type 0 where
+  pub kind : receipt.kind ≡ kind_of event
+  pub call : receipt.call ≡ call_number_of event
+  pub id : receipt.id ≡ Some (asked_id event)
+
 -- the entry of this number, counted from 1
 abbrev pub entry_of_number : List PlainEntry → ℕ → Option PlainEntry
 entry_of_number entries number = if number == 0 then None else slice_get entries (number - 1)
@@ -145,8 +124,9 @@ abbrev pub generations : CoreParts → List (List Command)
 generations core = generations_of core.opening.commands core.entries
 
 -- ---- the record
--- the commands that were in force before the first entry, the entries, how many places are kept for
--- further ones, and how many there is room for: none of these takes memory
+-- the commands that were in force before the first entry; the entries; how many places are kept for
+-- further ones; and for how many there is room without memory, if they are short: of 138 bytes at
+-- most
 pub record RecordParts : Type 0 where
   pub opening : List Command
   pub entries : List PlainEntry

@@ -1,7 +1,5 @@
+pub mod Drafts
 pub mod History
-pub mod RecordIndex
+pub mod Items
 pub mod Reloads
 pub mod Rows
-pub mod SlotList
-pub mod Slots
-pub mod Told

@@ -5,9 +5,8 @@ use Rattle.std.specs.List.{AllByRecursion, cons_option}
 use Rattle.std.specs.Arc.{arc_value}
 use Rattle.command_reader.specs.declared.commands.Command.{Command}
 use Rattle.pieces.specs.Pieces.{PiecesParts}
-use Rattle.rulings.specs.Events.{Reloading}
-use Rattle.decision_record.specs.History.{PlainEntry}
-use Rattle.decision_record.specs.Slots.{other_entry}
+use Rattle.entry_bytes.specs.Entry.{PlainEntry}
+use Rattle.decision_record.specs.History.{reload_entry}
 use Rattle.decision_record.specs.declared.reloads.PastConfiguration.{PastConfiguration}
 use Rattle.decision_record.specs.declared.reloads.PastConfiguration.TheVariants as past
 use Rattle.decision_record.specs.declared.reloads.PastReload.{PastReload}
@@ -55,10 +54,10 @@ commands_last reload = (arc_value reload.tables).commands
 -- the values of their entries
 abbrev pub plain_past : Texts → PastReload → PlainEntry
 plain_past texts reload =
-    other_entry (Reloading (commands_past texts reload.configuration)) reload.reply
+    reload_entry (commands_past texts reload.configuration) reload.version
 
 abbrev pub plain_last : LastReload → PlainEntry
-plain_last reload = other_entry (Reloading (commands_last reload)) reload.reply
+plain_last reload = reload_entry (commands_last reload) reload.version
 
 -- the entries in order
 abbrev pub reloads_told : Texts → List PastReload → Option LastReload → List PlainEntry

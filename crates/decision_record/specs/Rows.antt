@@ -13,7 +13,7 @@ use Rattle.rulings.specs.declared.routes.Route.{Route}
 use Rattle.rulings.specs.State.{State}
 use Rattle.rulings.specs.Events.{PlainEvent, Registering, Unregistering, Admitting, Answering, Changing, Releasing, Reloading}
 use Rattle.rulings.specs.Step.{is_granted, step}
-use Rattle.decision_record.specs.History.{PlainEntry}
+use Rattle.entry_bytes.specs.Entry.{PlainEntry}
 
 -- ---- admissions
 -- whether a routed admission was granted: one that was refused for its route or for a limit was

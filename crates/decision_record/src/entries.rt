@@ -1,31 +1,18 @@
 //! Entries of the record, and their receipts.
 
-ghost use Rattle.std.specs.Prelude.{◌≡◌, ◌↔◌, true, MatchResult};
+ghost use Rattle.std.specs.Prelude.{◌≡◌, MatchResult};
 ghost use Rattle.std.specs.Cow.{cow_value};
-ghost use Rattle.rulings.specs.Events.{plain};
-ghost use Rattle.decision_record.specs.Slots.{other_entry};
-ghost use Rattle.decision_record.specs.RecordIndex.{plain_whole};
+ghost use Rattle.rulings.specs.Events.{kind_of, id_of, call_number_of};
+ghost use Rattle.entry_bytes.specs.ReadEntry.{entry_read};
+ghost use Rattle.entry_bytes.specs.ReadEvent.{event_read};
 ghost use Rattle.decision_record.specs.History.{plain_entry, receipt_of, configuration_reloaded, AreKeptAsLines};
 
 use command_reader::{CommandLines, Commands};
-use gk_terms::Name;
-use registry::BriefEndpoint;
-use rulings::{Event, EventKind, Reply, Route};
+use entry_bytes::{ReadEntry, ReadEvent};
+use gk_terms::{Name, Version};
+use rulings::{EventKind, Reply};
 use std::alloc::{AllocError, Global};
 use std::borrow::Cow;
-
-/// What was asked, as the record keeps it. A contract says what was asked, and not which of the
-/// three forms it has.
-#[derive(Drop)]
-pub enum EntryEvent<'a> {
-    /// An event other than a reload; a registration only if the reply names another zone than the
-    /// endpoint does.
-    Asked(Cow<'a, Event>),
-    /// An endpoint asked to be registered, in the zone that the reply names, if it names one.
-    Registration(&'a BriefEndpoint),
-    /// A reload of these commands.
-    Reload(ReloadedCommands<'a>),
-}
 
 /// The commands of a reload, as the record keeps them.
 #[derive(Clone, Copy)]
@@ -56,78 +43,85 @@ impl<'a> ReloadedCommands<'a> {
     }
 }
 
-/// One recorded event with its reply.
+/// One recorded event with what was decided on it.
 #[derive(Drop)]
-pub struct Entry<'a> {
-    /// What was asked.
-    pub event: EntryEvent<'a>,
-    /// What was replied.
-    pub reply: Reply,
-    /// Of an admission: the zone of the caller, if it was registered. Of an answer to a call: that
-    /// of the endpoint, if it was.
-    pub zone: Option<Name>,
-    /// Of an admission: where the digits lead, if that was looked for. Of an answer to a call: the
-    /// endpoint itself, unless it was refused for the call or for the endpoint.
-    pub route: Option<Route>,
-    /// Whether it opened a call: that of a granted admission did, and so did that of a granted
-    /// answer, but for one to a call that was open already.
-    pub opened: bool,
+pub enum Entry<'a> {
+    /// Of an event other than a reload.
+    Asked(ReadEntry<'a>),
+    /// Of a reload.
+    Reload {
+        /// What was put in force.
+        commands: ReloadedCommands<'a>,
+        /// As which version.
+        version: Version,
+    },
 }
 
 impl Entry<'_> {
+    /// What was replied.
+    pub fn reply(&self) -> Reply
+        ensures { result ≡ (plain_entry self.now).reply }
+    {
+        match self {
+            Entry::Asked(read) => read.reply(),
+            Entry::Reload { version, .. } => Reply::Reloaded { version: *version },
+        }
+    }
+
     /// The receipt of this entry, if it has this number.
     pub fn receipt(&self, number: u32) -> Receipt
         ensures { result ≡ receipt_of number (plain_entry self.now) }
     {
-        match &self.event {
-            EntryEvent::Asked(event) => Receipt::of(number, event, self.reply),
-            EntryEvent::Registration(endpoint) => Receipt {
-                number,
-                kind: EventKind::Registration,
-                id: Some(endpoint.id()),
-                call: None,
-                reply: self.reply,
-            },
-            EntryEvent::Reload(_) => Receipt {
+        match self {
+            Entry::Asked(read) => receipt_of_read(number, read),
+            Entry::Reload { version, .. } => Receipt {
                 number,
                 kind: EventKind::Reload,
                 id: None,
                 call: None,
-                reply: self.reply,
+                reply: Reply::Reloaded { version: *version },
             },
         }
     }
 }
 
-/// An entry as the record keeps it whole.
-#[derive(Drop)]
-pub struct WholeEntry {
-    pub event: Event,
-    pub reply: Reply,
-    pub zone: Option<Name>,
-    pub route: Option<Route>,
-    pub opened: bool,
+/// The receipt of the entry of this number that was read.
+fn receipt_of_read(number: u32, read: &ReadEntry<'_>) -> Receipt
+    ensures { result ≡ receipt_of number (entry_read read.now) }
+{
+    Receipt {
+        number,
+        kind: kind_of(&read.event),
+        id: Some(read.event.id().name()),
+        call: call_of(&read.event),
+        reply: read.reply(),
+    }
 }
 
-impl WholeEntry {
-    /// The entry, with the event lent.
-    pub fn lent(&self) -> Entry<'_>
-        ensures { plain_entry result ≡ plain_whole self.now }
-    {
-        let WholeEntry {
-            event,
-            reply,
-            zone,
-            route,
-            opened,
-        } = self;
-        Entry {
-            event: EntryEvent::Asked(Cow::Borrowed(event)),
-            reply: *reply,
-            zone: *zone,
-            route: *route,
-            opened: *opened,
-        }
+/// What kind of event it was.
+pub(crate) fn kind_of(event: &ReadEvent<'_>) -> EventKind
+    ensures { result ≡ kind_of (event_read event.now) }
+{
+    match event {
+        ReadEvent::Register(_) => EventKind::Registration,
+        ReadEvent::Unregister { .. } => EventKind::Unregistration,
+        ReadEvent::Admit { .. } => EventKind::Admission,
+        ReadEvent::Incoming { .. } => EventKind::Incoming,
+        ReadEvent::Change { .. } => EventKind::BandwidthChange,
+        ReadEvent::Release { .. } => EventKind::Release,
+    }
+}
+
+/// The number of the call that it was about, if it was about one.
+pub(crate) fn call_of(event: &ReadEvent<'_>) -> Option<u32>
+    ensures { result ≡ call_number_of (event_read event.now) }
+{
+    match event {
+        ReadEvent::Register(_) | ReadEvent::Unregister { .. } => None,
+        ReadEvent::Admit { call, .. }
+        | ReadEvent::Incoming { call, .. }
+        | ReadEvent::Change { call, .. }
+        | ReadEvent::Release { call, .. } => Some(*call),
     }
 }
 
@@ -144,44 +138,4 @@ pub struct Receipt {
     pub call: Option<u32>,
     /// What was replied.
     pub reply: Reply,
-}
-
-impl Receipt {
-    /// The receipt of an event with its reply, if its entry has this number.
-    fn of(number: u32, event: &Event, reply: Reply) -> Receipt
-        ensures { result ≡ receipt_of number (other_entry (plain event.now) reply) }
-    {
-        Receipt {
-            number,
-            kind: event.kind(),
-            id: event.id(),
-            call: event.call(),
-            reply,
-        }
-    }
-}
-
-/// Whether two receipts are the same.
-pub fn same_receipt(a: &Receipt, b: &Receipt) -> bool
-    ensures { (result ≡ true) ↔ (a.now ≡ b.now) }
-{
-    a.number == b.number
-        && a.kind == b.kind
-        && same_id(&a.id, &b.id)
-        && a.call == b.call
-        && same_reply(&a.reply, &b.reply)
-}
-
-/// Whether two IDs are the same, or both are absent.
-fn same_id(a: &Option<Name>, b: &Option<Name>) -> bool
-    ensures { (result ≡ true) ↔ (a.now ≡ b.now) }
-{
-    *a == *b
-}
-
-/// Whether two replies are the same.
-fn same_reply(a: &Reply, b: &Reply) -> bool
-    ensures { (result ≡ true) ↔ (a.now ≡ b.now) }
-{
-    *a == *b
 }

@@ -1,30 +1,17 @@
 //! The record of decisions: what was asked, and what was replied.
 #![tactic(auto)]
 
-mod answers;
+mod drafts;
 mod entries;
-mod held;
 mod known_lines;
-mod lent_slots;
-mod number_bytes;
-mod packing;
+mod receipts;
 mod record;
 mod recording;
-mod registration_entries;
 mod reloads;
 mod rows;
-mod slot_entries;
-mod slot_list;
-mod slot_parts;
-mod slot_places;
-mod slot_receipts;
-mod slot_replies;
-mod slot_rows;
-mod slots;
-mod told;
 
-pub use entries::{Entry, EntryEvent, Receipt, ReloadedCommands};
+pub use drafts::Draft;
+pub use entries::{Entry, Receipt, ReloadedCommands};
+pub use entry_bytes::{EndpointBytes, ReadEntry, ReadEvent, Verdict};
 pub use record::Record;
-pub use slot_parts::ShortReply;
-pub use slots::Slot;
-pub use told::Told;
+pub use recording::RELOAD_BYTES;

@@ -1,35 +1,39 @@
 //! The record: what was asked, and what was replied.
 
-ghost use Rattle.std.specs.Prelude.{◌≡◌, ◌↔◌, ◌<◌, [], true, length, take, slice_get, OnOk, IfErr, IfNone, IfSome, Some, option_map};
+ghost use Rattle.std.specs.Prelude.{◌≡◌, ◌↔◌, ◌<◌, ◌∷◌, [], true, length, take, slice_get, OnOk, IfErr, IfNone, IfSome, Some, option_map};
 ghost use Rattle.std.specs.List.{All};
 ghost use Rattle.std.specs.Option.{option_and_then};
 ghost use Rattle.std.specs.Arc.{arc_value};
-ghost use Rattle.decision_record.specs.RecordIndex.{slot_meant};
+ghost use Rattle.entry_bytes.specs.EntryBytes.{entry_in};
+ghost use Rattle.entry_bytes.specs.ReadEvent.{HasRightEndpoint};
+ghost use Rattle.decision_record.specs.Items.{item_meant, reload_in};
 ghost use Rattle.decision_record.specs.History.{plain_entry, entry_of_number, receipt_of, Stands, in_force};
 ghost use Rattle.decision_record.specs.Rows.{call_event, entry_row};
 
-use crate::entries::{Entry, Receipt, WholeEntry};
+use crate::entries::{Entry, Receipt};
+use crate::receipts::{is_of_bytes, same_receipt};
 use crate::reloads::Reloads;
-use crate::rows::row_of;
-use crate::slot_list::SlotList;
+use crate::rows::{event_of_bytes, row_of};
+use byte_log::ByteLog;
 use call_rows::{CallEvent, CallRow};
 use compiler::Tables;
-use pieces::Pieces;
-use registry::BriefEndpoint;
+use entry_bytes::read_entry;
+use field_bytes::Fields;
 use std::alloc::Global;
 use std::marker::Model;
 use std::sync::Arc;
 
+/// The first byte of the item of a reload, with which no other entry begins.
+pub(crate) const RELOAD: u8 = 255;
+
 /// The recorded events in order, and the tables that they put in force. A contract sees the events
 /// by their values alone, after the commands that were in force before them; how many places are
-/// kept for further ones; and how many there is room for without memory, which are no fewer.
+/// kept for further ones; and for how many there is room without memory, which are no fewer, if
+/// they are short, of 138 bytes at most.
 ///
-/// `slots` has one slot for each entry, in the bytes that its kind needs. The endpoint of a
-/// registration stands in `registrations` if the reply names no other zone, and its slot has its
-/// place there; the entry of a reload stands in `reloads`, and its slot has its place there; any
-/// other entry that does not fit into a slot stands whole in `aside`, and its slot has its place
-/// there. All four grow piece by piece, so that no entry but that of the last reload is ever moved,
-/// and each has room for every kept place.
+/// `log` has one item for each entry: its bytes; or, of a reload, the byte `RELOAD` and its place in
+/// `reloads`, where its commands stand. Both have room for every kept place, and neither moves what
+/// it holds, but for the last reload.
 ///
 /// `opening` are the tables that were in force before the first entry. `reloads` owns the tables of
 /// the last reload, so that the tables in force are found at once, and the core needs no second
@@ -37,9 +41,7 @@ use std::sync::Arc;
 #[derive(Drop)]
 pub struct Record {
     opening: Arc<Tables>,
-    pub(crate) slots: SlotList,
-    pub(crate) aside: Pieces<WholeEntry>,
-    pub(crate) registrations: Pieces<BriefEndpoint>,
+    pub(crate) log: ByteLog,
     pub(crate) reloads: Reloads,
     pub(crate) kept: usize,
 }
@@ -47,21 +49,19 @@ pub struct Record {
 impl Model for Record {
     ghost use Rattle.std.specs.Arc.{arc_value};
     ghost use Rattle.decision_record.specs.History.{RecordParts};
-    ghost use Rattle.decision_record.specs.RecordIndex.{entries_told, room_in, IsStored, IsLastReload};
+    ghost use Rattle.decision_record.specs.Items.{entries_told, room_in, IsStored, IsLastReload};
 
     ghost Value = { RecordParts };
 
     ghost view = { λ r. record {
       opening = (arc_value r.opening).commands;
-      entries = entries_told r.slots r.aside r.registrations r.reloads;
+      entries = entries_told r.log r.reloads;
       kept = r.kept;
-      room = room_in r.slots r.aside r.registrations r.reloads;
+      room = room_in r.log r.reloads;
     } };
 
-    ghost invariant = { λ r. IsStored r.slots r.aside r.registrations r.reloads
-        (entries_told r.slots r.aside r.registrations r.reloads) r.kept
-        × IsLastReload (arc_value r.opening).commands r.reloads.last
-        (entries_told r.slots r.aside r.registrations r.reloads) };
+    ghost invariant = { λ r. IsStored r.log r.reloads (entries_told r.log r.reloads) r.kept
+        × IsLastReload (arc_value r.opening).commands r.reloads.last (entries_told r.log r.reloads) };
 }
 
 impl Record {
@@ -76,21 +76,10 @@ impl Record {
     {
         Record {
             opening,
-            slots: SlotList::new(alloc),
-            aside: Pieces::new(alloc),
-            registrations: Pieces::new(alloc),
+            log: ByteLog::new(alloc),
             reloads: Reloads::new(alloc),
             kept: 0,
         }
-    }
-
-    /// The bytes of the record that the entry of a granted admission takes, if no name in it has
-    /// more than 19 characters. An entry takes more if it is a refusal that may name the zone of a
-    /// limit, a registration, whose endpoint it holds, or one that stands whole.
-    pub fn slot_bytes() -> usize
-        ensures { result ≡ 97 }
-    {
-        SlotList::routed_bytes()
     }
 
     /// The tables in force after the entries.
@@ -107,7 +96,7 @@ impl Record {
     pub fn len(&self) -> usize
         ensures { result ≡ length self.now.entries }
     {
-        self.slots.len()
+        self.log.len()
     }
 
     /// The entry of this number. The first has number 1.
@@ -122,13 +111,7 @@ impl Record {
     fn at(&self, place: usize) -> Option<Entry<'_>>
         ensures { option_map plain_entry result ≡ slice_get self.now.entries place }
     {
-        entry_at(
-            &self.slots,
-            &self.aside,
-            &self.registrations,
-            &self.reloads,
-            place,
-        )
+        entry_at(&self.log, &self.reloads, place)
     }
 
     #[tactic(auto, using(crate::proofs::RowLemmas::made_of_found))]
@@ -148,13 +131,7 @@ impl Record {
     fn event_at(&self, place: usize) -> Option<CallEvent>
         ensures { result ≡ option_and_then call_event (slice_get self.now.entries place) }
     {
-        event_at(
-            &self.slots,
-            &self.aside,
-            &self.registrations,
-            &self.reloads,
-            place,
-        )
+        event_at(&self.log, &self.reloads, place)
     }
 
     /// `Ok` if each receipt is that of the entry at its number; else the place, from 0, of the
@@ -193,14 +170,7 @@ impl Record {
         ensures { (result ≡ true) ↔ (Some receipt.now ≡ option_map (receipt_of receipt.now.number)
             (slice_get self.now.entries place)) }
     {
-        has_receipt(
-            &self.slots,
-            &self.aside,
-            &self.registrations,
-            &self.reloads,
-            place,
-            receipt,
-        )
+        is_at(&self.log, &self.reloads, place, receipt)
     }
 
     /// Whether the receipt is that of the entry at its number.
@@ -214,58 +184,120 @@ impl Record {
     }
 }
 
-/// Whether the receipt is that of the entry of the slot at this place.
-fn has_receipt(
-    slots: &SlotList,
-    aside: &Pieces<WholeEntry>,
-    registrations: &Pieces<BriefEndpoint>,
-    reloads: &Reloads,
-    place: usize,
-    receipt: &Receipt,
-) -> bool
+/// Whether the receipt is that of the entry of the item at this place.
+fn is_at(log: &ByteLog, reloads: &Reloads, place: usize, receipt: &Receipt) -> bool
+    requires { IfSome (option_and_then (item_meant reloads.now.entries)
+        (slice_get log.now.items place)) (λ e. HasRightEndpoint e.event) }
     ensures { (result ≡ true) ↔ (Some receipt.now ≡ option_map (receipt_of receipt.now.number)
-        (option_and_then
-        (slot_meant aside.now.items registrations.now.items reloads.now.entries)
-        (slice_get slots.now.items place))) }
+        (option_and_then (item_meant reloads.now.entries) (slice_get log.now.items place))) }
 {
-    match slots.get(place) {
+    match log.get(place) {
         None => false,
-        Some(slot) => slot.has_receipt(aside, registrations, reloads, receipt),
+        Some(item) => is_of_item(item, reloads, receipt),
     }
 }
 
-/// The entry of the slot at this place.
-fn entry_at<'a>(
-    slots: &SlotList,
-    aside: &'a Pieces<WholeEntry>,
-    registrations: &'a Pieces<BriefEndpoint>,
-    reloads: &'a Reloads,
-    place: usize,
-) -> Option<Entry<'a>>
-    ensures { option_map plain_entry result ≡ option_and_then
-        (slot_meant aside.now.items registrations.now.items reloads.now.entries)
-        (slice_get slots.now.items place) }
+/// Whether the receipt is that of the entry that an item means.
+fn is_of_item(item: &[u8], reloads: &Reloads, receipt: &Receipt) -> bool
+    requires { IfSome (item_meant reloads.now.entries item.now) (λ e. HasRightEndpoint e.event) }
+    ensures { (result ≡ true) ↔ (Some receipt.now ≡ option_map (receipt_of receipt.now.number)
+        (item_meant reloads.now.entries item.now)) }
 {
-    match slots.get(place) {
-        None => None,
-        Some(slot) => slot.entry(aside, registrations, reloads),
+    match item {
+        [RELOAD, place @ ..] => is_of_reload_in(place, reloads, receipt),
+        [_, ..] => is_of_bytes(item, receipt),
+        [] => false,
     }
 }
 
-/// What the entry of the slot at this place says of a call.
-fn event_at(
-    slots: &SlotList,
-    aside: &Pieces<WholeEntry>,
-    registrations: &Pieces<BriefEndpoint>,
-    reloads: &Reloads,
-    place: usize,
-) -> Option<CallEvent>
+/// Whether the receipt is that of the reload at the place that these bytes are.
+fn is_of_reload_in(place: &[u8], reloads: &Reloads, receipt: &Receipt) -> bool
+    ensures { (result ≡ true) ↔ (Some receipt.now ≡ option_map (receipt_of receipt.now.number)
+        (reload_in reloads.now.entries place.now)) }
+{
+    match &reload_in(place, reloads) {
+        None => false,
+        Some(entry) => same_receipt(receipt, &entry.receipt(receipt.number)),
+    }
+}
+
+/// What the entry of the item at this place says of a call.
+fn event_at(log: &ByteLog, reloads: &Reloads, place: usize) -> Option<CallEvent>
+    requires { IfSome (option_and_then (item_meant reloads.now.entries)
+        (slice_get log.now.items place)) (λ e. HasRightEndpoint e.event) }
     ensures { result ≡ option_and_then call_event (option_and_then
-        (slot_meant aside.now.items registrations.now.items reloads.now.entries)
-        (slice_get slots.now.items place)) }
+        (item_meant reloads.now.entries) (slice_get log.now.items place)) }
 {
-    match slots.get(place) {
+    match log.get(place) {
         None => None,
-        Some(slot) => slot.call_event(aside, registrations, reloads),
+        Some(item) => event_of_item(item, reloads),
+    }
+}
+
+/// What the entry that an item means says of a call.
+fn event_of_item(item: &[u8], reloads: &Reloads) -> Option<CallEvent>
+    requires { IfSome (item_meant reloads.now.entries item.now) (λ e. HasRightEndpoint e.event) }
+    ensures { result ≡ option_and_then call_event (item_meant reloads.now.entries item.now) }
+{
+    match item {
+        [RELOAD, place @ ..] => event_of_reload(place, reloads),
+        [_, ..] => event_of_bytes(item),
+        [] => None,
+    }
+}
+
+/// What the reload at the place that these bytes are says of a call.
+fn event_of_reload(place: &[u8], reloads: &Reloads) -> Option<CallEvent>
+    ensures { result ≡ option_and_then call_event (reload_in reloads.now.entries place.now) }
+{
+    match &reload_in(place, reloads) {
+        None => None,
+        Some(entry) => entry.call_event(),
+    }
+}
+
+/// The entry of the item at this place.
+fn entry_at<'a>(log: &'a ByteLog, reloads: &'a Reloads, place: usize) -> Option<Entry<'a>>
+    requires { IfSome (option_and_then (item_meant reloads.now.entries)
+        (slice_get log.now.items place)) (λ e. HasRightEndpoint e.event) }
+    ensures { option_map plain_entry result ≡ option_and_then (item_meant reloads.now.entries)
+        (slice_get log.now.items place) }
+{
+    match log.get(place) {
+        None => None,
+        Some(item) => entry_meant(item, reloads),
+    }
+}
+
+/// The entry that an item means.
+fn entry_meant<'a>(item: &'a [u8], reloads: &'a Reloads) -> Option<Entry<'a>>
+    requires { IfSome (item_meant reloads.now.entries item.now) (λ e. HasRightEndpoint e.event) }
+    ensures { option_map plain_entry result ≡ item_meant reloads.now.entries item.now }
+{
+    match item {
+        [RELOAD, place @ ..] => reload_in(place, reloads),
+        [_, ..] => asked_in(item),
+        [] => None,
+    }
+}
+
+/// The reload at the place that these bytes are.
+fn reload_in<'a>(place: &[u8], reloads: &'a Reloads) -> Option<Entry<'a>>
+    ensures { option_map plain_entry result ≡ reload_in reloads.now.entries place.now }
+{
+    match Fields::of(place).number() {
+        None => None,
+        Some(place) => reloads.get(place as usize),
+    }
+}
+
+/// The entry that these bytes are.
+fn asked_in(item: &[u8]) -> Option<Entry<'_>>
+    requires { IfSome (entry_in item.now) (λ e. HasRightEndpoint e.event) }
+    ensures { option_map plain_entry result ≡ entry_in item.now }
+{
+    match read_entry(item) {
+        None => None,
+        Some(read) => Some(Entry::Asked(read)),
     }
 }

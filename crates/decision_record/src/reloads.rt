@@ -6,12 +6,12 @@ ghost use Rattle.pieces.specs.declared.list.TheConstants.{PIECE_ITEMS};
 ghost use Rattle.decision_record.specs.History.{plain_entry, commands_reloaded};
 ghost use Rattle.decision_record.specs.Reloads.{ArePlaced, IsPlaced, KeepsTexts, commands_past, commands_last, plain_past, plain_last};
 
-use crate::entries::{Entry, EntryEvent, ReloadedCommands};
+use crate::entries::{Entry, ReloadedCommands};
 use crate::known_lines::KnownLines;
 use command_reader::Commands;
 use compiler::Tables;
+use gk_terms::Version;
 use pieces::Pieces;
-use rulings::Reply;
 use std::alloc::{AllocError, Global};
 use std::marker::Model;
 use std::mem;
@@ -31,14 +31,14 @@ pub enum PastConfiguration {
 #[derive(Drop)]
 pub struct PastReload {
     configuration: PastConfiguration,
-    reply: Reply,
+    version: Version,
 }
 
 /// The entry of the last reload, whose tables are in force.
 #[derive(Drop)]
 pub struct LastReload {
     pub tables: Arc<Tables>,
-    pub reply: Reply,
+    pub version: Version,
 }
 
 /// The entries of reloads in order. A contract sees their values, the commands that the last one
@@ -118,12 +118,9 @@ impl PastReload {
         requires { IsPlaced known.now.items self.now.configuration }
         ensures { plain_entry result ≡ plain_past known.now.items self.now }
     {
-        Entry {
-            event: EntryEvent::Reload(self.configuration.commands(known)),
-            reply: self.reply,
-            zone: None,
-            route: None,
-            opened: false,
+        Entry::Reload {
+            commands: self.configuration.commands(known),
+            version: self.version,
         }
     }
 }
@@ -133,12 +130,9 @@ impl LastReload {
     fn lent(&self) -> Entry<'_>
         ensures { plain_entry result ≡ plain_last self.now }
     {
-        Entry {
-            event: EntryEvent::Reload(ReloadedCommands::Commands(self.tables.commands())),
-            reply: self.reply,
-            zone: None,
-            route: None,
-            opened: false,
+        Entry::Reload {
+            commands: ReloadedCommands::Commands(self.tables.commands()),
+            version: self.version,
         }
     }
 
@@ -149,10 +143,10 @@ impl LastReload {
         ensures placed { IsPlaced known.new.items result.configuration }
         ensures kept { KeepsTexts known.old known.new }
     {
-        let LastReload { tables, reply } = self;
+        let LastReload { tables, version } = self;
         PastReload {
             configuration: PastConfiguration::of(tables, known),
-            reply,
+            version,
         }
     }
 }

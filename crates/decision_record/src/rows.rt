@@ -1,16 +1,19 @@
 //! Rows: what the entries of a record say of calls.
 
-ghost use Rattle.std.specs.Prelude.{◌≡◌};
+ghost use Rattle.std.specs.Prelude.{◌≡◌, IfSome};
 ghost use Rattle.std.specs.Option.{option_and_then};
-ghost use Rattle.rulings.specs.Events.{plain};
 ghost use Rattle.rulings.specs.Step.{is_granted};
+ghost use Rattle.entry_bytes.specs.ReadEntry.{entry_read};
+ghost use Rattle.entry_bytes.specs.EntryBytes.{entry_in};
+ghost use Rattle.entry_bytes.specs.ReadEvent.{HasRightEndpoint, event_read};
 ghost use Rattle.decision_record.specs.History.{plain_entry};
 ghost use Rattle.decision_record.specs.Rows as Spec;
 
-use crate::entries::{Entry, EntryEvent};
+use crate::entries::Entry;
 use call_rows::{AdmittedCall, AnsweredCall, CallEvent, CallRow};
+use entry_bytes::{ReadEntry, ReadEvent, Verdict, read_entry};
 use gk_terms::{Dialled, Name, Units};
-use rulings::{AdmitRefusal, Event, Reply, Route};
+use rulings::Route;
 
 impl Entry<'_> {
     /// What the entry says of a call: that an admission was routed, that an answer opened a call or
@@ -18,62 +21,106 @@ impl Entry<'_> {
     pub(crate) fn call_event(&self) -> Option<CallEvent>
         ensures { result ≡ Spec.call_event (plain_entry self.now) }
     {
-        match &self.event {
-            EntryEvent::Asked(event) => {
-                event_said(event, &self.reply, &self.zone, &self.route, self.opened)
-            }
-            EntryEvent::Registration(_) | EntryEvent::Reload(_) => None,
+        match self {
+            Entry::Asked(read) => event_of_read(read),
+            Entry::Reload { .. } => None,
         }
     }
 }
 
-/// What an event with its reply says of a call, with the zone and the route beside them, and
-/// whether it opened a call.
-fn event_said(
-    event: &Event,
-    reply: &Reply,
-    zone: &Option<Name>,
-    route: &Option<Route>,
-    opened: bool,
-) -> Option<CallEvent>
-    ensures { result ≡ Spec.event_said (plain event.now) reply.now zone.now route.now opened }
+/// The same by the entry that these bytes are.
+pub(crate) fn event_of_bytes(item: &[u8]) -> Option<CallEvent>
+    requires { IfSome (entry_in item.now) (λ e. HasRightEndpoint e.event) }
+    ensures { result ≡ option_and_then Spec.call_event (entry_in item.now) }
 {
-    match event {
-        Event::Admit {
+    match &read_entry(item) {
+        None => None,
+        Some(read) => event_of_read(read),
+    }
+}
+
+#[tactic(auto, using(crate::proofs::RowLemmas::said_of_read))]
+/// The same by the entry that was read.
+fn event_of_read(read: &ReadEntry<'_>) -> Option<CallEvent>
+    ensures { result ≡ Spec.call_event (entry_read read.now) }
+{
+    said_by(read)
+}
+
+/// What the event of the entry says of a call, with what else the entry tells.
+fn said_by(read: &ReadEntry<'_>) -> Option<CallEvent>
+    ensures { result ≡ Spec.event_said (event_read read.now.event) (entry_read read.now).reply
+        (entry_read read.now).zone (entry_read read.now).route (entry_read read.now).opened }
+{
+    match &read.event {
+        ReadEvent::Admit {
             call,
             digits,
             units,
             ..
-        } => routed(*call, digits, *units, routed_verdict(reply), zone, route),
-        Event::Incoming { call, units, .. } => {
-            answered(*call, *units, answered_verdict(reply, opened), zone, route)
-        }
-        Event::Change { call, units, .. } => changed(*call, *units, reply),
-        Event::Release { call, .. } => released(*call, reply),
-        Event::Register(_) | Event::Unregister { .. } | Event::Reload(_) => None,
+        } => routed(
+            *call,
+            digits,
+            *units,
+            is_routed_grant(read),
+            &read.zone(),
+            &read.route(),
+        ),
+        ReadEvent::Incoming { call, units, .. } => answered(
+            *call,
+            *units,
+            is_answered_grant(read),
+            &read.zone(),
+            &read.route(),
+        ),
+        ReadEvent::Change { call, units, .. } => changed(*call, *units, read),
+        ReadEvent::Release { call, .. } => released(*call, read),
+        ReadEvent::Register(_) | ReadEvent::Unregister { .. } => None,
     }
 }
 
 /// Whether a routed admission was granted; none of an admission that was refused for another cause
 /// than its route or a limit.
-fn routed_verdict(reply: &Reply) -> Option<bool>
-    ensures { result ≡ Spec.routed_verdict reply.now }
+fn is_routed_grant(read: &ReadEntry<'_>) -> Option<bool>
+    ensures { result ≡ Spec.routed_verdict (entry_read read.now).reply }
 {
-    match reply {
-        Reply::Admitted { .. } => Some(true),
-        Reply::AdmitRefused { reason, .. } => routed_refusal(reason),
+    match &read.verdict {
+        Verdict::Admitted { .. } | Verdict::Answering { .. } | Verdict::Repeated { .. } => {
+            Some(true)
+        }
+        Verdict::NoRoute { .. } | Verdict::OverLimit { .. } => Some(false),
         _ => None,
     }
 }
 
-/// That it was not, if the admission was refused for its route or for a limit.
-fn routed_refusal(reason: &AdmitRefusal) -> Option<bool>
-    ensures { result ≡ Spec.routed_refusal reason.now }
+/// Whether an answer to a call that was not open was granted; none of an answer that was refused
+/// for another cause than a limit, or that opened no call.
+fn is_answered_grant(read: &ReadEntry<'_>) -> Option<bool>
+    ensures { result ≡ Spec.answered_verdict (entry_read read.now).reply
+        (entry_read read.now).opened }
 {
-    match reason {
-        AdmitRefusal::NoRoute(_) | AdmitRefusal::OverLimit(_) => Some(false),
+    match &read.verdict {
+        Verdict::Admitted { .. } | Verdict::Answering { .. } => Some(true),
+        Verdict::OverLimit { .. } => Some(false),
         _ => None,
     }
+}
+
+/// Whether what was asked was granted.
+fn is_grant(read: &ReadEntry<'_>) -> bool
+    ensures { result ≡ is_granted (entry_read read.now).reply }
+{
+    matches!(
+        &read.verdict,
+        Verdict::Registered { .. }
+            | Verdict::Unregistered
+            | Verdict::Admitted { .. }
+            | Verdict::Answering { .. }
+            | Verdict::Repeated { .. }
+            | Verdict::Changed
+            | Verdict::Released
+            | Verdict::Reloaded { .. }
+    )
 }
 
 /// That an admission was routed, with the zone of its caller and its route.
@@ -105,28 +152,6 @@ fn routed(
     }
 }
 
-/// Whether an answer to a call that was not open was granted; none of an answer that was refused
-/// for another cause than a limit, or that opened no call.
-fn answered_verdict(reply: &Reply, opened: bool) -> Option<bool>
-    ensures { result ≡ Spec.answered_verdict reply.now opened }
-{
-    match reply {
-        Reply::Admitted { .. } if opened => Some(true),
-        Reply::AdmitRefused { reason, .. } => answered_refusal(reason),
-        _ => None,
-    }
-}
-
-/// That it was not, if the answer was refused for a limit.
-fn answered_refusal(reason: &AdmitRefusal) -> Option<bool>
-    ensures { result ≡ Spec.answered_refusal reason.now }
-{
-    match reason {
-        AdmitRefusal::OverLimit(_) => Some(false),
-        _ => None,
-    }
-}
-
 /// That a call was answered, with the zone of the endpoint and its route.
 fn answered(
     call: u32,
@@ -153,41 +178,26 @@ fn answered(
     }
 }
 
-/// That a bandwidth change was granted, if this is its reply.
-fn changed(call: u32, units: Units, reply: &Reply) -> Option<CallEvent>
-    ensures { result ≡ Spec.if_granted reply.now (CallEvent.Changed call units) }
+/// That a bandwidth change was granted, if it was.
+fn changed(call: u32, units: Units, read: &ReadEntry<'_>) -> Option<CallEvent>
+    ensures { result ≡ Spec.if_granted (entry_read read.now).reply (CallEvent.Changed call units) }
 {
-    if is_granted(reply) {
+    if is_grant(read) {
         Some(CallEvent::Changed { call, units })
     } else {
         None
     }
 }
 
-/// That a call was released, if this is the reply.
-fn released(call: u32, reply: &Reply) -> Option<CallEvent>
-    ensures { result ≡ Spec.if_granted reply.now (CallEvent.Released call) }
+/// That a call was released, if it was.
+fn released(call: u32, read: &ReadEntry<'_>) -> Option<CallEvent>
+    ensures { result ≡ Spec.if_granted (entry_read read.now).reply (CallEvent.Released call) }
 {
-    if is_granted(reply) {
+    if is_grant(read) {
         Some(CallEvent::Released { call })
     } else {
         None
     }
-}
-
-/// Whether the reply grants what was asked.
-fn is_granted(reply: &Reply) -> bool
-    ensures { result ≡ is_granted reply.now }
-{
-    matches!(
-        reply,
-        Reply::Registered { .. }
-            | Reply::Unregistered { .. }
-            | Reply::Admitted { .. }
-            | Reply::Changed { .. }
-            | Reply::Released { .. }
-            | Reply::Reloaded { .. }
-    )
 }
 
 /// The row of this number that says this, if something is said and it is a row.

@@ -11,7 +11,8 @@ use Rattle.rulings.specs.declared.limits.Limits.{Limits}
 use Rattle.rulings.specs.Limits.{are_limits}
 use Rattle.rulings.specs.State.{State, opening_of}
 use Rattle.rulings.specs.Step.{step}
-use Rattle.decision_record.specs.History.{PlainEntry, entry_of_number, IsLegal}
+use Rattle.entry_bytes.specs.Entry.{PlainEntry}
+use Rattle.decision_record.specs.History.{entry_of_number, IsLegal}
 use Rattle.decision_record.specs.Rows.{entry_row, row_in, rows_from, rows_of}
 use Rattle.admission.proofs.RowHistoryLemmas.{rows_next, rows_whole}
 use Rattle.admission.proofs.RowLawLemmas.{rows_are_never_refused}

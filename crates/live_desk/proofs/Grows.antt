@@ -13,7 +13,8 @@ use Rattle.command_reader.specs.declared.commands.Command.{Command}
 use Rattle.rulings.specs.Events.{PlainEvent, Reloading, put_in_force}
 use Rattle.rulings.specs.declared.replies.Reply.{Reply}
 use Rattle.decision_record.specs.declared.entries.Receipt.{Receipt}
-use Rattle.decision_record.specs.History.{PlainEntry, CoreParts, generations, IsLegal, state_of, Steps, IsUnrecorded}
+use Rattle.entry_bytes.specs.Entry.{PlainEntry}
+use Rattle.decision_record.specs.History.{CoreParts, generations, IsLegal, state_of, Steps, IsUnrecorded}
 use Rattle.admission.proofs.VersionLemmas.{generations_more}
 use Rattle.admission.specs.Answering.{answered, reply_kept}
 use Rattle.call_rows.specs.Rows.{SnapshotParts}

@@ -14,7 +14,8 @@ use Rattle.rulings.specs.declared.replies.ReloadRefusal.{ReloadRefusal}
 use Rattle.rulings.specs.declared.replies.ReloadRefusal.TheVariants.{NoMemory}
 use Rattle.decision_record.specs.declared.entries.Receipt.{Receipt}
 use Rattle.call_rows.specs.Rows.{SnapshotParts}
-use Rattle.decision_record.specs.History.{CoreParts, PlainEntry, IsLegal, Stands, state_of, Steps, generations}
+use Rattle.entry_bytes.specs.Entry.{PlainEntry}
+use Rattle.decision_record.specs.History.{CoreParts, IsLegal, Stands, state_of, Steps, generations}
 use Rattle.decision_record.specs.Rows.{rows_of}
 use Rattle.publisher.specs.Generations.{commands_of}
 use Rattle.admission.specs.Answering.{digits_asked}

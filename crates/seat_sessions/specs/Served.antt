@@ -2,7 +2,8 @@
 use Rattle.std.specs.Prelude.{◌≡◌, ℕ, List, length}
 use Rattle.rulings.specs.State.{State}
 use Rattle.rulings.specs.declared.limits.Limits.{Limits}
-use Rattle.decision_record.specs.History.{PlainEntry, IsLegal}
+use Rattle.entry_bytes.specs.Entry.{PlainEntry}
+use Rattle.decision_record.specs.History.{IsLegal}
 use Rattle.seat_sessions.specs.declared.serving.Served.{Served}
 
 -- so many sessions, which recorded as many events as some legal history has

@@ -1,4 +1,4 @@
-use Rattle.std.proofs.Common.{refl, sym, ap, ◌∙◌, ◌-◌, arith}
+use Rattle.std.proofs.Common.{refl, ap, ◌∙◌, ◌-◌, arith}
 use Rattle.std.specs.Prelude.{◌≤◌, length}
 use Rattle.rulings.specs.Ruling.{ruling_of}
 use Rattle.rulings.specs.Events.{event_meant}
@@ -6,7 +6,7 @@ use Rattle.rulings.specs.Step.{places_needed, with_count, with_effect}
 use Rattle.command_reader.proofs.PrintingLemmas.{OnErr-from}
 use Rattle.rulings.specs.State.{State, under}
 use Rattle.decision_record.specs.History.{RecordParts, in_force}
-use Rattle.admission.proofs.FoundedLemmas.{ruled_founded, ruled_lacks, ruled_fits, ruled_one, ruled_enough}
+use Rattle.admission.proofs.FoundedLemmas.{some_needed, ruled_founded, ruled_lacks, ruled_fits, ruled_one, ruled_enough}
 use Rattle.admission.proofs.settling.prepare.Goals as goal
 
 pub next_number-number-requires : goal.next_number-number-requires
@@ -22,12 +22,27 @@ pub apply-requires-clause-counted : goal.apply-requires-clause-counted
 apply-requires-clause-counted c =
     ruled_fits _ _ _ refl c.requires.recordable c.requires.recorded c.requires.within
 
+-- a place is kept
+pub keep-requires-clause-one : goal.keep-requires-clause-one
+keep-requires-clause-one c =
+    omega (
+      arith,
+      c.requires.kept,
+      c.saturating_sub-more.ensures,
+      c.places_needed-needed.ensures ∙ ap places_needed c.requires.ruled,
+      ruled_one _ _ _ refl c.requires.recordable (length c.args.machine.now.calls) (omega arith),
+    )
+
 pub returns-in_err-keep-clause-err : goal.returns-in_err-keep-clause-err
 returns-in_err-keep-clause-err c =
     let is = c.in_err-keep.ensures in
-    let needed = sym (ap places_needed c.requires.ruled) ∙ sym c.places_needed-needed.ensures in
+    let one : 1 ≤ places_needed c.args.effect.now =
+    some_needed (places_needed c.args.effect.now) c.saturating_sub-more.result c.args.reserved
+    c.args.bytes
+    (omega (arith, c.saturating_sub-more.ensures, c.places_needed-needed.ensures)) c.requires.short
+    (λ short none. let ok = is.unfailing short none in let impossible : ⊥ = cc in impossible) in
     let one : 1 ≤ places_needed (ruling_of _ _).effect =
-    omega (arith, is.lacking.0, c.saturating_sub-more.ensures, needed) in
+    omega (arith, one, ap places_needed c.requires.ruled) in
     OnErr-from c.from_residual.result _
     (refl, is.err, ruled_lacks _ _ _ refl c.requires.recordable c.requires.recorded one)
 

@@ -18,5 +18,5 @@ returns-clause-step c =
     ∙ ap (λ (core : CoreParts). length core.entries) c.self-2.view_is ∙ same
     ∙ sym (ap (λ (core : CoreParts). length core.entries) c.self.view_is)
     ∙ sym c.len-before.ensures))
-    _ (c.records.ensures ∙ counts _ _ _ c.self-2.invariant
+    _ (c.records.ensures ∙ counts _ _ _ c.self-2.invariant.0
     ∙ ap (λ (core : CoreParts). length core.entries) c.self-2.view_is)

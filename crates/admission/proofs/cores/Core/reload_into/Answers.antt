@@ -8,14 +8,14 @@ pub returns-in-Some-clause-reply : goal.returns-in-Some-clause-reply
 returns-in-Some-clause-reply g c = (
   _,
   c.take_reply.ensures.taken,
-  inr (reload_refused _ _ _ c.self.invariant _ c.self.view_is _ (ruling_meant c.reload.result) _
+  inr (reload_refused _ _ _ c.self.invariant.0 _ c.self.view_is _ (ruling_meant c.reload.result) _
       c.reload.ensures (sym c.reload_refusal.ensures ∙ c.in-Some.is)),
 )
 
 pub returns-in-Some-clause-reserved : goal.returns-in-Some-clause-reserved
 returns-in-Some-clause-reserved g c =
     λ _ recorded. absurd (true≢false (sym recorded
-    ∙ reload_not_recorded _ _ _ c.self.invariant _ c.self.view_is _
+    ∙ reload_not_recorded _ _ _ c.self.invariant.0 _ c.self.view_is _
     (ruling_meant c.reload.result) _
     c.reload.ensures (sym c.reload_refusal.ensures ∙ c.in-Some.is)))
 
@@ -23,15 +23,15 @@ pub enter_reload-requires-clause-verdict : goal.enter_reload-requires-clause-ver
 enter_reload-requires-clause-verdict g c =
     c.verdict.ensures
     ∙ ap (λ (r : Ruling). r.verdict)
-    (reload_ruled _ _ _ c.self.invariant _ c.self.view_is _ _ c.reload.ensures)
+    (reload_ruled _ _ _ c.self.invariant.0 _ c.self.view_is _ _ c.reload.ensures)
 
 pub enter_reload-requires-clause-effect : goal.enter_reload-requires-clause-effect
 enter_reload-requires-clause-effect g c =
     c.effect.ensures
     ∙ ap (λ (r : Ruling). r.effect)
-    (reload_ruled _ _ _ c.self.invariant _ c.self.view_is _ _ c.reload.ensures)
+    (reload_ruled _ _ _ c.self.invariant.0 _ c.self.view_is _ _ c.reload.ensures)
 
 pub enter_reload-requires-clause-recorded : goal.enter_reload-requires-clause-recorded
 enter_reload-requires-clause-recorded g c =
-    reload_recorded _ _ _ c.self.invariant _ c.self.view_is _ (ruling_meant c.reload.result)
+    reload_recorded _ _ _ c.self.invariant.0 _ c.self.view_is _ (ruling_meant c.reload.result)
     c.reload.ensures (sym c.reload_refusal.ensures ∙ c.in_default.is)

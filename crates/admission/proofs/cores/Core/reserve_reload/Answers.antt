@@ -7,12 +7,12 @@ use Rattle.admission.proofs.cores.Core.reserve_reload.Goals as goal
 
 pub returns-in-Some-clause-err : goal.returns-in-Some-clause-err
 returns-in-Some-clause-err c =
-    reload_refused _ _ _ c.self.invariant _ c.self.view_is _ (ruling_meant c.reload.result) _
+    reload_refused _ _ _ c.self.invariant.0 _ c.self.view_is _ (ruling_meant c.reload.result) _
     c.reload.ensures (sym c.reload_refusal.ensures ∙ c.in-Some.is)
 
 pub returns-in-Some-clause-again : goal.returns-in-Some-clause-again
 returns-in-Some-clause-again c =
-    λ _. reload_not_recorded _ _ _ c.self.invariant _ c.self.view_is _
+    λ _. reload_not_recorded _ _ _ c.self.invariant.0 _ c.self.view_is _
     (ruling_meant c.reload.result) _
     c.reload.ensures (sym c.reload_refusal.ensures ∙ c.in-Some.is)
 
@@ -21,7 +21,7 @@ returns-then-self-clause-ok c = (
   sym c.self.view_is
       ∙ ap (λ b. core_with c.self.inside.machine.limits c.self.inside.history b) c.if-self.true
       ∙ ap (λ (core : CoreParts). record core { reserved = true }) c.self.view_is,
-  reload_recorded _ _ _ c.self.invariant _ c.self.view_is _ (ruling_meant c.reload.result)
+  reload_recorded _ _ _ c.self.invariant.0 _ c.self.view_is _ (ruling_meant c.reload.result)
       c.reload.ensures (sym c.reload_refusal.ensures ∙ c.in_default.is),
 )
 
@@ -29,13 +29,13 @@ pub returns-in-Ok-clause-ok : goal.returns-in-Ok-clause-ok
 returns-in-Ok-clause-ok c = (
   ap (λ (h : RecordParts). core_with c.self.inside.machine.limits h true) c.in-Ok.ensures.ok
       ∙ ap (λ (core : CoreParts). record core { reserved = true }) c.self.view_is,
-  reload_recorded _ _ _ c.self.invariant _ c.self.view_is _ (ruling_meant c.reload.result)
+  reload_recorded _ _ _ c.self.invariant.0 _ c.self.view_is _ (ruling_meant c.reload.result)
       c.reload.ensures (sym c.reload_refusal.ensures ∙ c.in_default.is),
 )
 
 pub returns-in-Err-clause-err : goal.returns-in-Err-clause-err
 returns-in-Err-clause-err c =
-    reload_lacks_memory _ _ _ c.self.invariant _ c.self.view_is _ (ruling_meant c.reload.result)
+    reload_lacks_memory _ _ _ c.self.invariant.0 _ c.self.view_is _ (ruling_meant c.reload.result)
     c.reload.ensures (sym c.reload_refusal.ensures ∙ c.in_default.is) _
     (ap (λ (h : RecordParts).
     core_with c.self.inside.machine.limits h c.self.inside.reserved) c.in-Err.ensures.err

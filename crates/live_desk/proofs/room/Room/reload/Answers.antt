@@ -1,5 +1,5 @@
 use Rattle.std.proofs.Common.{refl, sym, ap, subst, ◌∙◌, List}
-use Rattle.decision_record.specs.History.{PlainEntry}
+use Rattle.entry_bytes.specs.Entry.{PlainEntry}
 use Rattle.live_desk.specs.Seats.{RoomParts, SeatParts, LastStands}
 use Rattle.live_desk.proofs.Grows.{asked_by, rising, step_held}
 use Rattle.live_desk.proofs.room.Room.reload.Goals as goal
