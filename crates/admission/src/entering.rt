@@ -22,9 +22,7 @@ pub(crate) fn is_recorded(machine: &Machine, event: &LentEvent<'_>, ruling: &Len
     ruling.is_recorded() && !machine.is_refused_by_count(event, ruling)
 }
 
-/// Puts the refusal by a count in the place of the verdict on an event, if there is one. In a
-/// function of its own, since few events are not recorded.
-#[inline(never)]
+/// Puts the refusal by a count in the place of the verdict on an event, if there is one.
 pub(crate) fn refuse<S: ReplyTaker>(
     machine: &Machine,
     event: &LentEvent<'_>,
@@ -53,10 +51,7 @@ fn lacking_memory(event: &LentEvent<'_>) -> Reply
     }
 }
 
-/// Puts the reply that memory ran out in the place of the verdict. Few replies say so, so this is a
-/// function of its own, whose places no other reply clears.
-#[cold]
-#[inline(never)]
+/// Puts the reply that memory ran out in the place of the verdict.
 pub(crate) fn lack_memory<S: ReplyTaker>(event: &LentEvent<'_>, taker: &mut S)
     requires { IsFallible (event_meant event.now) }
     ensures reply { HasNoMemoryReply S.has (event_meant event.now) taker.new }

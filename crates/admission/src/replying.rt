@@ -100,7 +100,6 @@ impl Core {
     }
 
     /// Replies to a reload to these tables, as `reload` does, into a taker.
-    #[inline(never)]
     pub fn reload_into<S: ReplyTaker>(&mut self, tables: Arc<Tables>, taker: &mut S)
         ensures reply { RepliesInto S.has self.old
             (Events.Reloading (arc_value tables).commands) taker.new self.new }

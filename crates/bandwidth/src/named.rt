@@ -48,8 +48,6 @@ pub fn reserve<V: Tally + Drop>(map: &mut HashMap<Name, V>, places: usize) -> Re
 /// The same for a map without the room. It grows only if the entries that stay take more than half
 /// of it. So half of it is free afterwards, and the work of going over the entries is spread over
 /// as many insertions.
-#[cold]
-#[inline(never)]
 fn make_room<V: Tally + Drop>(map: &mut HashMap<Name, V>, places: usize) -> Result<(), AllocError>
     ensures entries { (name : _) → lookup (bytes_eq name) map.new.entries
         ≡ that_has_calls V.has_calls (lookup (bytes_eq name) map.old.entries) }

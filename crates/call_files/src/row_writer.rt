@@ -105,10 +105,6 @@ impl RowWriter {
 
     /// Sends what waits. Nothing waits any more, not even after a fault: then the writer has taken
     /// a front of it. `WriteFault` comes only if the writer fails in this call.
-    ///
-    /// In a function of its own, since a row writer is some 8 KB: a row that is only added clears no
-    /// place for another one.
-    #[inline(never)]
     pub fn send<W: Sink>(&mut self, writer: &mut W) -> Result<(), WriteRowsFault>
         ensures whole { OnOk result (Appends (W.contents writer.old) (W.contents writer.new)
             self.old) }
@@ -166,8 +162,6 @@ fn batch_over(text: Vec<u8>) -> Writer<Vec<u8>>
 }
 
 /// Puts a row writer without rows in this one's place.
-#[cold]
-#[inline(never)]
 fn forget(batch: &mut Writer<Vec<u8>>, alloc: Global)
     ensures text { waiting batch.new ≡ [] }
     ensures between { IsBetweenRows batch.new }

@@ -177,7 +177,6 @@ pub(crate) fn admitted(
 }
 
 /// `ARJ seq call` and why
-#[inline(never)]
 pub(crate) fn admit_refused(line: &mut LineBuffer, sequence: u32, call: u32, reason: &AdmitRefusal)
     ensures words { line.new ≡ line_of_words
         (codes "ARJ" ∷ decimal sequence ∷ decimal call ∷ Spec.admit_refusal_words reason.now) }
@@ -205,7 +204,6 @@ pub(crate) fn changed(line: &mut LineBuffer, sequence: u32, call: u32, granted: 
 }
 
 /// `BRJ seq call` and why
-#[inline(never)]
 pub(crate) fn change_refused(
     line: &mut LineBuffer,
     sequence: u32,
@@ -255,8 +253,6 @@ pub(crate) fn release_refused(
 }
 
 /// `CCF seq version`
-#[cold]
-#[inline(never)]
 pub(crate) fn reloaded(line: &mut LineBuffer, sequence: u32, version: Version)
     ensures words { line.new
         ≡ line_of_words (codes "CCF" ∷ decimal sequence ∷ decimal version ∷ []) }
@@ -268,8 +264,6 @@ pub(crate) fn reloaded(line: &mut LineBuffer, sequence: u32, version: Version)
 }
 
 /// `CRJ seq 0` and why
-#[cold]
-#[inline(never)]
 fn reload_refused(line: &mut LineBuffer, sequence: u32, reason: ReloadRefusal)
     ensures words { line.new ≡ line_of_words
         (codes "CRJ" ∷ decimal sequence ∷ codes "0" ∷ Spec.reload_refusal_word reason ∷ []) }
@@ -284,8 +278,6 @@ fn reload_refused(line: &mut LineBuffer, sequence: u32, reason: ReloadRefusal)
 }
 
 /// `CRJ seq LINE KIND`
-#[cold]
-#[inline(never)]
 fn misconfigured(line: &mut LineBuffer, sequence: u32, fault: &LineFault)
     ensures words { line.new ≡ line_of_words
         (codes "CRJ" ∷ decimal sequence ∷ decimal fault.now.line
@@ -301,8 +293,6 @@ fn misconfigured(line: &mut LineBuffer, sequence: u32, fault: &LineFault)
 }
 
 /// `TCF seq m`
-#[cold]
-#[inline(never)]
 fn tried(line: &mut LineBuffer, sequence: u32, count: u32)
     ensures words { line.new
         ≡ line_of_words (codes "TCF" ∷ decimal sequence ∷ decimal count ∷ []) }
@@ -314,8 +304,6 @@ fn tried(line: &mut LineBuffer, sequence: u32, count: u32)
 }
 
 /// `TRJ seq` and why
-#[cold]
-#[inline(never)]
 fn try_refused(line: &mut LineBuffer, sequence: u32, reason: &TrialRefusal)
     ensures words { line.new ≡ line_of_words
         (codes "TRJ" ∷ decimal sequence ∷ Spec.trial_refusal_words reason.now) }
@@ -328,8 +316,6 @@ fn try_refused(line: &mut LineBuffer, sequence: u32, reason: &TrialRefusal)
 }
 
 /// `ERR` and the word of the fault
-#[cold]
-#[inline(never)]
 fn malformed(line: &mut LineBuffer, fault: RequestFault)
     ensures words { line.new ≡ line_of_words (codes "ERR" ∷ Spec.fault_word fault ∷ []) }
     ensures room { room_of (codes "ERR" ∷ Spec.fault_word fault ∷ []) < ROOM_BYTES }

@@ -59,7 +59,6 @@ fn release_of_call(words: &mut Words<'_>) -> Result<(u32, Name, u32), RequestFau
 }
 
 /// Answers `ARQ`, after its first word, or gives back its first fault.
-#[inline(never)]
 pub(crate) fn admit<A: Answerer>(
     alloc: Global,
     words: &mut Words<'_>,
@@ -82,7 +81,6 @@ pub(crate) fn admit<A: Answerer>(
 }
 
 /// Answers `ANS`, after its first word, or gives back its first fault.
-#[inline(never)]
 pub(crate) fn incoming<A: Answerer>(
     alloc: Global,
     words: &mut Words<'_>,
@@ -104,7 +102,6 @@ pub(crate) fn incoming<A: Answerer>(
 }
 
 /// Answers `BRQ`, after its first word, or gives back its first fault.
-#[inline(never)]
 pub(crate) fn change<A: Answerer>(
     alloc: Global,
     words: &mut Words<'_>,
@@ -126,7 +123,6 @@ pub(crate) fn change<A: Answerer>(
 }
 
 /// Answers `DRQ`, after its first word, or gives back its first fault.
-#[inline(never)]
 pub(crate) fn release<A: Answerer>(
     alloc: Global,
     words: &mut Words<'_>,

@@ -92,8 +92,6 @@ pub(crate) enum TakenLines {
 
 /// Takes so many lines, one after another. If memory runs out, the others are passed over. At a
 /// fault of the reader, and at the end of the input, those before it were taken.
-#[cold]
-#[inline(never)]
 pub(crate) fn take_lines<R: Source>(
     alloc: Global,
     count: u32,

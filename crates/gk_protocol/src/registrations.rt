@@ -110,9 +110,7 @@ pub(crate) fn register<A: Answerer>(
 }
 
 /// Answers a registration that lacks the memory for its options, or gives back the first fault of
-/// them. In a function of its own, so that other registrations do not clear the room of its answer.
-#[cold]
-#[inline(never)]
+/// them.
 fn lack_options(none: NoRequest, reply: &mut ReplyLine) -> Result<Heard, RequestFault>
     ensures { LacksOptions none result reply.new.text }
 {
@@ -145,7 +143,6 @@ fn unregistration(words: &mut Words<'_>) -> Result<(u32, Name), RequestFault>
 }
 
 /// Answers `URQ`, after its first word, or gives back its first fault.
-#[inline(never)]
 pub(crate) fn unregister<A: Answerer>(
     alloc: Global,
     words: &mut Words<'_>,

@@ -63,9 +63,7 @@ impl ReplyLine {
         self.sequence = sequence;
     }
 
-    /// Makes it an answer. In a function of its own, since few answers are values first.
-    #[cold]
-    #[inline(never)]
+    /// Makes it an answer.
     pub fn show(&mut self, answer: Answer)
         ensures { self.new ≡ record self.old { text = Spec.answer_text_of answer } }
     {
@@ -111,8 +109,6 @@ impl ReplyTaker for ReplyLine {
         show_verdict_line(&mut self.line, self.sequence, ruling);
     }
 
-    #[cold]
-    #[inline(never)]
     fn take_reply(&mut self, reply: &Reply) {
         self.body = None;
         show_reply_line(&mut self.line, self.sequence, reply);

@@ -84,8 +84,6 @@ fn owns(read: Result<(LineOwner, u32), RequestFault>) -> Result<Heard, RequestFa
 
 /// Reads `CFG seq n`, after its first word: what it asks with the next n lines, and n; or its first
 /// fault.
-#[cold]
-#[inline(never)]
 fn reload(words: &mut Words<'_>) -> Result<(LineOwner, u32), RequestFault>
     ensures { Reads (Spec.reload_at (words_of words.old)) (λ o. asking_with o.0 o.1) result }
 {
@@ -95,8 +93,6 @@ fn reload(words: &mut Words<'_>) -> Result<(LineOwner, u32), RequestFault>
 }
 
 /// Reads `TRY seq workers n`, after its first word, likewise.
-#[cold]
-#[inline(never)]
 fn trial(words: &mut Words<'_>) -> Result<(LineOwner, u32), RequestFault>
     ensures { Reads (Spec.try_at (words_of words.old)) (λ o. asking_with o.0 o.1) result }
 {

@@ -171,10 +171,7 @@ fn progress_with<R: Source, A: Answerer>(
     }
 }
 
-/// Answers a request with its lines, by what became of them. In a function of its own, so that no
-/// other request clears the places of its answers.
-#[cold]
-#[inline(never)]
+/// Answers a request with its lines, by what became of them.
 fn answer_owner<A: Answerer>(
     alloc: Global,
     owner: LineOwner,
@@ -201,9 +198,7 @@ fn answer_owner<A: Answerer>(
     }
 }
 
-/// Answers a line that is not a request. In a function of its own, likewise.
-#[cold]
-#[inline(never)]
+/// Answers a line that is not a request.
 fn show_fault(fault: RequestFault, reply: &mut ReplyLine)
     ensures { reply.new.text ≡ answer_text_of (Answer.Malformed fault) }
 {

@@ -38,7 +38,6 @@ impl Machine {
     /// the limit allows; reloads-spent if the configuration would be replaced once more than the
     /// limit allows; and else record-full if the record lacks the free places: two if a call would
     /// be opened, none for a release, and one for another verdict.
-    #[inline(never)]
     pub fn count_refusal(&self, event: &LentEvent<'_>, ruling: &LentRuling<'_>) -> Option<Reply>
         ensures { result
             ≡ Spec.count_refusal (States.bare self.now) (event_meant event.now)

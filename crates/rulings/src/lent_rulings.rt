@@ -174,7 +174,6 @@ impl LentRuling<'_> {
     }
 
     /// The verdict.
-    #[inline(never)]
     pub fn verdict(&self) -> Reply
         ensures { result ≡ (Spec.ruling_meant self.now).verdict }
     {
@@ -310,7 +309,6 @@ impl LentRuling<'_> {
     }
 
     /// What it changes.
-    #[inline(never)]
     pub fn effect(&self) -> Effect
         ensures { result ≡ (Spec.ruling_meant self.now).effect }
     {
@@ -370,8 +368,6 @@ impl LentRuling<'_> {
 }
 
 /// Of an answer to a call from another gatekeeper: the call is open.
-#[cold]
-#[inline(never)]
 fn answering(call: u32, owner: &Name, zone: &Name, units: Units) -> Effect
     ensures { result ≡ effects.Open (record {
       number = call;

@@ -195,7 +195,6 @@ impl Machine {
 
     #[tactic(auto, using(crate::proofs::RegisteringLemmas::not_taken))]
     /// Puts a copy of the endpoint that asks among the endpoints, in this zone.
-    #[inline(never)]
     fn put(&mut self, tables: &Tables, event: &LentEvent<'_>, zone: Name) -> Result<(), AllocError>
         requires founded { IsFounded (under tables.now.commands self.old) (event_meant event.now)
             (Effect.Put zone) }
@@ -217,8 +216,6 @@ impl Machine {
 
     /// Begins the next version, with the tables that are asked for, and lets go of each
     /// endpoint whose zone is not local in them. Open calls stay as they are.
-    #[cold]
-    #[inline(never)]
     fn put_in_force(&mut self, event: &LentEvent<'_>)
         requires founded { IsReloadable (bare self.old) (event_meant event.now) }
         ensures { IsUnder self.new

@@ -48,7 +48,6 @@ impl Machine {
     #[tactic(auto, unfolding(crate::specs::Ruling::ruling_of))]
     /// The ruling on an event, with these tables in force. An admission is planned by them, unless
     /// their plan for its digits is given, and by the technology prefixes that gateways gave.
-    #[inline(never)]
     pub fn ruling<'a, 'e: 'a>(
         &'a self,
         tables: &'a Tables,
@@ -89,7 +88,6 @@ impl Machine {
     #[tactic(auto, unfolding(crate::specs::Ruling::ruling_of))]
     /// The ruling on a registration. The refusals are tried in this order: the zone is not a local
     /// zone; the ID is registered from another address; an alias is another endpoint's.
-    #[inline(never)]
     pub fn registration<'a>(&self, tables: &Tables, endpoint: &'a Endpoint) -> LentRuling<'a>
         ensures { ruling_meant result ≡ Spec.ruling_of (under tables.now.commands self.now)
             (Events.Registering endpoint.now) }
@@ -121,7 +119,6 @@ impl Machine {
 
     /// The ruling on an unregistration. The refusals are tried in this order: the ID is not
     /// registered; it owns an open call.
-    #[inline(never)]
     pub fn unregistration<'a>(&self, id: &'a Name) -> LentRuling<'a>
         ensures { ruling_meant result ≡ Spec.unregistration_ruling (bare self.now) id.now }
     {
@@ -221,7 +218,6 @@ impl Machine {
     /// The ruling on an endpoint's answer to a call. The refusals are tried in this order: the
     /// endpoint is not registered; a call of the number is open that was not admitted to it; a sum
     /// of the call would be above its limit. One that was admitted to it stays as it is.
-    #[inline(never)]
     pub fn answer_to<'a>(
         &'a self,
         tables: &Tables,
@@ -294,7 +290,6 @@ impl Machine {
     #[tactic(auto, unfolding(crate::specs::Ruling::ruling_of))]
     /// The ruling on a bandwidth change. The refusals are tried in this order: no call of the
     /// number is open; it belongs to another endpoint; a sum of the call would be above its limit.
-    #[inline(never)]
     pub fn bandwidth_change<'a>(
         &self,
         tables: &Tables,
@@ -349,7 +344,6 @@ impl Machine {
     /// The ruling on a release. It is granted to the owner of the call, registered or not. Else the
     /// refusals are tried in this order: the ID is not registered; the call belongs to another
     /// endpoint; no call of the number is open.
-    #[inline(never)]
     pub fn release<'a>(&self, id: &'a Name, call: u32) -> LentRuling<'a>
         ensures { ruling_meant result ≡ Spec.release_ruling (bare self.now) id.now call
             (call_of self.now.calls call) }
