@@ -139,8 +139,6 @@ impl<T: Copy> PieceList<T> {
     /// `AllocError` if memory runs out, or there would be more than `MOST_PIECES`. Then some may
     /// have been added.
     #[tactic(auto, using(crate::proofs::PieceLemmas::pieces_counted))]
-    #[cold]
-    #[inline(never)]
     pub(crate) fn grow(&mut self, count: usize) -> Result<(), AllocError>
         ensures pieces { self.new.pieces ≡ self.old.pieces }
         ensures size { self.new.size ≡ self.old.size }

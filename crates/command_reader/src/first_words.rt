@@ -67,9 +67,7 @@ fn add_named(
     }
 }
 
-/// Adds the command of `gw-type-prefix` and what follows it. In a function of its own, as are those
-/// below, so that only lines of this kind set aside room for such a command.
-#[inline(never)]
+/// Adds the command of `gw-type-prefix` and what follows it.
 fn add_gw_type_prefix(
     kept: &mut Kept,
     alloc: Global,
@@ -82,7 +80,6 @@ fn add_gw_type_prefix(
 }
 
 /// Adds the command of `arq` and what follows it.
-#[inline(never)]
 fn add_arq(kept: &mut Kept, words: &mut Words<'_>) -> Result<(), FaultKind>
     ensures { MayAdd kept.old (kept_command_of (arq_at (words_of words.old))) kept.new result }
 {
@@ -90,7 +87,6 @@ fn add_arq(kept: &mut Kept, words: &mut Words<'_>) -> Result<(), FaultKind>
 }
 
 /// Adds the command of `bandwidth` and what follows it.
-#[inline(never)]
 fn add_bandwidth(kept: &mut Kept, alloc: Global, words: &mut Words<'_>) -> Result<(), FaultKind>
     ensures { MayAdd kept.old (kept_command_of (bandwidth_at (words_of words.old))) kept.new
         result }
@@ -112,7 +108,6 @@ fn arq(words: &mut Words<'_>) -> Result<Command, FaultKind>
 }
 
 /// A line that no command begins: it is passed over or at fault.
-#[inline(never)]
 fn passed_at(first: &[u8], words: &mut Words<'_>) -> Result<(), FaultKind>
     ensures { Passes (passed_at first.now (words_of words.old)) result }
 {

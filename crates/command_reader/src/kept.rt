@@ -61,7 +61,6 @@ impl Kept {
     /// Adds the command of the line, or says why not: the fault of the zone that it declares, or
     /// `NoMemory`. In that case what was kept is unchanged. A command is large, so room is made for
     /// it first: `push` may hand it back, which costs another copy.
-    #[inline(always)]
     pub fn add(&mut self, command: Command) -> Result<(), FaultKind>
         ensures { MayAdd self.old (Ok (Some command)) self.new result }
     {

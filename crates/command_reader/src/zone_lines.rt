@@ -62,9 +62,7 @@ pub fn add_zone(kept: &mut Kept, alloc: Global, words: &mut Words<'_>) -> Result
     }
 }
 
-/// Adds `zone local NAME DOMAIN [IP [PORT]]`. In a function of its own, as is `zone remote`, so
-/// that only lines of this kind set aside room for such a command.
-#[inline(never)]
+/// Adds `zone local NAME DOMAIN [IP [PORT]]`.
 fn add_zone_local(kept: &mut Kept, alloc: Global, words: &mut Words<'_>) -> Result<(), FaultKind>
     ensures { MayAdd kept.old (kept_command_of (zone_local_at (words_of words.old))) kept.new
         result }
@@ -73,7 +71,6 @@ fn add_zone_local(kept: &mut Kept, alloc: Global, words: &mut Words<'_>) -> Resu
 }
 
 /// Adds `zone remote NAME DOMAIN IP [PORT] [cost C [priority P]]`.
-#[inline(never)]
 fn add_zone_remote(kept: &mut Kept, alloc: Global, words: &mut Words<'_>) -> Result<(), FaultKind>
     ensures { MayAdd kept.old (kept_command_of (zone_remote_at (words_of words.old))) kept.new
         result }

@@ -157,10 +157,7 @@ impl LineBuffer {
         self.len = end;
     }
 
-    /// Adds the digits of a number, as far as they have room. In a function of its own, since few
-    /// lines are that long.
-    #[cold]
-    #[inline(never)]
+    /// Adds the digits of a number, as far as they have room.
     fn cut_digits(&mut self, number: u32)
         ensures { self.new ≡ extended self.old (decimal number) }
     {

@@ -82,7 +82,6 @@ impl ByteKind for DialledBytes {
         is_dialled_byte(byte)
     }
 
-    #[inline(always)]
     fn are_first_eight_of_kind(text: &[u8]) -> bool {
         let bytes = u8x8::from_slice(text);
         let digit = bytes.simd_ge(u8x8::splat(b'0')) & bytes.simd_le(u8x8::splat(b'9'));

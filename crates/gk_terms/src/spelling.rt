@@ -114,7 +114,6 @@ impl ByteKind for VisibleBytes {
         is_visible(byte)
     }
 
-    #[inline(always)]
     fn are_first_eight_of_kind(text: &[u8]) -> bool {
         let bytes = u8x8::from_slice(text);
         (bytes.simd_ge(u8x8::splat(0x21)) & bytes.simd_le(u8x8::splat(0x7E))).all()

@@ -93,7 +93,6 @@ fn length_of_word(line: &[u8]) -> usize
 }
 
 /// Which of the first 16 bytes are blanks: bit k stands for byte k.
-#[inline(always)]
 fn blanks_in_sixteen(line: &[u8]) -> u64
     requires { 16 ≤ length line.now }
     ensures { result ≡ mask_l (map is_blank (take 16 line.now)) }

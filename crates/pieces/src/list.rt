@@ -100,9 +100,7 @@ impl<T: Drop> Pieces<T> {
     }
 
     /// Adds an empty piece. `AllocError` if memory runs out, or there are `MOST_PIECES`; then
-    /// nothing changes. In a function of its own, since few calls of `reserve` need it.
-    #[cold]
-    #[inline(never)]
+    /// nothing changes.
     fn add_piece(&mut self) -> Result<(), AllocError>
         ensures ok { OnOk result (self.new ≡ record self.old { room = self.old.room + 1024 }) }
         ensures err { OnErr result (self.new ≡ self.old) }
@@ -178,7 +176,6 @@ impl<T: Copy> Pieces<T> {
     }
 
     /// The same, one by one.
-    #[inline(never)]
     fn push_each(&mut self, count: usize, item: T)
         requires { count ≤ self.old.room }
         ensures { self.new ≡ record {

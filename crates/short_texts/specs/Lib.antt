@@ -1,3 +1,2 @@
 pub mod PackedDigits
-pub mod CompactText
 pub mod KeptName
