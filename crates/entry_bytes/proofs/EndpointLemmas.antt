@@ -5,7 +5,7 @@ use Rattle.std.specs.Global.{Vec}
 use Rattle.std.specs.List.{flat_map, list_all}
 use Rattle.std.proofs.lemmas.List.{take_more, flat_map_more}
 use Rattle.std.proofs.lemmas.List.Folds.{length-flat_map-take, list_all_more}
-use Rattle.registry.specs.BriefTexts.{sized, counted}
+use Rattle.entry_bytes.specs.EndpointTexts.{sized, counted}
 use Rattle.field_bytes.specs.Adding.{Adds, HasRoom}
 use Rattle.field_bytes.proofs.AddingLemmas.{both_added}
 

@@ -1,3 +1,4 @@
+pub mod EndpointTextLemmas
 pub mod PartLaws
 pub mod EndpointLemmas
 pub mod VerdictLaws

@@ -10,8 +10,8 @@ use Rattle.registry.specs.declared.endpoints.EndpointKind.{EndpointKind}
 use Rattle.registry.specs.declared.endpoints.EndpointKind.TheVariants as endpoint
 use Rattle.registry.specs.declared.faults.Duplicate.TheVariants.{Id, E164}
 use Rattle.registry.specs.Endpoint.{EndpointParts}
-use Rattle.registry.specs.BriefTexts.{endpoint_read, texts_of}
-use Rattle.registry.proofs.BriefTextLemmas.{endpoint_back}
+use Rattle.entry_bytes.specs.EndpointTexts.{endpoint_read, texts_of}
+use Rattle.entry_bytes.proofs.EndpointTextLemmas.{endpoint_back}
 use Rattle.rulings.specs.declared.lent_routes.DestinationKind.TheVariants as destination
 use Rattle.rulings.specs.declared.replies.AdmitRefusal.{AdmitRefusal}
 use Rattle.rulings.specs.declared.replies.AdmitRefusal.TheVariants as admit

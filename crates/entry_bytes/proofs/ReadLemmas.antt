@@ -1,7 +1,7 @@
 -- What is known of an endpoint that is read.
 use Rattle.std.proofs.Common.{◌≡◌, List, ℕ, Option, Some, None, refl, subst}
 use Rattle.std.specs.Prelude.{IfSome}
-use Rattle.registry.specs.BriefTexts.{HasRightTexts}
+use Rattle.entry_bytes.specs.EndpointTexts.{HasRightTexts}
 use Rattle.registry.specs.Endpoint.{EndpointParts}
 use Rattle.rulings.specs.Events.{PlainEvent, Registering}
 use Rattle.field_bytes.specs.Fields.{◌>>=◌}

@@ -1,7 +1,7 @@
 -- An endpoint as bytes, which are the last ones of an entry.
 use Rattle.std.specs.Prelude.{ℕ, List, ◌∷◌, ◌++◌, Option, Some}
 use Rattle.registry.specs.Endpoint.{EndpointParts}
-use Rattle.registry.specs.BriefTexts.{IsWhole, endpoint_read, texts_of}
+use Rattle.entry_bytes.specs.EndpointTexts.{IsWhole, endpoint_read, texts_of}
 use Rattle.field_bytes.specs.Fields.{◌>>=◌, address_bytes, address_in, IsAddress}
 use Rattle.entry_bytes.specs.Codes.{coded_in, endpoint_kind_code, endpoint_kind_of}
 

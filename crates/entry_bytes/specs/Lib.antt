@@ -1,5 +1,6 @@
 pub mod Codes
 pub mod Refusals
+pub mod EndpointTexts
 pub mod EndpointBytes
 pub mod Entry
 pub mod VerdictBytes

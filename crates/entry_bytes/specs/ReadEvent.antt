@@ -1,6 +1,6 @@
 -- An event, and an entry, as they are read.
 use Rattle.std.specs.Prelude.{⊤}
-use Rattle.registry.specs.BriefTexts.{HasRightTexts}
+use Rattle.entry_bytes.specs.EndpointTexts.{HasRightTexts}
 use Rattle.rulings.specs.Events.{PlainEvent, Registering, Unregistering, Admitting, Answering, Changing, Releasing, Reloading}
 use Rattle.entry_bytes.specs.declared.read_events.ReadEvent.{ReadEvent}
 use Rattle.entry_bytes.specs.declared.read_events.ReadEvent.TheVariants as read

@@ -5,7 +5,7 @@ ghost use Rattle.std.specs.List.{list_all};
 ghost use Rattle.gk_terms.specs.Dialled.{is_dialled};
 ghost use Rattle.gk_terms.specs.TechPrefix.{is_tech_prefix};
 ghost use Rattle.gk_terms.specs.declared.limits.TheConstants.{MOST_ALIASES, MOST_DIALLED, MOST_TECHNOLOGIES, MOST_TECHNOLOGY};
-ghost use Rattle.registry.specs.BriefTexts.{HasRightTexts, counted, texts_of};
+ghost use Rattle.entry_bytes.specs.EndpointTexts.{HasRightTexts, counted, texts_of};
 ghost use Rattle.field_bytes.specs.Adding.{Adds, HasRoom};
 ghost use Rattle.entry_bytes.specs.EndpointBytes.{endpoint_bytes};
 ghost use Rattle.field_bytes.specs.Fields.{IsAddress};

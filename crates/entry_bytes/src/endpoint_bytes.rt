@@ -2,7 +2,7 @@
 
 ghost use Rattle.std.specs.Prelude.{◌≡◌, IfSome};
 ghost use Rattle.gk_terms.specs.Name.{IsName};
-ghost use Rattle.registry.specs.BriefTexts.{HasRightTexts, after_text, first_text};
+ghost use Rattle.entry_bytes.specs.EndpointTexts.{HasRightTexts, after_text, first_text};
 ghost use Rattle.entry_bytes.specs.EndpointBytes.{endpoint_in};
 
 use crate::codes::endpoint_kind_of;
@@ -21,7 +21,7 @@ pub struct EndpointBytes<'a> {
 
 impl<'a> Model for EndpointBytes<'a> {
     ghost use Rattle.registry.specs.Endpoint.{EndpointParts};
-    ghost use Rattle.registry.specs.BriefTexts.{HasRightTexts, endpoint_read};
+    ghost use Rattle.entry_bytes.specs.EndpointTexts.{HasRightTexts, endpoint_read};
 
     ghost Value = { EndpointParts };
 

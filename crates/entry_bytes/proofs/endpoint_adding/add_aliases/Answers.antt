@@ -1,6 +1,6 @@
 use Rattle.std.proofs.Common.{sym, subst}
 use Rattle.gk_terms.specs.Dialled.{is_dialled}
-use Rattle.registry.specs.BriefTexts.{sized}
+use Rattle.entry_bytes.specs.EndpointTexts.{sized}
 use Rattle.field_bytes.specs.Adding.{Adds, HasRoom}
 use Rattle.entry_bytes.proofs.EndpointLemmas.{room_for_one, one_added, one_more_passes}
 use Rattle.entry_bytes.proofs.endpoint_adding.add_aliases.Goals as goal

@@ -1,7 +1,7 @@
 use Rattle.std.proofs.Common.{◌≡◌, ◌≤◌, ◌+◌, ◌*◌, length, take}
 use Rattle.gk_terms.specs.declared.limits.TheConstants.{MOST_DIALLED}
 use Rattle.std.specs.List.{flat_map}
-use Rattle.registry.specs.BriefTexts.{sized}
+use Rattle.entry_bytes.specs.EndpointTexts.{sized}
 use Rattle.entry_bytes.proofs.endpoint_adding.size_of_aliases.Given as goal
 
 abbrev pub invariant-loop-alias : goal.invariant-loop-alias
