@@ -14,7 +14,6 @@ pub mod LearnedLemmas
 pub mod SeenLemmas
 pub mod KeepingLemmas
 pub mod CopyLemmas
-pub mod BriefTextLemmas
 pub mod NamedLemmas
 pub mod UnnamedLemmas
 pub mod GatewayLemmas

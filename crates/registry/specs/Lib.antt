@@ -8,4 +8,3 @@ pub mod NumberedEndpoints
 pub mod Learned
 pub mod Chosen
 pub mod GatewayLaws
-pub mod BriefTexts

@@ -2,9 +2,6 @@
 //! prefix.
 #![tactic(auto)]
 
-pub mod brief_endpoint;
-mod brief_reading;
-mod brief_writing;
 mod changes;
 mod choosing;
 mod endpoint_number;
@@ -20,7 +17,6 @@ pub mod registry;
 mod served;
 mod served_zones;
 
-pub use brief_endpoint::BriefEndpoint;
 pub use endpoints::{Endpoint, EndpointKind};
 pub use faults::{Duplicate, PlacementFault, RegistryFault};
 pub use registry::Registry;

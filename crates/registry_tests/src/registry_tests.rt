@@ -3,7 +3,6 @@
 use command_reader::read;
 use compiler::Tables;
 use gk_terms::{Address, Dialled, Name, TechPrefix};
-use registry::BriefEndpoint;
 use registry::endpoints::{Endpoint, EndpointKind};
 use registry::faults::{Duplicate, RegistryFault};
 use registry::registry::Registry;
@@ -35,46 +34,6 @@ fn gateway(rt: &impl Abort, alloc: Global, sought: &Sought) -> Endpoint {
 /// Whether the endpoint takes the alias and the technology prefix.
 fn takes_both(endpoint: &mut Endpoint, sought: &Sought) -> bool {
     endpoint.add_alias(sought.alias).is_ok() && endpoint.add_technology(sought.prefix).is_ok()
-}
-
-#[test]
-fn an_endpoint_in_few_bytes_reads_back(rt: HostRuntime) -> Result<(), Fail> {
-    let short = Sought {
-        id: Name::read(b"ga")?,
-        zone: Name::read(b"-")?,
-        alias: Dialled::read(b"7")?,
-        prefix: TechPrefix::read(b"1#")?,
-    };
-    // Its texts have more bytes than stand in place.
-    let long = Sought {
-        id: Name::read(b"a-gateway-whose-name-has-more-than-forty-six-bytes")?,
-        ..short
-    };
-    assert!(rt; reads_back(&gateway(&rt, rt.alloc(), &short), &short));
-    assert!(rt; reads_back(&gateway(&rt, rt.alloc(), &long), &long));
-    Ok(())
-}
-
-/// Whether the gateway is made brief, says what it was made of, and is given back.
-fn reads_back(gateway: &Endpoint, sought: &Sought) -> bool {
-    let Ok(brief) = BriefEndpoint::of(gateway) else {
-        return false;
-    };
-    brief.kind() == EndpointKind::Gateway
-        && brief.id() == sought.id
-        && brief.zone() == sought.zone
-        && brief.address() == gateway.address()
-        && is_given_back(&brief, sought)
-}
-
-/// Whether the endpoint that was made brief has its alias and its technology prefix.
-fn is_given_back(brief: &BriefEndpoint, sought: &Sought) -> bool {
-    match brief.endpoint() {
-        Ok(endpoint) => {
-            endpoint.has_alias(&sought.alias) && endpoint.has_technology(&sought.prefix)
-        }
-        Err(_) => false,
-    }
 }
 
 /// Whether the gateway is found by its place, its ID, its alias and its prefix.
