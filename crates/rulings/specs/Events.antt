@@ -1,5 +1,5 @@
 -- Events as plain values: what a core is asked, and what an entry and a receipt name of it.
-use Rattle.std.specs.Prelude.{ℕ, List, Option, Some, None, Bool, true, false}
+use Rattle.std.specs.Prelude.{ℕ, List, Option, Some, None}
 use Rattle.std.specs.Arc.{arc_value}
 use Rattle.command_reader.specs.declared.commands.Command.{Command}
 use Rattle.registry.specs.Endpoint.{EndpointParts}
@@ -46,16 +46,6 @@ event_meant (lent.Incoming id call units) = Answering id.now call units
 event_meant (lent.Change id call units) = Changing id.now call units
 event_meant (lent.Release id call) = Releasing id.now call
 event_meant (lent.Reload tables) = Reloading tables.now.commands
-
--- whether it holds names and numbers alone, neither an endpoint nor commands
-abbrev pub is_of_names_alone : PlainEvent → Bool
-is_of_names_alone (Registering endpoint) = false
-is_of_names_alone (Unregistering id) = true
-is_of_names_alone (Admitting id call digits units) = true
-is_of_names_alone (Answering id call units) = true
-is_of_names_alone (Changing id call units) = true
-is_of_names_alone (Releasing id call) = true
-is_of_names_alone (Reloading commands) = false
 
 abbrev pub kind_of : PlainEvent → EventKind
 kind_of (Registering endpoint) = Registration

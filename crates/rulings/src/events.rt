@@ -1,13 +1,12 @@
 //! Events: what a core is asked.
 
-ghost use Rattle.std.specs.Prelude.{◌≡◌, true, None, IfSome, IfOk, IsOk};
+ghost use Rattle.std.specs.Prelude.{◌≡◌, IfSome};
 ghost use Rattle.command_reader.specs.Accepted.{IsAccepted};
-ghost use Rattle.rulings.specs.Events.{plain, event_meant, is_of_names_alone, kind_of, id_of, call_number_of, put_in_force};
+ghost use Rattle.rulings.specs.Events.{plain, event_meant, kind_of, id_of, call_number_of, put_in_force};
 
 use compiler::Tables;
 use gk_terms::{Dialled, Name, Units};
 use registry::Endpoint;
-use std::alloc::AllocError;
 use std::sync::Arc;
 
 /// What an endpoint or an operator asks of the core.
@@ -107,44 +106,6 @@ impl LentEvent<'_> {
         if let LentEvent::Reload(tables) = self {
             let _count = tables.commands().len();
         }
-    }
-
-    /// The same event, for an event that is not a reload. Memory is taken for an endpoint alone.
-    pub fn to_event(&self) -> Result<Event, AllocError>
-        requires other { put_in_force (event_meant self.now) ≡ None }
-        ensures same { IfOk result (λ event. plain event ≡ event_meant self.now) }
-        ensures names { is_of_names_alone (event_meant self.now) ≡ true → IsOk result }
-    {
-        Ok(match self {
-            LentEvent::Register(endpoint) => Event::Register(endpoint.copy()?),
-            LentEvent::Reload(_) => unreachable!(),
-            LentEvent::Unregister { id } => Event::Unregister { id: **id },
-            LentEvent::Admit {
-                id,
-                call,
-                digits,
-                units,
-            } => Event::Admit {
-                id: **id,
-                call: *call,
-                digits: **digits,
-                units: *units,
-            },
-            LentEvent::Incoming { id, call, units } => Event::Incoming {
-                id: **id,
-                call: *call,
-                units: *units,
-            },
-            LentEvent::Change { id, call, units } => Event::Change {
-                id: **id,
-                call: *call,
-                units: *units,
-            },
-            LentEvent::Release { id, call } => Event::Release {
-                id: **id,
-                call: *call,
-            },
-        })
     }
 }
 

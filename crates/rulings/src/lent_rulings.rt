@@ -9,7 +9,7 @@ use crate::lent_routes::DestinationKind;
 use crate::replies::{
     AdmitRefusal, ChangeRefusal, RegisterRefusal, ReleaseRefusal, Reply, UnregisterRefusal,
 };
-use crate::routes::{Route, RouteRefusal};
+use crate::routes::RouteRefusal;
 use crate::rulings::Effect;
 use bandwidth::{OpenCall, Over};
 use gk_terms::{Address, Name, Units, Version};
@@ -257,54 +257,6 @@ impl LentRuling<'_> {
                 reason: *reason,
             },
             LentRuling::Reloaded { version } => Reply::Reloaded { version: *version },
-        }
-    }
-
-    /// Of an admission or an answer: the zone of the endpoint that asks, if it is registered.
-    pub fn zone(&self) -> Option<Name>
-        ensures { result ≡ (Spec.ruling_meant self.now).zone }
-    {
-        match self {
-            LentRuling::Admitted { source, .. }
-            | LentRuling::CallOpen { source, .. }
-            | LentRuling::NoRoute { source, .. }
-            | LentRuling::OverLimit { source, .. } => Some(**source),
-            LentRuling::Answering { zone, .. } | LentRuling::Repeated { zone, .. } => Some(**zone),
-            _ => None,
-        }
-    }
-
-    /// Of an admission or an answer: where the call leads, if that was looked for.
-    pub fn route(&self) -> Option<Route>
-        ensures { result ≡ (Spec.ruling_meant self.now).route }
-    {
-        match self {
-            LentRuling::Admitted {
-                kind,
-                name,
-                address,
-                ..
-            }
-            | LentRuling::OverLimit {
-                kind,
-                name,
-                address,
-                ..
-            } => Some(Route::To(kind.destination(name, *address))),
-            LentRuling::Answering {
-                owner,
-                kind,
-                address,
-                ..
-            } => Some(Route::To(kind.destination(owner, *address))),
-            LentRuling::Repeated {
-                kind,
-                name,
-                address,
-                ..
-            } => Some(Route::To(kind.destination(name, *address))),
-            LentRuling::NoRoute { refusal, .. } => Some(Route::Refused(*refusal)),
-            _ => None,
         }
     }
 
