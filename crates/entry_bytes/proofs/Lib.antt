@@ -1,4 +1,5 @@
 pub mod EndpointTextLemmas
+pub mod GivenLemmas
 pub mod PartLaws
 pub mod EndpointLemmas
 pub mod VerdictLaws

@@ -1,7 +1,7 @@
 -- What is known of an endpoint that is read.
 use Rattle.std.proofs.Common.{◌≡◌, List, ℕ, Option, Some, None, refl, subst}
 use Rattle.std.specs.Prelude.{IfSome}
-use Rattle.entry_bytes.specs.EndpointTexts.{HasRightTexts}
+use Rattle.entry_bytes.specs.EndpointTexts.{IsWhole}
 use Rattle.registry.specs.Endpoint.{EndpointParts}
 use Rattle.rulings.specs.Events.{PlainEvent, Registering}
 use Rattle.field_bytes.specs.Fields.{◌>>=◌}
@@ -13,14 +13,14 @@ use Rattle.entry_bytes.specs.declared.verdicts.Verdict.{Verdict}
 use Rattle.entry_bytes.specs.declared.verdicts.Verdict.TheVariants as verdict
 
 endpoint_of : (read : Option EndpointParts)
-    → IfSome (read >>= λ e. Some (Registering e)) HasRightEndpoint → IfSome read HasRightTexts
+    → IfSome (read >>= λ e. Some (Registering e)) HasRightEndpoint → IfSome read IsWhole
 endpoint_of None right = tt
 endpoint_of (Some e) right = right
 
--- the endpoint of a registration has right texts
-pub right_texts : (bytes : List ℕ) → IfSome (registering_in bytes) HasRightEndpoint
-    → IfSome (endpoint_in bytes) HasRightTexts
-right_texts bytes right = endpoint_of (endpoint_in bytes) right
+-- the endpoint of a registration is whole
+pub whole_endpoint : (bytes : List ℕ) → IfSome (registering_in bytes) HasRightEndpoint
+    → IfSome (endpoint_in bytes) IsWhole
+whole_endpoint bytes right = endpoint_of (endpoint_in bytes) right
 
 -- an entry has its event
 told_event : (event : PlainEvent) (v : Verdict) → (entry_told event v).event ≡ event

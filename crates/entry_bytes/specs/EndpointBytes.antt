@@ -1,8 +1,8 @@
 -- An endpoint as bytes, which are the last ones of an entry.
 use Rattle.std.specs.Prelude.{ℕ, List, ◌∷◌, ◌++◌, Option, Some}
 use Rattle.registry.specs.Endpoint.{EndpointParts}
-use Rattle.entry_bytes.specs.EndpointTexts.{IsWhole, endpoint_read, texts_of}
-use Rattle.field_bytes.specs.Fields.{◌>>=◌, address_bytes, address_in, IsAddress}
+use Rattle.entry_bytes.specs.EndpointTexts.{endpoint_read, texts_of}
+use Rattle.field_bytes.specs.Fields.{◌>>=◌, address_bytes, address_in}
 use Rattle.entry_bytes.specs.Codes.{coded_in, endpoint_kind_code, endpoint_kind_of}
 
 -- its kind, its address and its texts
@@ -15,8 +15,3 @@ endpoint_in bytes = do
   kind ← coded_in endpoint_kind_of bytes
   address ← address_in kind.1
   Some (endpoint_read kind.0 address.0 address.1)
-
--- as every endpoint is
-pub record IsEndpoint (e : EndpointParts) : Type 0 where
-  pub address : IsAddress e.address
-  pub whole : IsWhole e

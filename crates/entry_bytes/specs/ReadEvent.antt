@@ -1,6 +1,6 @@
 -- An event, and an entry, as they are read.
 use Rattle.std.specs.Prelude.{⊤}
-use Rattle.entry_bytes.specs.EndpointTexts.{HasRightTexts}
+use Rattle.entry_bytes.specs.EndpointTexts.{IsWhole}
 use Rattle.rulings.specs.Events.{PlainEvent, Registering, Unregistering, Admitting, Answering, Changing, Releasing, Reloading}
 use Rattle.entry_bytes.specs.declared.read_events.ReadEvent.{ReadEvent}
 use Rattle.entry_bytes.specs.declared.read_events.ReadEvent.TheVariants as read
@@ -14,9 +14,9 @@ event_read (read.Incoming id call units) = Answering id call units
 event_read (read.Change id call units) = Changing id call units
 event_read (read.Release id call) = Releasing id call
 
--- the texts of its endpoint are an endpoint's, if it has one
+-- its endpoint is as every endpoint is, if it has one
 abbrev pub HasRightEndpoint : PlainEvent → Type 0
-HasRightEndpoint (Registering endpoint) = HasRightTexts endpoint
+HasRightEndpoint (Registering endpoint) = IsWhole endpoint
 HasRightEndpoint (Unregistering id) = ⊤
 HasRightEndpoint (Admitting id call digits units) = ⊤
 HasRightEndpoint (Answering id call units) = ⊤

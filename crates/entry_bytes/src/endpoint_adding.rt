@@ -5,7 +5,7 @@ ghost use Rattle.std.specs.List.{list_all};
 ghost use Rattle.gk_terms.specs.Dialled.{is_dialled};
 ghost use Rattle.gk_terms.specs.TechPrefix.{is_tech_prefix};
 ghost use Rattle.gk_terms.specs.declared.limits.TheConstants.{MOST_ALIASES, MOST_DIALLED, MOST_TECHNOLOGIES, MOST_TECHNOLOGY};
-ghost use Rattle.entry_bytes.specs.EndpointTexts.{HasRightTexts, counted, texts_of};
+ghost use Rattle.entry_bytes.specs.EndpointTexts.{IsWhole, counted, texts_of};
 ghost use Rattle.field_bytes.specs.Adding.{Adds, HasRoom};
 ghost use Rattle.entry_bytes.specs.EndpointBytes.{endpoint_bytes};
 ghost use Rattle.field_bytes.specs.Fields.{IsAddress};
@@ -59,7 +59,7 @@ pub fn add_endpoint(bytes: &mut Vec<u8>, endpoint: &Endpoint)
     requires { HasRoom bytes.old (endpoint_bytes endpoint.now) }
     ensures added { Adds bytes.old (endpoint_bytes endpoint.now) bytes.new }
     ensures address { IsAddress endpoint.now.address }
-    ensures texts { HasRightTexts endpoint.now }
+    ensures whole { IsWhole endpoint.now }
 {
     add_byte(bytes, endpoint_kind_code(endpoint.kind()));
     add_address(bytes, endpoint.address());
@@ -70,7 +70,7 @@ pub fn add_endpoint(bytes: &mut Vec<u8>, endpoint: &Endpoint)
 fn add_texts(bytes: &mut Vec<u8>, endpoint: &Endpoint)
     requires { HasRoom bytes.old (texts_of endpoint.now) }
     ensures added { Adds bytes.old (texts_of endpoint.now) bytes.new }
-    ensures texts { HasRightTexts endpoint.now }
+    ensures whole { IsWhole endpoint.now }
 {
     add_name(bytes, endpoint.id());
     add_name(bytes, endpoint.zone());

@@ -1,14 +1,16 @@
 //! An endpoint, as it is read from its bytes.
 
-ghost use Rattle.std.specs.Prelude.{◌≡◌, IfSome};
-ghost use Rattle.gk_terms.specs.Name.{IsName};
-ghost use Rattle.entry_bytes.specs.EndpointTexts.{HasRightTexts, after_text, first_text};
+ghost use Rattle.std.specs.Prelude.{◌≡◌, IfOk, IfSome};
+ghost use Rattle.entry_bytes.specs.EndpointTexts.{IsWhole};
 ghost use Rattle.entry_bytes.specs.EndpointBytes.{endpoint_in};
 
 use crate::codes::endpoint_kind_of;
+use crate::endpoint_reading::{give_aliases, give_technologies};
+use crate::endpoint_texts::{after_counted, after_text, first_name};
 use field_bytes::{Fields, NameText};
 use gk_terms::Address;
-use registry::EndpointKind;
+use registry::{Endpoint, EndpointKind};
+use std::alloc::{AllocError, Global};
 use std::marker::Model;
 
 /// An endpoint of an entry, whose texts stand in the entry. A contract sees the endpoint.
@@ -21,20 +23,20 @@ pub struct EndpointBytes<'a> {
 
 impl<'a> Model for EndpointBytes<'a> {
     ghost use Rattle.registry.specs.Endpoint.{EndpointParts};
-    ghost use Rattle.entry_bytes.specs.EndpointTexts.{HasRightTexts, endpoint_read};
+    ghost use Rattle.entry_bytes.specs.EndpointTexts.{IsWhole, endpoint_read};
 
     ghost Value = { EndpointParts };
 
     ghost view = { λ e. endpoint_read e.kind e.address e.texts.now };
 
-    ghost invariant = { λ e. HasRightTexts (endpoint_read e.kind e.address e.texts.now) };
+    ghost invariant = { λ e. IsWhole (endpoint_read e.kind e.address e.texts.now) };
 }
 
 impl<'a> EndpointBytes<'a> {
     /// The endpoint that all of these bytes are, if they begin with a kind and an address. The
     /// texts after that are those of an endpoint.
     pub fn read(bytes: &'a [u8]) -> Option<EndpointBytes<'a>>
-        requires { IfSome (endpoint_in bytes.now) HasRightTexts }
+        requires { IfSome (endpoint_in bytes.now) IsWhole }
         ensures { result ≡ endpoint_in bytes.now }
     {
         let mut fields = Fields::of(bytes);
@@ -45,6 +47,25 @@ impl<'a> EndpointBytes<'a> {
             address,
             texts: fields.rest(),
         })
+    }
+
+    /// The endpoint, with its aliases and its technology prefixes. `AllocError` comes only if
+    /// memory for these runs out.
+    pub fn endpoint(&self, alloc: Global) -> Result<Endpoint, AllocError>
+        ensures { IfOk result (λ endpoint. endpoint ≡ self.now) }
+    {
+        let aliases = after_text(after_text(self.texts));
+        let technologies = after_counted(aliases);
+        let mut endpoint = Endpoint::new(
+            alloc,
+            self.kind,
+            self.id().name(),
+            self.zone().name(),
+            self.address,
+        );
+        give_aliases(&mut endpoint, aliases)?;
+        give_technologies(&mut endpoint, technologies)?;
+        Ok(endpoint)
     }
 
     /// What the endpoint is.
@@ -65,8 +86,7 @@ impl<'a> EndpointBytes<'a> {
     pub fn zone(&self) -> NameText<'a>
         ensures { result ≡ self.now.zone }
     {
-        let (_, rest) = cut_text(self.texts);
-        first_name(rest)
+        first_name(after_text(self.texts))
     }
 
     /// Its call signalling address.
@@ -74,28 +94,5 @@ impl<'a> EndpointBytes<'a> {
         ensures { result ≡ self.now.address }
     {
         self.address
-    }
-}
-
-/// The name at the beginning of the bytes.
-fn first_name(bytes: &[u8]) -> NameText<'_>
-    requires { IsName (first_text bytes.now) }
-    ensures { result ≡ first_text bytes.now }
-{
-    let (name, _) = cut_text(bytes);
-    match NameText::read(name) {
-        Some(name) => name,
-        None => unreachable!(),
-    }
-}
-
-/// The text at the beginning, and what comes after it.
-fn cut_text(bytes: &[u8]) -> (&[u8], &[u8])
-    ensures first { result.0.now ≡ first_text bytes.now }
-    ensures after { result.1.now ≡ after_text bytes.now }
-{
-    match bytes {
-        [size, rest @ ..] => rest.split_at(rest.len().min(usize::from(*size))),
-        [] => (bytes, bytes),
     }
 }

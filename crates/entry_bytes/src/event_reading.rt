@@ -35,7 +35,7 @@ fn read_of_code<'a>(fields: &mut Fields<'a>, code: u8) -> Option<ReadEvent<'a>>
     }
 }
 
-#[tactic(auto, using(crate::proofs::ReadLemmas::right_texts))]
+#[tactic(auto, using(crate::proofs::ReadLemmas::whole_endpoint))]
 /// A registration.
 fn read_registration<'a>(fields: &mut Fields<'a>) -> Option<ReadEvent<'a>>
     requires { IfSome (Spec.registering_in fields.old) HasRightEndpoint }

@@ -4,6 +4,8 @@
 pub mod codes;
 mod endpoint_adding;
 mod endpoint_bytes;
+mod endpoint_reading;
+mod endpoint_texts;
 mod entry_reading;
 mod entry_writing;
 mod event_adding;

@@ -1,6 +1,7 @@
 //! Endpoints as they register.
 
-ghost use Rattle.std.specs.Prelude.{◌≡◌, ◌≤◌, [], true, length, IfOk, IsOk};
+ghost use Rattle.std.specs.Prelude.{◌≡◌, ◌≤◌, [], true, bytes_eq, length, IfOk, IsOk};
+ghost use Rattle.std.specs.List.{IsDistinct};
 ghost use Rattle.gk_terms.specs.Outcome.{ChangesUnlessMemory};
 ghost use Rattle.registry.specs.declared.faults.RegistryFault.TheVariants.{NoMemory};
 ghost use Rattle.registry.specs.Endpoint.{has_alias, has_technology, with_alias, with_technology};
@@ -190,18 +191,20 @@ impl Endpoint {
         self.address
     }
 
-    /// Its E.164 aliases, at most 16, in the order in which they were given.
+    /// Its E.164 aliases, at most 16 and none twice, in the order in which they were given.
     pub fn aliases(&self) -> &[Dialled]
         ensures value { result.now ≡ self.now.aliases }
         ensures within { length result.now ≤ MOST_ALIASES }
+        ensures different { IsDistinct bytes_eq result.now }
     {
         &self.aliases
     }
 
-    /// Its technology prefixes, at most 8, in the order in which they were given.
+    /// Its technology prefixes, at most 8 and none twice, in the order in which they were given.
     pub fn technologies(&self) -> &[TechPrefix]
         ensures value { result.now ≡ self.now.technologies }
         ensures within { length result.now ≤ MOST_TECHNOLOGIES }
+        ensures different { IsDistinct bytes_eq result.now }
     {
         &self.technologies
     }
