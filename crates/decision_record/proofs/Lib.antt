@@ -5,3 +5,4 @@ pub mod ReloadLemmas
 pub mod RowLemmas
 pub mod StoredLemmas
 pub mod ToldLemmas
+pub mod EntryLemmas

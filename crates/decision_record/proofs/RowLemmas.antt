@@ -1,7 +1,6 @@
 -- The rows of a record.
 use Rattle.std.proofs.Common.{◌≡◌, ℕ, Bool, true, false, cond, Option, Some, None, refl, sym, ap, ◌∙◌, true≢false}
 use Rattle.std.specs.Prelude.{IfSome, ◌↔◌}
-use Rattle.std.specs.Option.{option_and_then}
 use Rattle.call_rows.specs.declared.rows.CallEvent.{CallEvent}
 use Rattle.call_rows.specs.Rows.{RowParts, is_row}
 use Rattle.rulings.specs.Events.{PlainEvent}
@@ -11,7 +10,7 @@ use Rattle.entry_bytes.specs.ReadEvent.{event_read}
 use Rattle.entry_bytes.specs.declared.entry_reading.ReadEntry.{ReadEntry}
 use Rattle.entry_bytes.specs.declared.verdicts.Verdict.{Verdict}
 use Rattle.entry_bytes.specs.declared.verdicts.Verdict.TheVariants as verdict
-use Rattle.decision_record.specs.Rows.{call_event, event_said, row_of, entry_row}
+use Rattle.decision_record.specs.Rows.{call_event, event_said, row_of}
 
 -- a row of a number, if it is one
 pub row_made : (number : ℕ) (event : CallEvent) (o : Option RowParts)
@@ -28,13 +27,6 @@ row_made number event o some none =
     by true is None some none = absurd (true≢false (sym is ∙ none.0 refl))
     by true is (Some row) some none = ap Some some
     by false is o some none = none.1 is
-
--- what is made of an entry that is found
-pub made_of_found : (number : ℕ) (o : Option PlainEntry)
-    → option_and_then (row_of number) (option_and_then call_event o)
-    ≡ option_and_then (entry_row number) o
-made_of_found number None = refl
-made_of_found number (Some e) = refl
 
 -- ---- entries that were read
 -- what is told of an event says what the event says with it

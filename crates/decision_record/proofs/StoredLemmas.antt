@@ -1,13 +1,13 @@
 -- The entries of a record, as one more is stored.
 use Rattle.std.proofs.Common.{◌≡◌, ℕ, zero, suc, ◌-◌, ◌≤◌, ◌<◌, ◌^◌, List, [], ◌∷◌, ◌++◌, length, map, length-append, slice_get, sym, ap, ap₂, subst, ◌∙◌, arith}
-use Rattle.std.specs.Prelude.{Some, IfSome}
+use Rattle.std.specs.Prelude.{Option, Some, IfSome}
 use Rattle.std.specs.Option.{option_and_then}
 use Rattle.std.specs.List.{AllByRecursion}
 use Rattle.byte_log.specs.Parts.{LogParts}
 use Rattle.entry_bytes.specs.Entry.{PlainEntry}
 use Rattle.entry_bytes.specs.EntryBytes.{entry_in}
 use Rattle.entry_bytes.specs.ReadEvent.{HasRightEndpoint}
-use Rattle.decision_record.specs.Items.{entries_told, item_meant, reload_item, IsStored}
+use Rattle.decision_record.specs.Items.{entries_told, item_meant, reload_item, IsStored, MeansEntry}
 use Rattle.decision_record.specs.Reloads.{ReloadsParts}
 use Rattle.decision_record.proofs.ItemLemmas.{entry_meant, reload_meant, with_reloads}
 use Rattle.decision_record.proofs.ToldLemmas.{next_is, one_more, all_told, as_many, told_at}
@@ -25,7 +25,21 @@ all_at P [] all place = tt
 all_at P (x ∷ xs) all zero = all.0
 all_at P (x ∷ xs) all (suc place) = all_at P xs all.1 place
 
--- its endpoint has texts as an endpoint has
+-- each item means an entry, of which all is right
+known_items : (meaning : List ℕ → Option PlainEntry) (items : List (List ℕ))
+    (entries : List PlainEntry) → map meaning items ≡ map Some entries
+    → AllByRecursion (λ (e : PlainEntry). HasRightEndpoint e.event) entries → (place : ℕ)
+    → IfSome (slice_get items place) (λ item. MeansEntry (meaning item))
+known_items meaning [] entries meant right place = tt
+known_items meaning (item ∷ items) [] meant right place =
+    let impossible : ⊥ = cc in absurd impossible
+known_items meaning (item ∷ items) (e ∷ entries) meant right zero =
+    let first : Some e ≡ meaning item = cc in subst MeansEntry first right.0
+known_items meaning (item ∷ items) (e ∷ entries) meant right (suc place) =
+    let rest : map meaning items ≡ map Some entries = cc in
+    known_items meaning items entries rest right.1 place
+
+-- its endpoint is whole
 abbrev right_event : PlainEntry → Type 0
 right_event e = HasRightEndpoint e.event
 
@@ -97,6 +111,11 @@ module _ (log : LogParts) (reloads : ReloadsParts) (entries : List PlainEntry) (
       → option_and_then (item_meant reloads.entries) (slice_get log.items place)
       ≡ slice_get entries place
   read_at place = told_at (item_meant reloads.entries) log.items entries stored.meant place
+
+  pub known_at : (place : ℕ)
+      → IfSome (slice_get log.items place) (λ item. MeansEntry (item_meant reloads.entries item))
+  known_at place =
+      known_items (item_meant reloads.entries) log.items entries stored.meant stored.right place
 
   pub right_at : (place : ℕ)
       → IfSome (option_and_then (item_meant reloads.entries) (slice_get log.items place))

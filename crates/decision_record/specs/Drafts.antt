@@ -12,8 +12,7 @@ pub record DraftParts : Type 0 where
   pub bytes : ℕ
   pub room : ℕ
 
--- the entry is not a reload, and its endpoint has texts as an endpoint has. A reader of the contracts
--- need not know it.
+-- the entry is not a reload, and its endpoint is whole. A reader of the contracts need not know it.
 pub record IsRight (e : PlainEntry) : Type 0 where
   pub other : put_in_force e.event ≡ None
   pub endpoint : HasRightEndpoint e.event

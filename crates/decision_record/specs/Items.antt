@@ -1,5 +1,5 @@
 -- How the entries of a record are held. A reader of the contracts need not know it.
-use Rattle.std.specs.Prelude.{◌≡◌, ◌≤◌, ℕ, ◌==◌, min, List, ◌∷◌, length, map, filter_map, slice_get, Option, Some, if◌then◌else◌}
+use Rattle.std.specs.Prelude.{◌≡◌, ◌≤◌, ℕ, ◌==◌, min, List, ◌∷◌, length, map, filter_map, slice_get, Option, Some, None, if◌then◌else◌}
 use Rattle.std.specs.List.{AllByRecursion}
 use Rattle.command_reader.specs.declared.commands.Command.{Command}
 use Rattle.byte_log.specs.Parts.{LogParts}
@@ -28,6 +28,11 @@ item_by reloads bytes first rest =
 abbrev pub item_meant : (reloads : List PlainEntry) → List ℕ → Option PlainEntry
 item_meant reloads bytes = byte_in bytes >>= λ first. item_by reloads bytes first.0 first.1
 
+-- an entry was read, and its endpoint, if it has one, is whole
+abbrev pub MeansEntry : Option PlainEntry → Type 0
+MeansEntry None = ⊥
+MeansEntry (Some e) = HasRightEndpoint e.event
+
 -- ---- the record
 -- the entries, in order
 abbrev pub entries_told : LogParts → ReloadsParts → List PlainEntry
@@ -37,7 +42,7 @@ entries_told log reloads = filter_map (item_meant reloads.entries) log.items
 abbrev pub room_in : LogParts → ReloadsParts → ℕ
 room_in log reloads = min log.room reloads.room
 
--- the items mean these entries, whose endpoints have texts as endpoints have; there are no more
+-- the items mean these entries, whose endpoints are whole; there are no more
 -- reloads than entries; and both have room for the kept places
 pub record IsStored (log : LogParts) (reloads : ReloadsParts) (entries : List PlainEntry) (kept : ℕ)
     : Type 0 where

@@ -1,30 +1,31 @@
 //! Whether a receipt is that of an entry, which is looked at where it stands.
 
-ghost use Rattle.std.specs.Prelude.{◌≡◌, ◌↔◌, None, Some, true, IfSome, option_map};
+ghost use Rattle.std.specs.Prelude.{◌≡◌, ◌↔◌, Some, true, option_map};
+ghost use Rattle.rulings.specs.Events.{Admitting, Releasing};
 ghost use Rattle.entry_bytes.specs.Entry.{asked_id};
 ghost use Rattle.entry_bytes.specs.EntryBytes.{entry_after, entry_in};
+ghost use Rattle.entry_bytes.specs.GrantedBytes.{admitted_entry, released_entry};
 ghost use Rattle.entry_bytes.specs.ReadEntry.{entry_read};
-ghost use Rattle.entry_bytes.specs.ReadEvent.{HasRightEndpoint, event_read};
+ghost use Rattle.entry_bytes.specs.ReadEvent.{event_read};
 ghost use Rattle.entry_bytes.specs.VerdictBytes.{admitted_in};
 ghost use Rattle.entry_bytes.specs.declared.verdicts.Verdict.TheVariants as Verdict;
 ghost use Rattle.decision_record.specs.History.{IsOfEvent, receipt_of};
+ghost use Rattle.decision_record.specs.Items.{MeansEntry};
 
 use crate::entries::{Receipt, call_of, kind_of};
-use entry_bytes::codes::destination_kind_of;
 use entry_bytes::{
-    ReadEntry, ReadEvent, VerdictKind, is_admitted, is_released, read_entry, read_event,
-    verdict_kind_of,
+    AdmittedBytes, ReadEntry, ReadEvent, ReleasedBytes, VerdictKind, is_admitted, is_released,
+    read_entry, verdict_kind_of,
 };
-use field_bytes::Fields;
+use field_bytes::{Fields, NameText};
 use gk_terms::Name;
-use rulings::Reply;
+use rulings::{EventKind, Reply};
 
 #[tactic(auto, unfolding(entry_bytes::specs::VerdictBytes::verdict_in, entry_bytes::specs::VerdictBytes::verdict_at))]
 /// Whether the receipt is that of the entry that these bytes are, if that has its number. Most
-/// entries are admissions and releases that were granted, and are compared without being read
-/// whole.
+/// entries are admissions and releases that were granted: of these, no text is tried as it is read.
 pub(crate) fn is_of_bytes(item: &[u8], receipt: &Receipt) -> bool
-    requires { IfSome (entry_in item.now) (λ e. HasRightEndpoint e.event) }
+    requires { MeansEntry (entry_in item.now) }
     ensures { (result ≡ true) ↔ (Some receipt.now
         ≡ option_map (receipt_of receipt.now.number) (entry_in item.now)) }
 {
@@ -33,65 +34,88 @@ pub(crate) fn is_of_bytes(item: &[u8], receipt: &Receipt) -> bool
         return false;
     };
     match verdict_kind_of(code) {
-        Some(VerdictKind::Admitted) => is_of_admission(&mut fields, receipt),
-        Some(VerdictKind::Released) => is_of_release(&mut fields, receipt),
+        Some(VerdictKind::Admitted) => is_of_admitted(item, &mut fields, receipt),
+        Some(VerdictKind::Released) => is_of_released(item, &mut fields, receipt),
         _ => is_of_any(item, receipt),
     }
 }
 
+#[tactic(auto, using(crate::proofs::EntryLemmas::reads_on))]
 /// The same of what was admitted, after the kind of its verdict.
-fn is_of_admission(fields: &mut Fields<'_>, receipt: &Receipt) -> bool
-    requires { IfSome (entry_after (admitted_in fields.old)) (λ e. HasRightEndpoint e.event) }
+fn is_of_admitted(item: &[u8], fields: &mut Fields<'_>, receipt: &Receipt) -> bool
+    requires known { MeansEntry (entry_in item.now) }
+    requires same { entry_in item.now ≡ entry_after (admitted_in fields.old) }
     ensures { (result ≡ true) ↔ (Some receipt.now
-        ≡ option_map (receipt_of receipt.now.number) (entry_after (admitted_in fields.old))) }
+        ≡ option_map (receipt_of receipt.now.number) (entry_in item.now)) }
 {
-    let Some(_) = fields.name() else {
-        return false;
-    };
-    let Some(code) = fields.byte() else {
-        return false;
-    };
-    let Some(kind) = destination_kind_of(code) else {
-        return false;
-    };
-    let Some(name) = fields.name() else {
-        return false;
-    };
-    let Some(address) = fields.address() else {
-        return false;
-    };
-    match &read_event(fields) {
-        Some(event) => {
-            is_of_event(event, receipt)
-                && is_admitted(
-                    &receipt.reply,
-                    event.call(),
-                    kind,
-                    &name,
-                    address,
-                    event.units(),
-                )
-        }
-        None => false,
+    match &AdmittedBytes::read(fields) {
+        Some(call) => is_of_admitted_call(call, receipt),
+        None => is_of_any(item, receipt),
     }
 }
 
+/// The same of a call that was admitted.
+fn is_of_admitted_call(call: &AdmittedBytes<'_>, receipt: &Receipt) -> bool
+    ensures { (result ≡ true)
+        ↔ (receipt.now ≡ receipt_of receipt.now.number (admitted_entry call.now)) }
+{
+    is_asked_by(call, receipt)
+        && is_admitted(
+            &receipt.reply,
+            call.call(),
+            call.kind(),
+            &call.name(),
+            call.address(),
+            call.units(),
+        )
+}
+
+/// Whether the receipt is of the admission of this call.
+fn is_asked_by(call: &AdmittedBytes<'_>, receipt: &Receipt) -> bool
+    ensures { (result ≡ true) ↔ IsOfEvent
+        (Admitting call.now.id call.now.call call.now.digits call.now.units) receipt.now }
+{
+    receipt.kind == EventKind::Admission
+        && receipt.call == Some(call.call())
+        && is_name(&receipt.id, &call.id())
+}
+
+#[tactic(auto, using(crate::proofs::EntryLemmas::reads_on))]
 /// The same of what was released, after the kind of its verdict.
-fn is_of_release(fields: &mut Fields<'_>, receipt: &Receipt) -> bool
-    requires { IfSome (entry_after (Some (Verdict.Released, fields.old)))
-        (λ e. HasRightEndpoint e.event) }
-    ensures { (result ≡ true) ↔ (Some receipt.now ≡ option_map (receipt_of receipt.now.number)
-        (entry_after (Some (Verdict.Released, fields.old)))) }
+fn is_of_released(item: &[u8], fields: &mut Fields<'_>, receipt: &Receipt) -> bool
+    requires known { MeansEntry (entry_in item.now) }
+    requires same { entry_in item.now ≡ entry_after (Some (Verdict.Released, fields.old)) }
+    ensures { (result ≡ true) ↔ (Some receipt.now
+        ≡ option_map (receipt_of receipt.now.number) (entry_in item.now)) }
 {
-    match &read_event(fields) {
-        Some(event) => is_of_event(event, receipt) && is_released(&receipt.reply, event.call()),
-        None => false,
+    match &ReleasedBytes::read(fields) {
+        Some(call) => is_of_released_call(call, receipt),
+        None => is_of_any(item, receipt),
     }
 }
 
+/// The same of a call that was released.
+fn is_of_released_call(call: &ReleasedBytes<'_>, receipt: &Receipt) -> bool
+    ensures { (result ≡ true)
+        ↔ (receipt.now ≡ receipt_of receipt.now.number (released_entry call.now)) }
+{
+    is_released_by(call, receipt) && is_released(&receipt.reply, call.call())
+}
+
+/// Whether the receipt is of the release of this call.
+fn is_released_by(call: &ReleasedBytes<'_>, receipt: &Receipt) -> bool
+    ensures { (result ≡ true)
+        ↔ IsOfEvent (Releasing call.now.id call.now.call) receipt.now }
+{
+    receipt.kind == EventKind::Release
+        && receipt.call == Some(call.call())
+        && is_name(&receipt.id, &call.id())
+}
+
+#[tactic(auto, using(crate::proofs::EntryLemmas::right_if_any))]
 /// The same of an entry that is read whole.
 fn is_of_any(item: &[u8], receipt: &Receipt) -> bool
-    requires { IfSome (entry_in item.now) (λ e. HasRightEndpoint e.event) }
+    requires { MeansEntry (entry_in item.now) }
     ensures { (result ≡ true) ↔ (Some receipt.now
         ≡ option_map (receipt_of receipt.now.number) (entry_in item.now)) }
 {
@@ -120,8 +144,15 @@ fn is_of_event(event: &ReadEvent<'_>, receipt: &Receipt) -> bool
 fn is_id(id: &Option<Name>, event: &ReadEvent<'_>) -> bool
     ensures { (result ≡ true) ↔ (id.now ≡ Some (asked_id (event_read event.now))) }
 {
+    is_name(id, &event.id())
+}
+
+/// Whether it is this name.
+fn is_name(id: &Option<Name>, name: &NameText<'_>) -> bool
+    ensures { (result ≡ true) ↔ (id.now ≡ Some name.now) }
+{
     match id {
-        Some(id) => event.id().is(id),
+        Some(id) => name.is(id),
         None => false,
     }
 }

@@ -6,16 +6,16 @@ ghost use Rattle.std.specs.Option.{option_and_then};
 ghost use Rattle.std.specs.Arc.{arc_value};
 ghost use Rattle.entry_bytes.specs.EntryBytes.{entry_in};
 ghost use Rattle.entry_bytes.specs.ReadEvent.{HasRightEndpoint};
-ghost use Rattle.decision_record.specs.Items.{item_meant, reload_in};
+ghost use Rattle.decision_record.specs.Items.{MeansEntry, item_meant, reload_in};
 ghost use Rattle.decision_record.specs.History.{plain_entry, entry_of_number, receipt_of, Stands, in_force};
-ghost use Rattle.decision_record.specs.Rows.{call_event, entry_row};
+ghost use Rattle.decision_record.specs.Rows.{entry_row};
 
 use crate::entries::{Entry, Receipt};
 use crate::receipts::{is_of_bytes, same_receipt};
 use crate::reloads::Reloads;
-use crate::rows::{event_of_bytes, row_of};
+use crate::rows::{row_of_bytes, row_of_entry};
 use byte_log::ByteLog;
-use call_rows::{CallEvent, CallRow};
+use call_rows::CallRow;
 use compiler::Tables;
 use entry_bytes::read_entry;
 use field_bytes::Fields;
@@ -114,7 +114,6 @@ impl Record {
         entry_at(&self.log, &self.reloads, place)
     }
 
-    #[tactic(auto, using(crate::proofs::RowLemmas::made_of_found))]
     /// What the entry of this number says of a call, as a row: that an admission was routed, that
     /// an answer opened a call or was refused for a limit, that a bandwidth change was granted, or
     /// that a call was released. None of any other entry, nor of a call of number 0, which no
@@ -123,15 +122,18 @@ impl Record {
         ensures { result ≡ option_and_then (entry_row number)
             (entry_of_number self.now.entries number) }
     {
-        let before = number.checked_sub(1)?;
-        row_of(number, &self.event_at(before as usize))
+        match number.checked_sub(1) {
+            None => None,
+            Some(place) => self.row_at(number, place as usize),
+        }
     }
 
-    /// What the entry at this place, from 0, says of a call.
-    fn event_at(&self, place: usize) -> Option<CallEvent>
-        ensures { result ≡ option_and_then call_event (slice_get self.now.entries place) }
+    /// The row of this number by the entry at this place, from 0.
+    fn row_at(&self, number: u32, place: usize) -> Option<CallRow>
+        ensures { result
+            ≡ option_and_then (entry_row number) (slice_get self.now.entries place) }
     {
-        event_at(&self.log, &self.reloads, place)
+        row_at(&self.log, &self.reloads, number, place)
     }
 
     /// `Ok` if each receipt is that of the entry at its number; else the place, from 0, of the
@@ -186,8 +188,8 @@ impl Record {
 
 /// Whether the receipt is that of the entry of the item at this place.
 fn is_at(log: &ByteLog, reloads: &Reloads, place: usize, receipt: &Receipt) -> bool
-    requires { IfSome (option_and_then (item_meant reloads.now.entries)
-        (slice_get log.now.items place)) (λ e. HasRightEndpoint e.event) }
+    requires { IfSome (slice_get log.now.items place)
+        (λ item. MeansEntry (item_meant reloads.now.entries item)) }
     ensures { (result ≡ true) ↔ (Some receipt.now ≡ option_map (receipt_of receipt.now.number)
         (option_and_then (item_meant reloads.now.entries) (slice_get log.now.items place))) }
 {
@@ -199,7 +201,7 @@ fn is_at(log: &ByteLog, reloads: &Reloads, place: usize, receipt: &Receipt) -> b
 
 /// Whether the receipt is that of the entry that an item means.
 fn is_of_item(item: &[u8], reloads: &Reloads, receipt: &Receipt) -> bool
-    requires { IfSome (item_meant reloads.now.entries item.now) (λ e. HasRightEndpoint e.event) }
+    requires { MeansEntry (item_meant reloads.now.entries item.now) }
     ensures { (result ≡ true) ↔ (Some receipt.now ≡ option_map (receipt_of receipt.now.number)
         (item_meant reloads.now.entries item.now)) }
 {
@@ -221,38 +223,40 @@ fn is_of_reload_in(place: &[u8], reloads: &Reloads, receipt: &Receipt) -> bool
     }
 }
 
-/// What the entry of the item at this place says of a call.
-fn event_at(log: &ByteLog, reloads: &Reloads, place: usize) -> Option<CallEvent>
-    requires { IfSome (option_and_then (item_meant reloads.now.entries)
-        (slice_get log.now.items place)) (λ e. HasRightEndpoint e.event) }
-    ensures { result ≡ option_and_then call_event (option_and_then
+/// The row of this number by the item at this place.
+fn row_at(log: &ByteLog, reloads: &Reloads, number: u32, place: usize) -> Option<CallRow>
+    requires { IfSome (slice_get log.now.items place)
+        (λ item. MeansEntry (item_meant reloads.now.entries item)) }
+    ensures { result ≡ option_and_then (entry_row number) (option_and_then
         (item_meant reloads.now.entries) (slice_get log.now.items place)) }
 {
     match log.get(place) {
         None => None,
-        Some(item) => event_of_item(item, reloads),
+        Some(item) => row_of_item(number, item, reloads),
     }
 }
 
-/// What the entry that an item means says of a call.
-fn event_of_item(item: &[u8], reloads: &Reloads) -> Option<CallEvent>
-    requires { IfSome (item_meant reloads.now.entries item.now) (λ e. HasRightEndpoint e.event) }
-    ensures { result ≡ option_and_then call_event (item_meant reloads.now.entries item.now) }
+/// The row of this number by the entry that an item means.
+fn row_of_item(number: u32, item: &[u8], reloads: &Reloads) -> Option<CallRow>
+    requires { MeansEntry (item_meant reloads.now.entries item.now) }
+    ensures { result
+        ≡ option_and_then (entry_row number) (item_meant reloads.now.entries item.now) }
 {
     match item {
-        [RELOAD, place @ ..] => event_of_reload(place, reloads),
-        [_, ..] => event_of_bytes(item),
+        [RELOAD, place @ ..] => row_of_reload(number, place, reloads),
+        [_, ..] => row_of_bytes(number, item),
         [] => None,
     }
 }
 
-/// What the reload at the place that these bytes are says of a call.
-fn event_of_reload(place: &[u8], reloads: &Reloads) -> Option<CallEvent>
-    ensures { result ≡ option_and_then call_event (reload_in reloads.now.entries place.now) }
+/// The row of this number by the reload at the place that these bytes are.
+fn row_of_reload(number: u32, place: &[u8], reloads: &Reloads) -> Option<CallRow>
+    ensures { result
+        ≡ option_and_then (entry_row number) (reload_in reloads.now.entries place.now) }
 {
     match &reload_in(place, reloads) {
         None => None,
-        Some(entry) => entry.call_event(),
+        Some(entry) => row_of_entry(number, entry),
     }
 }
 

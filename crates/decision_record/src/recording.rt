@@ -10,7 +10,7 @@ ghost use Rattle.decision_record.specs.Items.{reload_item, room_in};
 use crate::drafts::Draft;
 use crate::record::{RELOAD, Record};
 use crate::reloads::{LastReload, Reloads};
-use byte_log::{ByteLog, room_taken};
+use byte_log::{ByteLog, SHORT_BYTES, room_taken};
 use compiler::Tables;
 use gk_terms::Version;
 use std::alloc::AllocError;
@@ -42,6 +42,10 @@ impl Record {
         // So it is known that the sum fits.
         let _count = self.log.len();
         let kept = self.kept + places;
+        // There is room for a short entry in each kept place.
+        if places == 0 && bytes <= SHORT_BYTES {
+            return Ok(());
+        }
         reserve_both(&mut self.log, &mut self.reloads, bytes, kept)?;
         self.kept = kept;
         Ok(())

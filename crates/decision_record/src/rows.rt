@@ -1,46 +1,131 @@
 //! Rows: what the entries of a record say of calls.
 
-ghost use Rattle.std.specs.Prelude.{◌≡◌, IfSome};
+ghost use Rattle.std.specs.Prelude.{◌≡◌, Some};
 ghost use Rattle.std.specs.Option.{option_and_then};
 ghost use Rattle.rulings.specs.Step.{is_granted};
+ghost use Rattle.entry_bytes.specs.EntryBytes.{entry_after, entry_in};
+ghost use Rattle.entry_bytes.specs.GrantedBytes.{admitted_entry, released_entry};
 ghost use Rattle.entry_bytes.specs.ReadEntry.{entry_read};
-ghost use Rattle.entry_bytes.specs.EntryBytes.{entry_in};
-ghost use Rattle.entry_bytes.specs.ReadEvent.{HasRightEndpoint, event_read};
+ghost use Rattle.entry_bytes.specs.ReadEvent.{event_read};
+ghost use Rattle.entry_bytes.specs.VerdictBytes.{admitted_in};
+ghost use Rattle.entry_bytes.specs.declared.verdicts.Verdict.TheVariants as VerdictMeant;
 ghost use Rattle.decision_record.specs.History.{plain_entry};
+ghost use Rattle.decision_record.specs.Items.{MeansEntry};
 ghost use Rattle.decision_record.specs.Rows as Spec;
 
 use crate::entries::Entry;
 use call_rows::{AdmittedCall, AnsweredCall, CallEvent, CallRow};
-use entry_bytes::{ReadEntry, ReadEvent, Verdict, read_entry};
+use entry_bytes::{
+    AdmittedBytes, ReadEntry, ReadEvent, ReleasedBytes, Verdict, VerdictKind, read_entry,
+    verdict_kind_of,
+};
+use field_bytes::Fields;
 use gk_terms::{Dialled, Name, Units};
 use rulings::Route;
 
-impl Entry<'_> {
-    /// What the entry says of a call: that an admission was routed, that an answer opened a call or
-    /// was refused for a limit, that a bandwidth change was granted, or that a call was released.
-    pub(crate) fn call_event(&self) -> Option<CallEvent>
-        ensures { result ≡ Spec.call_event (plain_entry self.now) }
-    {
-        match self {
-            Entry::Asked(read) => event_of_read(read),
-            Entry::Reload { .. } => None,
-        }
+/// The row of this number that an entry has: that an admission was routed, that an answer opened a
+/// call or was refused for a limit, that a bandwidth change was granted, or that a call was
+/// released.
+pub(crate) fn row_of_entry(number: u32, entry: &Entry<'_>) -> Option<CallRow>
+    ensures { result ≡ Spec.entry_row number (plain_entry entry.now) }
+{
+    match entry {
+        Entry::Asked(read) => row_of_read(number, read),
+        Entry::Reload { .. } => None,
     }
 }
 
-/// The same by the entry that these bytes are.
-pub(crate) fn event_of_bytes(item: &[u8]) -> Option<CallEvent>
-    requires { IfSome (entry_in item.now) (λ e. HasRightEndpoint e.event) }
-    ensures { result ≡ option_and_then Spec.call_event (entry_in item.now) }
+#[tactic(auto, unfolding(entry_bytes::specs::VerdictBytes::verdict_in, entry_bytes::specs::VerdictBytes::verdict_at))]
+/// The same by the entry that these bytes are. Most entries are admissions and releases that were
+/// granted: of these, a text is tried but once, as it is copied.
+pub(crate) fn row_of_bytes(number: u32, item: &[u8]) -> Option<CallRow>
+    requires { MeansEntry (entry_in item.now) }
+    ensures { result ≡ option_and_then (Spec.entry_row number) (entry_in item.now) }
+{
+    let mut fields = Fields::of(item);
+    let Some(code) = fields.byte() else {
+        return None;
+    };
+    match verdict_kind_of(code) {
+        Some(VerdictKind::Admitted) => row_of_admitted(number, item, &mut fields),
+        Some(VerdictKind::Released) => row_of_released(number, item, &mut fields),
+        _ => row_of_any(number, item),
+    }
+}
+
+#[tactic(auto, using(crate::proofs::EntryLemmas::reads_on))]
+/// The same of what was admitted, after the kind of its verdict.
+fn row_of_admitted(number: u32, item: &[u8], fields: &mut Fields<'_>) -> Option<CallRow>
+    requires known { MeansEntry (entry_in item.now) }
+    requires same { entry_in item.now ≡ entry_after (admitted_in fields.old) }
+    ensures { result ≡ option_and_then (Spec.entry_row number) (entry_in item.now) }
+{
+    match &AdmittedBytes::read(fields) {
+        Some(call) => row_of_admitted_call(number, call),
+        None => row_of_any(number, item),
+    }
+}
+
+#[tactic(auto, using(crate::proofs::RowLemmas::row_made))]
+/// The same of a call that was admitted.
+fn row_of_admitted_call(number: u32, call: &AdmittedBytes<'_>) -> Option<CallRow>
+    ensures { result ≡ Spec.entry_row number (admitted_entry call.now) }
+{
+    CallRow::new(
+        number,
+        CallEvent::Admitted(AdmittedCall {
+            call: call.call(),
+            zone: call.zone().name(),
+            digits: call.digits(),
+            units: call.units(),
+            granted: true,
+            route: Route::To(call.kind().destination(&call.name().name(), call.address())),
+        }),
+    )
+}
+
+#[tactic(auto, using(crate::proofs::EntryLemmas::reads_on))]
+/// The same of what was released, after the kind of its verdict.
+fn row_of_released(number: u32, item: &[u8], fields: &mut Fields<'_>) -> Option<CallRow>
+    requires known { MeansEntry (entry_in item.now) }
+    requires same { entry_in item.now ≡ entry_after (Some (VerdictMeant.Released, fields.old)) }
+    ensures { result ≡ option_and_then (Spec.entry_row number) (entry_in item.now) }
+{
+    match &ReleasedBytes::read(fields) {
+        Some(call) => row_of_released_call(number, call),
+        None => row_of_any(number, item),
+    }
+}
+
+#[tactic(auto, using(crate::proofs::RowLemmas::row_made))]
+/// The same of a call that was released.
+fn row_of_released_call(number: u32, call: &ReleasedBytes<'_>) -> Option<CallRow>
+    ensures { result ≡ Spec.entry_row number (released_entry call.now) }
+{
+    CallRow::new(number, CallEvent::Released { call: call.call() })
+}
+
+#[tactic(auto, using(crate::proofs::EntryLemmas::right_if_any))]
+/// The same of an entry that is read whole.
+fn row_of_any(number: u32, item: &[u8]) -> Option<CallRow>
+    requires { MeansEntry (entry_in item.now) }
+    ensures { result ≡ option_and_then (Spec.entry_row number) (entry_in item.now) }
 {
     match &read_entry(item) {
         None => None,
-        Some(read) => event_of_read(read),
+        Some(read) => row_of_read(number, read),
     }
 }
 
+/// The same of an entry that was read.
+fn row_of_read(number: u32, read: &ReadEntry<'_>) -> Option<CallRow>
+    ensures { result ≡ Spec.entry_row number (entry_read read.now) }
+{
+    row_of(number, &event_of_read(read))
+}
+
 #[tactic(auto, using(crate::proofs::RowLemmas::said_of_read))]
-/// The same by the entry that was read.
+/// What an entry that was read says of a call.
 fn event_of_read(read: &ReadEntry<'_>) -> Option<CallEvent>
     ensures { result ≡ Spec.call_event (entry_read read.now) }
 {
@@ -201,7 +286,7 @@ fn released(call: u32, read: &ReadEntry<'_>) -> Option<CallEvent>
 }
 
 /// The row of this number that says this, if something is said and it is a row.
-pub(crate) fn row_of(number: u32, said: &Option<CallEvent>) -> Option<CallRow>
+fn row_of(number: u32, said: &Option<CallEvent>) -> Option<CallRow>
     ensures { result ≡ option_and_then (Spec.row_of number) said.now }
 {
     match said {

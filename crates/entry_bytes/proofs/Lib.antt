@@ -6,3 +6,4 @@ pub mod VerdictLaws
 pub mod EntryLaws
 pub mod AgreeLaws
 pub mod ReadLemmas
+pub mod GrantedLemmas

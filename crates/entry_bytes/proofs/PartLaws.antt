@@ -13,19 +13,16 @@ use Rattle.registry.specs.Endpoint.{EndpointParts}
 use Rattle.entry_bytes.specs.EndpointTexts.{endpoint_read, texts_of}
 use Rattle.entry_bytes.proofs.EndpointTextLemmas.{endpoint_back}
 use Rattle.rulings.specs.declared.lent_routes.DestinationKind.TheVariants as destination
-use Rattle.rulings.specs.declared.replies.AdmitRefusal.{AdmitRefusal}
-use Rattle.rulings.specs.declared.replies.AdmitRefusal.TheVariants as admit
 use Rattle.rulings.specs.declared.replies.ChangeRefusal.{ChangeRefusal}
 use Rattle.rulings.specs.declared.replies.ChangeRefusal.TheVariants as change
 use Rattle.rulings.specs.declared.replies.RegisterRefusal.TheVariants as register
 use Rattle.rulings.specs.declared.replies.ReleaseRefusal.TheVariants as release
-use Rattle.rulings.specs.declared.replies.ReloadRefusal.TheVariants as reload
 use Rattle.rulings.specs.declared.replies.UnregisterRefusal.TheVariants as unregister
 use Rattle.rulings.specs.declared.routes.RouteRefusal.TheVariants as route
 use Rattle.field_bytes.specs.Fields.{◌>>=◌, ReadsBack, IsAddress, address_bytes, name_in, text_bytes}
 use Rattle.field_bytes.proofs.FieldLaws.{name_back, address_back}
 use Rattle.entry_bytes.specs.Codes as codes
-use Rattle.entry_bytes.specs.Refusals.{IsAdmitRefusal, IsChangeRefusal, IsOver, admit_refusal_bytes, admit_refusal_in, change_refusal_bytes, change_refusal_in, over_bytes, over_in}
+use Rattle.entry_bytes.specs.Refusals.{IsChangeRefusal, IsOver, change_refusal_bytes, change_refusal_in, over_bytes, over_in}
 use Rattle.entry_bytes.specs.EndpointBytes.{endpoint_bytes, endpoint_in}
 use Rattle.entry_bytes.specs.Laws.{HasCodes}
 
@@ -68,11 +65,6 @@ release_refusals release.NotRegistered = refl
 release_refusals release.NotYours = refl
 release_refusals release.NoCall = refl
 
-pub reload_refusals : HasCodes codes.reload_refusal_code codes.reload_refusal_of
-reload_refusals reload.ReloadsSpent = refl
-reload_refusals reload.RecordFull = refl
-reload_refusals reload.NoMemory = refl
-
 -- ---- refusals that may name a limit
 abbrev zone_read : LimitKind → List ℕ × List ℕ → Option (Over × List ℕ)
 zone_read kind zone = Some (over.Zone kind zone.0, zone.1)
@@ -87,20 +79,6 @@ over_back (over.Zone limit.Session zone) is rest = zone_over limit.Session zone 
 over_back (over.Zone limit.Total zone) is rest = zone_over limit.Total zone rest is
 over_back (over.Zone limit.Interzone zone) is rest = zone_over limit.Interzone zone rest is
 over_back over.Remote is rest = refl
-
-pub admit_refusal_back : (refusal : AdmitRefusal) → IsAdmitRefusal refusal
-    → ReadsBack admit_refusal_in refusal (admit_refusal_bytes refusal)
-admit_refusal_back admit.CallerNotRegistered is rest = refl
-admit_refusal_back admit.CallOpen is rest = refl
-admit_refusal_back admit.CallsFull is rest = refl
-admit_refusal_back admit.RecordFull is rest = refl
-admit_refusal_back admit.NoMemory is rest = refl
-admit_refusal_back (admit.NoRoute route.UnknownPrefix) is rest = refl
-admit_refusal_back (admit.NoRoute route.NoGateway) is rest = refl
-admit_refusal_back (admit.NoRoute route.NoDefault) is rest = refl
-admit_refusal_back (admit.OverLimit o) is rest =
-    ap (λ (read : Option (Over × List ℕ)). read >>= λ o. Some (admit.OverLimit o.0, o.1))
-    (over_back o is rest)
 
 pub change_refusal_back : (refusal : ChangeRefusal) → IsChangeRefusal refusal
     → ReadsBack change_refusal_in refusal (change_refusal_bytes refusal)

@@ -11,8 +11,6 @@ use Rattle.rulings.specs.declared.replies.RegisterRefusal.{RegisterRefusal}
 use Rattle.rulings.specs.declared.replies.RegisterRefusal.TheVariants as register
 use Rattle.rulings.specs.declared.replies.ReleaseRefusal.{ReleaseRefusal}
 use Rattle.rulings.specs.declared.replies.ReleaseRefusal.TheVariants as release
-use Rattle.rulings.specs.declared.replies.ReloadRefusal.{ReloadRefusal}
-use Rattle.rulings.specs.declared.replies.ReloadRefusal.TheVariants as reload
 use Rattle.rulings.specs.declared.replies.UnregisterRefusal.{UnregisterRefusal}
 use Rattle.rulings.specs.declared.replies.UnregisterRefusal.TheVariants as unregister
 use Rattle.rulings.specs.declared.routes.RouteRefusal.{RouteRefusal}
@@ -114,16 +112,4 @@ release_refusal_of code =
     if code == 0 then Some release.NotRegistered
     else if code == 1 then Some release.NotYours
     else if code == 2 then Some release.NoCall
-    else None
-
-abbrev pub reload_refusal_code : ReloadRefusal → ℕ
-reload_refusal_code reload.ReloadsSpent = 0
-reload_refusal_code reload.RecordFull = 1
-reload_refusal_code reload.NoMemory = 2
-
-abbrev pub reload_refusal_of : ℕ → Option ReloadRefusal
-reload_refusal_of code =
-    if code == 0 then Some reload.ReloadsSpent
-    else if code == 1 then Some reload.RecordFull
-    else if code == 2 then Some reload.NoMemory
     else None

@@ -71,7 +71,7 @@ pub record HasRightTexts (e : EndpointParts) : Type 0 where
   pub aliases : list_all is_dialled e.aliases ≡ true
   pub technologies : list_all is_tech_prefix e.technologies ≡ true
 
--- and there are no more of them than there may be
+-- and there are no more of them than there may be, and in a list none twice
 pub record IsWhole (e : EndpointParts) : Type 0 where
   pub texts : HasRightTexts e
   pub counts : KeepsCounts e

@@ -1,4 +1,4 @@
--- What is added of a field reads back, whatever follows it.
+-- What is added of an entry and of its parts reads back.
 use Rattle.std.specs.Prelude.{◌≡◌, ℕ, Option, Some}
 use Rattle.bandwidth.specs.declared.over.Over.{Over}
 use Rattle.registry.specs.Endpoint.{EndpointParts}
@@ -7,11 +7,10 @@ use Rattle.rulings.specs.Lent.{ruling_meant}
 use Rattle.rulings.specs.Ruling.{ruling_of}
 use Rattle.rulings.specs.State.{State}
 use Rattle.rulings.specs.declared.lent_rulings.LentRuling.{LentRuling}
-use Rattle.rulings.specs.declared.replies.AdmitRefusal.{AdmitRefusal}
 use Rattle.rulings.specs.declared.replies.ChangeRefusal.{ChangeRefusal}
 use Rattle.field_bytes.specs.Fields.{ReadsBack, IsAddress}
 use Rattle.entry_bytes.specs.Codes as codes
-use Rattle.entry_bytes.specs.Refusals.{IsAdmitRefusal, IsChangeRefusal, IsOver, admit_refusal_bytes, admit_refusal_in, change_refusal_bytes, change_refusal_in, over_bytes, over_in}
+use Rattle.entry_bytes.specs.Refusals.{IsChangeRefusal, IsOver, change_refusal_bytes, change_refusal_in, over_bytes, over_in}
 use Rattle.entry_bytes.specs.EndpointBytes.{endpoint_bytes, endpoint_in}
 use Rattle.entry_bytes.specs.Entry.{Agrees, entry_by, verdict_meant}
 use Rattle.entry_bytes.specs.EntryBytes.{entry_bytes, entry_in}
@@ -30,15 +29,9 @@ pub record CodesReadBack : Type 0 where
   pub registrations : HasCodes codes.register_refusal_code codes.register_refusal_of
   pub unregistrations : HasCodes codes.unregister_refusal_code codes.unregister_refusal_of
   pub releases : HasCodes codes.release_refusal_code codes.release_refusal_of
-  pub reloads : HasCodes codes.reload_refusal_code codes.reload_refusal_of
 
 abbrev pub OversReadBack : Type 0
 OversReadBack = (over : Over) → IsOver over → ReadsBack over_in over (over_bytes over)
-
-abbrev pub AdmitRefusalsReadBack : Type 0
-AdmitRefusalsReadBack =
-    (refusal : AdmitRefusal) → IsAdmitRefusal refusal
-    → ReadsBack admit_refusal_in refusal (admit_refusal_bytes refusal)
 
 abbrev pub ChangeRefusalsReadBack : Type 0
 ChangeRefusalsReadBack =

@@ -9,3 +9,5 @@ pub mod EntryBytes
 pub mod Laws
 pub mod ReadEvent
 pub mod ReadEntry
+pub mod GrantedBytes
+pub mod GrantedTexts

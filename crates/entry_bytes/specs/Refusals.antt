@@ -1,14 +1,12 @@
--- Refusals that may name a limit as bytes, and the sum that would be above it.
+-- The refusal of a bandwidth change as bytes, and the sum that would be above its limit.
 use Rattle.std.specs.Prelude.{ℕ, ◌==◌, List, [], ◌∷◌, Option, Some, None, ⊤, if◌then◌else◌}
 use Rattle.bandwidth.specs.declared.over.Over.{Over}
 use Rattle.bandwidth.specs.declared.over.Over.TheVariants as over
 use Rattle.gk_terms.specs.Name.{IsName}
-use Rattle.rulings.specs.declared.replies.AdmitRefusal.{AdmitRefusal}
-use Rattle.rulings.specs.declared.replies.AdmitRefusal.TheVariants as admit
 use Rattle.rulings.specs.declared.replies.ChangeRefusal.{ChangeRefusal}
 use Rattle.rulings.specs.declared.replies.ChangeRefusal.TheVariants as change
 use Rattle.field_bytes.specs.Fields.{◌>>=◌, byte_in, text_bytes, name_in}
-use Rattle.entry_bytes.specs.Codes.{limit_kind_code, limit_kind_of, route_refusal_code, route_refusal_of}
+use Rattle.entry_bytes.specs.Codes.{limit_kind_code, limit_kind_of}
 
 -- ---- the sum that would be above its limit
 -- its kind, and the name of its zone; or no kind
@@ -33,49 +31,6 @@ over_in bytes = byte_in bytes >>= λ code. over_at code.0 code.1
 abbrev pub IsOver : Over → Type 0
 IsOver (over.Zone kind zone) = IsName zone
 IsOver over.Remote = ⊤
-
--- ---- of an admission
-abbrev pub admit_refusal_bytes : AdmitRefusal → List ℕ
-admit_refusal_bytes admit.CallerNotRegistered = 0 ∷ []
-admit_refusal_bytes admit.CallOpen = 1 ∷ []
-admit_refusal_bytes admit.CallsFull = 2 ∷ []
-admit_refusal_bytes admit.RecordFull = 3 ∷ []
-admit_refusal_bytes admit.NoMemory = 4 ∷ []
-admit_refusal_bytes (admit.NoRoute refusal) = 5 ∷ route_refusal_code refusal ∷ []
-admit_refusal_bytes (admit.OverLimit over) = 6 ∷ over_bytes over
-
-abbrev pub no_route_in : List ℕ → Option (AdmitRefusal × List ℕ)
-no_route_in bytes = do
-  code ← byte_in bytes
-  refusal ← route_refusal_of code.0
-  Some (admit.NoRoute refusal, code.1)
-
-abbrev pub admit_over_in : List ℕ → Option (AdmitRefusal × List ℕ)
-admit_over_in bytes = over_in bytes >>= λ over. Some (admit.OverLimit over.0, over.1)
-
-abbrev pub admit_refusal_at : ℕ → List ℕ → Option (AdmitRefusal × List ℕ)
-admit_refusal_at code rest =
-    if code == 0 then Some (admit.CallerNotRegistered, rest)
-    else if code == 1 then Some (admit.CallOpen, rest)
-    else if code == 2 then Some (admit.CallsFull, rest)
-    else if code == 3 then Some (admit.RecordFull, rest)
-    else if code == 4 then Some (admit.NoMemory, rest)
-    else if code == 5 then no_route_in rest
-    else if code == 6 then admit_over_in rest
-    else None
-
-abbrev pub admit_refusal_in : List ℕ → Option (AdmitRefusal × List ℕ)
-admit_refusal_in bytes = byte_in bytes >>= λ code. admit_refusal_at code.0 code.1
-
--- as every one is
-abbrev pub IsAdmitRefusal : AdmitRefusal → Type 0
-IsAdmitRefusal admit.CallerNotRegistered = ⊤
-IsAdmitRefusal admit.CallOpen = ⊤
-IsAdmitRefusal admit.CallsFull = ⊤
-IsAdmitRefusal admit.RecordFull = ⊤
-IsAdmitRefusal admit.NoMemory = ⊤
-IsAdmitRefusal (admit.NoRoute refusal) = ⊤
-IsAdmitRefusal (admit.OverLimit over) = IsOver over
 
 -- ---- of a bandwidth change
 abbrev pub change_refusal_bytes : ChangeRefusal → List ℕ

@@ -5,10 +5,7 @@ ghost use Rattle.entry_bytes.specs.Codes as Spec;
 
 use command_reader::LimitKind;
 use registry::{Duplicate, EndpointKind};
-use rulings::{
-    DestinationKind, RegisterRefusal, ReleaseRefusal, ReloadRefusal, RouteRefusal,
-    UnregisterRefusal,
-};
+use rulings::{DestinationKind, RegisterRefusal, ReleaseRefusal, RouteRefusal, UnregisterRefusal};
 
 /// The code of a kind of endpoint.
 pub fn endpoint_kind_code(kind: EndpointKind) -> u8
@@ -173,29 +170,6 @@ pub fn release_refusal_of(code: u8) -> Option<ReleaseRefusal>
         0 => Some(ReleaseRefusal::NotRegistered),
         1 => Some(ReleaseRefusal::NotYours),
         2 => Some(ReleaseRefusal::NoCall),
-        _ => None,
-    }
-}
-
-/// The code of the refusal of a reload.
-pub fn reload_refusal_code(refusal: ReloadRefusal) -> u8
-    ensures { result ≡ Spec.reload_refusal_code refusal }
-{
-    match refusal {
-        ReloadRefusal::ReloadsSpent => 0,
-        ReloadRefusal::RecordFull => 1,
-        ReloadRefusal::NoMemory => 2,
-    }
-}
-
-/// The refusal of a reload of this code, if it is one.
-pub fn reload_refusal_of(code: u8) -> Option<ReloadRefusal>
-    ensures { result ≡ Spec.reload_refusal_of code }
-{
-    match code {
-        0 => Some(ReloadRefusal::ReloadsSpent),
-        1 => Some(ReloadRefusal::RecordFull),
-        2 => Some(ReloadRefusal::NoMemory),
         _ => None,
     }
 }

@@ -15,7 +15,7 @@ use std::alloc::AllocError;
 
 /// Gives the aliases at the beginning of the bytes, which come after their count, to an endpoint
 /// that has none. `AllocError` comes only if memory runs out.
-pub fn give_aliases(endpoint: &mut Endpoint, bytes: &[u8]) -> Result<(), AllocError>
+pub(crate) fn give_aliases(endpoint: &mut Endpoint, bytes: &[u8]) -> Result<(), AllocError>
     requires none { endpoint.old.aliases ≡ [] }
     requires right { list_all is_dialled (Spec.counted_texts bytes.now) ≡ true }
     requires few { length (Spec.counted_texts bytes.now) ≤ MOST_ALIASES }
@@ -31,7 +31,7 @@ pub fn give_aliases(endpoint: &mut Endpoint, bytes: &[u8]) -> Result<(), AllocEr
 
 /// Gives the technology prefixes at the beginning of the bytes, which come after their count, to
 /// an endpoint that has none. `AllocError` comes only if memory runs out.
-pub fn give_technologies(endpoint: &mut Endpoint, bytes: &[u8]) -> Result<(), AllocError>
+pub(crate) fn give_technologies(endpoint: &mut Endpoint, bytes: &[u8]) -> Result<(), AllocError>
     requires none { endpoint.old.technologies ≡ [] }
     requires right { list_all is_tech_prefix (Spec.counted_texts bytes.now) ≡ true }
     requires few { length (Spec.counted_texts bytes.now) ≤ MOST_TECHNOLOGIES }

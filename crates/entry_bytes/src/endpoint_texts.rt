@@ -7,19 +7,16 @@ ghost use Rattle.entry_bytes.specs.EndpointTexts as Spec;
 use field_bytes::NameText;
 
 /// The name at the beginning of the bytes.
-pub fn first_name(bytes: &[u8]) -> NameText<'_>
+pub(crate) fn first_name(bytes: &[u8]) -> NameText<'_>
     requires { IsName (Spec.first_text bytes.now) }
     ensures { result ≡ Spec.first_text bytes.now }
 {
     let (name, _) = cut_text(bytes);
-    match NameText::read(name) {
-        Some(name) => name,
-        None => unreachable!(),
-    }
+    NameText::known(name)
 }
 
 /// The text at the beginning, and what comes after it.
-pub fn cut_text(bytes: &[u8]) -> (&[u8], &[u8])
+pub(crate) fn cut_text(bytes: &[u8]) -> (&[u8], &[u8])
     ensures first { result.0.now ≡ Spec.first_text bytes.now }
     ensures after { result.1.now ≡ Spec.after_text bytes.now }
 {
@@ -30,7 +27,7 @@ pub fn cut_text(bytes: &[u8]) -> (&[u8], &[u8])
 }
 
 /// What comes after the text at the beginning.
-pub fn after_text(bytes: &[u8]) -> &[u8]
+pub(crate) fn after_text(bytes: &[u8]) -> &[u8]
     ensures { result.now ≡ Spec.after_text bytes.now }
 {
     let (_, rest) = cut_text(bytes);
@@ -38,7 +35,7 @@ pub fn after_text(bytes: &[u8]) -> &[u8]
 }
 
 /// What comes after the texts at the beginning, which come after their count.
-pub fn after_counted(bytes: &[u8]) -> &[u8]
+pub(crate) fn after_counted(bytes: &[u8]) -> &[u8]
     ensures { result.now ≡ Spec.after_counted bytes.now }
 {
     match bytes {

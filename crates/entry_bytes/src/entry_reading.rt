@@ -20,7 +20,7 @@ pub struct ReadEntry<'a> {
     pub verdict: Verdict<'a>,
 }
 
-/// The entry that the bytes are, if they are one.
+/// The entry with which the bytes begin, if they begin with one.
 pub fn read_entry<'a>(bytes: &'a [u8]) -> Option<ReadEntry<'a>>
     requires { IfSome (entry_in bytes.now) (λ e. HasRightEndpoint e.event) }
     ensures { option_map entry_read result ≡ entry_in bytes.now }

@@ -9,8 +9,9 @@ use crate::read_events::ReadEvent;
 use field_bytes::Fields;
 
 #[tactic(auto, unfolding(crate::specs::EventBytes::event_in))]
-/// The event that all of the bytes are that are left.
-pub fn read_event<'a>(fields: &mut Fields<'a>) -> Option<ReadEvent<'a>>
+/// The event whose kind is the next byte. Its endpoint, if it has one, takes all bytes that are
+/// left; after another event some may be left.
+pub(crate) fn read_event<'a>(fields: &mut Fields<'a>) -> Option<ReadEvent<'a>>
     requires { IfSome (Spec.event_in fields.old) HasRightEndpoint }
     ensures { option_map event_read result ≡ Spec.event_in fields.old }
 {

@@ -1,13 +1,12 @@
 //! Laws of the definitions.
 
-ghost use Rattle.entry_bytes.specs.Laws.{CodesReadBack, OversReadBack, AdmitRefusalsReadBack, ChangeRefusalsReadBack, EndpointsReadBack, EntriesReadBack, RulingsAgree};
+ghost use Rattle.entry_bytes.specs.Laws.{CodesReadBack, OversReadBack, ChangeRefusalsReadBack, EndpointsReadBack, EntriesReadBack, RulingsAgree};
 
 /// The bytes of a part of an entry are read as what was added, whatever follows them; those of an
 /// endpoint if nothing follows them.
 pub fn parts_read_back()
     ensures codes { CodesReadBack }
     ensures overs { OversReadBack }
-    ensures admissions { AdmitRefusalsReadBack }
     ensures changes { ChangeRefusalsReadBack }
     ensures endpoints { EndpointsReadBack }
 {}

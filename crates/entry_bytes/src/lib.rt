@@ -1,7 +1,7 @@
 //! Entries of the record as bytes: how they are added to a vector, and how they are read again.
 #![tactic(auto)]
 
-pub mod codes;
+mod codes;
 mod endpoint_adding;
 mod endpoint_bytes;
 mod endpoint_reading;
@@ -10,6 +10,7 @@ mod entry_reading;
 mod entry_writing;
 mod event_adding;
 mod event_reading;
+mod granted_calls;
 pub mod laws;
 mod read_events;
 mod refusal_reading;
@@ -27,12 +28,11 @@ pub use endpoint_adding::{add_endpoint, size_of_endpoint};
 pub use endpoint_bytes::EndpointBytes;
 pub use entry_reading::{ReadEntry, read_entry};
 pub use entry_writing::{add_entry, size_of_entry};
-pub use event_reading::read_event;
+pub use granted_calls::{AdmittedBytes, ReleasedBytes};
 pub use read_events::ReadEvent;
-pub use refusal_reading::{read_admit_refusal, read_change_refusal, read_over};
-pub use refusals::{add_admit_refusal, add_change_refusal, add_over};
+pub use refusal_reading::read_change_refusal;
+pub use refusals::add_change_refusal;
 pub use replies::{is_admitted, is_released};
-pub use sizes::{size_of_admit_refusal, size_of_change_refusal, size_of_over};
+pub use sizes::size_of_change_refusal;
 pub use verdict_kinds::{VerdictKind, verdict_kind_of};
-pub use verdict_reading::read_verdict;
 pub use verdicts::Verdict;

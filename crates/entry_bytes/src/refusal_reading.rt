@@ -1,15 +1,15 @@
-//! How refusals that may name a limit are read.
+//! How the refusal of a bandwidth change is read, and the sum that would be above its limit.
 
 ghost use Rattle.field_bytes.specs.Fields.{Gives};
-ghost use Rattle.entry_bytes.specs.Refusals.{admit_over_in, admit_refusal_in, change_over_in, change_refusal_in, no_route_in, over_in, zone_over_in};
+ghost use Rattle.entry_bytes.specs.Refusals.{change_over_in, change_refusal_in, over_in, zone_over_in};
 
-use crate::codes::{limit_kind_of, route_refusal_of};
+use crate::codes::limit_kind_of;
 use bandwidth::Over;
 use field_bytes::Fields;
-use rulings::{AdmitRefusal, ChangeRefusal};
+use rulings::ChangeRefusal;
 
 /// The sum that would be above its limit.
-pub fn read_over(fields: &mut Fields<'_>) -> Option<Over>
+pub(crate) fn read_over(fields: &mut Fields<'_>) -> Option<Over>
     ensures { Gives (over_in fields.old) result fields.new }
 {
     match fields.byte()? {
@@ -25,39 +25,6 @@ fn read_zone_over(fields: &mut Fields<'_>, code: u8) -> Option<Over>
     let kind = limit_kind_of(code)?;
     let zone = fields.name()?.name();
     Some(Over::Zone { kind, zone })
-}
-
-/// Why an admission is refused.
-pub fn read_admit_refusal(fields: &mut Fields<'_>) -> Option<AdmitRefusal>
-    ensures { Gives (admit_refusal_in fields.old) result fields.new }
-{
-    match fields.byte()? {
-        0 => Some(AdmitRefusal::CallerNotRegistered),
-        1 => Some(AdmitRefusal::CallOpen),
-        2 => Some(AdmitRefusal::CallsFull),
-        3 => Some(AdmitRefusal::RecordFull),
-        4 => Some(AdmitRefusal::NoMemory),
-        5 => read_no_route(fields),
-        6 => read_admit_over(fields),
-        _ => None,
-    }
-}
-
-/// That its digits lead nowhere.
-fn read_no_route(fields: &mut Fields<'_>) -> Option<AdmitRefusal>
-    ensures { Gives (no_route_in fields.old) result fields.new }
-{
-    let code = fields.byte()?;
-    let refusal = route_refusal_of(code)?;
-    Some(AdmitRefusal::NoRoute(refusal))
-}
-
-/// That a sum of it would be above its limit.
-fn read_admit_over(fields: &mut Fields<'_>) -> Option<AdmitRefusal>
-    ensures { Gives (admit_over_in fields.old) result fields.new }
-{
-    let over = read_over(fields)?;
-    Some(AdmitRefusal::OverLimit(over))
 }
 
 /// Why a bandwidth change is refused.

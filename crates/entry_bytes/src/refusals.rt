@@ -1,16 +1,17 @@
-//! How refusals that may name a limit are added to a vector of bytes, in room that it has.
+//! How the refusal of a bandwidth change, and the sum that would be above its limit, are added to a
+//! vector of bytes, in room that it has.
 
 ghost use Rattle.std.specs.Prelude.{[], ◌∷◌};
 ghost use Rattle.field_bytes.specs.Adding.{Adds, HasRoom};
-ghost use Rattle.entry_bytes.specs.Refusals.{IsAdmitRefusal, IsChangeRefusal, IsOver, admit_refusal_bytes, change_refusal_bytes, over_bytes};
+ghost use Rattle.entry_bytes.specs.Refusals.{IsChangeRefusal, IsOver, change_refusal_bytes, over_bytes};
 
-use crate::codes::{limit_kind_code, route_refusal_code};
+use crate::codes::limit_kind_code;
 use bandwidth::Over;
 use field_bytes::{add_byte, add_name};
-use rulings::{AdmitRefusal, ChangeRefusal};
+use rulings::ChangeRefusal;
 
 /// Adds a sum that would be above its limit.
-pub fn add_over(bytes: &mut Vec<u8>, over: &Over)
+pub(crate) fn add_over(bytes: &mut Vec<u8>, over: &Over)
     requires { HasRoom bytes.old (over_bytes over.now) }
     ensures added { Adds bytes.old (over_bytes over.now) bytes.new }
     ensures over { IsOver over.now }
@@ -21,29 +22,6 @@ pub fn add_over(bytes: &mut Vec<u8>, over: &Over)
             add_name(bytes, zone);
         }
         Over::Remote => add_byte(bytes, 0),
-    }
-}
-
-/// Adds the refusal of an admission.
-pub fn add_admit_refusal(bytes: &mut Vec<u8>, refusal: &AdmitRefusal)
-    requires { HasRoom bytes.old (admit_refusal_bytes refusal.now) }
-    ensures added { Adds bytes.old (admit_refusal_bytes refusal.now) bytes.new }
-    ensures refusal { IsAdmitRefusal refusal.now }
-{
-    match refusal {
-        AdmitRefusal::CallerNotRegistered => add_byte(bytes, 0),
-        AdmitRefusal::CallOpen => add_byte(bytes, 1),
-        AdmitRefusal::CallsFull => add_byte(bytes, 2),
-        AdmitRefusal::RecordFull => add_byte(bytes, 3),
-        AdmitRefusal::NoMemory => add_byte(bytes, 4),
-        AdmitRefusal::NoRoute(refusal) => {
-            add_byte(bytes, 5);
-            add_byte(bytes, route_refusal_code(*refusal));
-        }
-        AdmitRefusal::OverLimit(over) => {
-            add_byte(bytes, 6);
-            add_over(bytes, over);
-        }
     }
 }
 

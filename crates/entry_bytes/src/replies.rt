@@ -32,6 +32,7 @@ impl ReadEntry<'_> {
                 *address,
                 event.units(),
             ),
+            Verdict::Changed => is_changed(reply, event.call(), event.units()),
             Verdict::Released => is_released(reply, event.call()),
             Verdict::Registered { zone } => is_registered(reply, &event.id(), zone),
             _ => *reply == self.reply(),
@@ -110,6 +111,19 @@ fn is_zone(destination: &Destination, name: &NameText<'_>, address: Address) -> 
             name: zone,
             address: at,
         } => *at == address && name.is(zone),
+        _ => false,
+    }
+}
+
+/// Whether it is replied that the call of this number has this bandwidth.
+fn is_changed(reply: &Reply, call: u32, units: Units) -> bool
+    ensures { (result ≡ true) ↔ (reply.now ≡ Reply.Changed call units) }
+{
+    match reply {
+        Reply::Changed {
+            call: replied,
+            units: given,
+        } => *replied == call && *given == units,
         _ => false,
     }
 }

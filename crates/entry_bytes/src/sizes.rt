@@ -1,36 +1,20 @@
-//! How many bytes refusals take.
+//! How many bytes the refusal of a bandwidth change takes, and the sum above its limit.
 
 ghost use Rattle.std.specs.Prelude.{◌≡◌, ◌≤◌, length};
-ghost use Rattle.entry_bytes.specs.Refusals.{admit_refusal_bytes, change_refusal_bytes, over_bytes};
+ghost use Rattle.entry_bytes.specs.Refusals.{change_refusal_bytes, over_bytes};
 
 use bandwidth::Over;
 use field_bytes::size_of_name;
-use rulings::{AdmitRefusal, ChangeRefusal};
+use rulings::ChangeRefusal;
 
 /// Those of a sum that would be above its limit.
-pub fn size_of_over(over: &Over) -> usize
+pub(crate) fn size_of_over(over: &Over) -> usize
     ensures value { result ≡ length (over_bytes over.now) }
     ensures most { result ≤ 130 }
 {
     match over {
         Over::Zone { zone, .. } => 1 + size_of_name(zone),
         Over::Remote => 1,
-    }
-}
-
-/// Those of the refusal of an admission.
-pub fn size_of_admit_refusal(refusal: &AdmitRefusal) -> usize
-    ensures value { result ≡ length (admit_refusal_bytes refusal.now) }
-    ensures most { result ≤ 131 }
-{
-    match refusal {
-        AdmitRefusal::OverLimit(over) => 1 + size_of_over(over),
-        AdmitRefusal::NoRoute(_) => 2,
-        AdmitRefusal::CallerNotRegistered
-        | AdmitRefusal::CallOpen
-        | AdmitRefusal::CallsFull
-        | AdmitRefusal::RecordFull
-        | AdmitRefusal::NoMemory => 1,
     }
 }
 

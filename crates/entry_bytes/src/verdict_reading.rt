@@ -15,7 +15,7 @@ use gk_terms::Version;
 
 #[tactic(auto, unfolding(crate::specs::VerdictBytes::verdict_in))]
 /// What an entry tells beside its event.
-pub fn read_verdict<'a>(fields: &mut Fields<'a>) -> Option<Verdict<'a>>
+pub(crate) fn read_verdict<'a>(fields: &mut Fields<'a>) -> Option<Verdict<'a>>
     ensures { Gives (Spec.verdict_in fields.old) result fields.new }
 {
     let code = fields.byte()?;

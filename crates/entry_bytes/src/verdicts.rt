@@ -8,8 +8,8 @@ use rulings::{
     UnregisterRefusal,
 };
 
-/// What an entry tells beside its event: what the event names itself is not in it. The names stand
-/// in the entry.
+/// What an entry tells beside its event. The call, the bandwidth and the ID that the event names
+/// are not in it. The names stand in the entry.
 #[derive(Drop)]
 pub enum Verdict<'a> {
     /// The endpoint registers in this zone.

@@ -2,16 +2,13 @@
 
 use bandwidth::Over;
 use command_reader::LimitKind;
-use entry_bytes::{
-    add_admit_refusal, add_change_refusal, read_admit_refusal, read_change_refusal,
-    size_of_admit_refusal, size_of_change_refusal,
-};
+use entry_bytes::{add_change_refusal, read_change_refusal, size_of_change_refusal};
 use field_bytes::{
     Fields, NUMBER_BYTES, add_address, add_dialled, add_name, add_number, size_of_address,
     size_of_dialled, size_of_name,
 };
 use gk_terms::{Address, Dialled, Name, Units};
-use rulings::{AdmitRefusal, ChangeRefusal, RouteRefusal};
+use rulings::ChangeRefusal;
 use std::alloc::{AllocError, Global};
 use std::test::Fail;
 
@@ -80,19 +77,14 @@ fn refusals_are_read_again(rt: HostRuntime) -> Result<(), Fail> {
         kind: LimitKind::Interzone,
         zone: Name::read(b"gk-x")?,
     };
-    let admission = AdmitRefusal::OverLimit(over);
-    let mut bytes = Vec::with_capacity(rt.alloc(), size_of_admit_refusal(&admission))?;
-    add_admit_refusal(&mut bytes, &admission);
-    assert!(rt; bytes.as_slice() == b"\x06\x03\x04gk-x".as_slice());
-    assert!(rt; read_admit_refusal(&mut Fields::of(&bytes)) == Some(admission));
-    let change = ChangeRefusal::OverLimit(Over::Remote);
-    let mut bytes = Vec::with_capacity(rt.alloc(), size_of_change_refusal(&change))?;
-    add_change_refusal(&mut bytes, &change);
-    assert!(rt; bytes.as_slice() == b"\x04\x00".as_slice());
-    assert!(rt; read_change_refusal(&mut Fields::of(&bytes)) == Some(change));
-    let no_default = Some(AdmitRefusal::NoRoute(RouteRefusal::NoDefault));
-    assert!(rt; read_admit_refusal(&mut Fields::of(b"\x05\x02")) == no_default);
-    assert!(rt; read_admit_refusal(&mut Fields::of(b"\x05\x03")).is_none());
-    assert!(rt; read_admit_refusal(&mut Fields::of(b"\x07")).is_none());
+    let zone = ChangeRefusal::OverLimit(over);
+    let mut bytes = Vec::with_capacity(rt.alloc(), size_of_change_refusal(&zone))?;
+    add_change_refusal(&mut bytes, &zone);
+    assert!(rt; bytes.as_slice() == b"\x04\x03\x04gk-x".as_slice());
+    assert!(rt; read_change_refusal(&mut Fields::of(&bytes)) == Some(zone));
+    let remote = Some(ChangeRefusal::OverLimit(Over::Remote));
+    assert!(rt; read_change_refusal(&mut Fields::of(b"\x04\x00")) == remote);
+    assert!(rt; read_change_refusal(&mut Fields::of(b"\x04\x04\x04gk-x")).is_none());
+    assert!(rt; read_change_refusal(&mut Fields::of(b"\x05")).is_none());
     Ok(())
 }

@@ -70,8 +70,8 @@ impl<'a> Fields<'a> {
         Some(Units::new(self.number()?))
     }
 
-    /// A text after its length.
-    fn text(&mut self) -> Option<&'a [u8]>
+    /// A text after its length, as it stands.
+    pub fn text(&mut self) -> Option<&'a [u8]>
         ensures { MatchOption result (text_in self.old ≡ None)
             (λ text. text_in self.old ≡ Some (text.now, self.new)) }
     {

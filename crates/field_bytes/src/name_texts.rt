@@ -2,7 +2,7 @@
 
 ghost use Rattle.std.specs.Prelude.{◌≡◌, ◌↔◌, true};
 ghost use Rattle.std.specs.List.{list_all};
-ghost use Rattle.gk_terms.specs.Name.{is_name, name_of};
+ghost use Rattle.gk_terms.specs.Name.{IsName, is_name, name_of};
 ghost use Rattle.gk_terms.specs.Spelling.{is_visible};
 
 use gk_terms::Name;
@@ -38,6 +38,14 @@ impl<'a> NameText<'a> {
         } else {
             None
         }
+    }
+
+    /// The name that the text is, which is not tried again.
+    pub fn known(text: &'a [u8]) -> NameText<'a>
+        requires { IsName text.now }
+        ensures { result ≡ text.now }
+    {
+        NameText { text }
     }
 
     /// The same name, lent once more.

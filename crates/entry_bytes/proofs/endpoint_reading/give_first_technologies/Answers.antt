@@ -1,4 +1,4 @@
-use Rattle.std.proofs.Common.{◌+◌, ◌≡◌, ◌++◌, [], ◌∷◌, false, refl, sym, ap, subst, ◌∙◌, arith}
+use Rattle.std.proofs.Common.{◌+◌, ◌++◌, [], ◌∷◌, refl, sym, ap, subst, ◌∙◌, arith}
 use Rattle.std.specs.Prelude.{bytes_eq}
 use Rattle.std.specs.List.{list_any}
 use Rattle.gk_terms.specs.TechPrefix.{is_tech_prefix}
@@ -47,8 +47,8 @@ loop-place-preserved c =
           c.give_technology.new.endpoint.technologies
           (ap (λ e. e.technologies) given
           ∙ ap (λ text. texts ++ text ∷ []) (c.tech_prefix.ensures ∙ c.cut_text.ensures.first)));
-      alone = technologies_alone c.args.endpoint.now c.loop-place.endpoint c.give_technology.new.endpoint
-          _ c.loop-place.invariant.alone given;
+      alone = technologies_alone c.args.endpoint.now c.loop-place.endpoint
+          c.give_technology.new.endpoint _ c.loop-place.invariant.alone given;
     }
 
 pub returns : goal.returns

@@ -10,14 +10,10 @@ returns-clause-codes c = record {
   registrations = laws.register_refusals;
   unregistrations = laws.unregister_refusals;
   releases = laws.release_refusals;
-  reloads = laws.reload_refusals;
 }
 
 pub returns-clause-overs : goal.returns-clause-overs
 returns-clause-overs c = laws.over_back
-
-pub returns-clause-admissions : goal.returns-clause-admissions
-returns-clause-admissions c = laws.admit_refusal_back
 
 pub returns-clause-changes : goal.returns-clause-changes
 returns-clause-changes c = laws.change_refusal_back

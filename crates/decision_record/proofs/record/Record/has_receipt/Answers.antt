@@ -3,11 +3,11 @@ use Rattle.std.specs.Prelude.{◌↔◌, slice_get, Option}
 use Rattle.std.specs.Option.{option_map}
 use Rattle.entry_bytes.specs.Entry.{PlainEntry}
 use Rattle.decision_record.specs.History.{RecordParts, receipt_of}
-use Rattle.decision_record.proofs.StoredLemmas.{read_at, right_at}
+use Rattle.decision_record.proofs.StoredLemmas.{known_at, read_at}
 use Rattle.decision_record.proofs.record.Record.has_receipt.Goals as goal
 
 pub is_at-requires : goal.is_at-requires
-is_at-requires c = right_at _ _ _ _ c.self.invariant.0 c.args.place
+is_at-requires c = known_at _ _ _ _ c.self.invariant.0 c.args.place
 
 pub returns : goal.returns
 returns c =
