@@ -1,7 +1,7 @@
 //! What entries of refusals for a limit read back as.
 
 use crate::test_cores::{Given, admission, answer, change, core_under, is_recorded};
-use crate::wanted::{Asked, Wanted};
+use crate::wanted::{Asked, Wanted, first_astray};
 use admission::{
     AdmitRefusal, AdmittedCall, AnsweredCall, CallEvent, ChangeRefusal, Core, EventKind, Reply,
     Route,
@@ -34,16 +34,14 @@ fn refusals_for_a_limit_read_back(rt: HostRuntime) -> Result<(), Fail> {
 fn assert_refusals(rt: &impl Abort, alloc: Global, id: &[u8]) -> Result<(), Fail> {
     let given = Given::of(id)?;
     let mut core = core_under(alloc, LIMITED_ZONES)?;
-    assert!(rt; given.are_registered(&mut core, alloc)?);
-    assert!(rt; are_refusals_recorded(&mut core, &given));
-    for wanted in &refusals(&given) {
-        assert!(rt;
-            wanted.is_kept(core.record()),
-            "entry {}",
-            wanted.receipt.number
-        );
-    }
-    assert_eq!(rt; core.calls().len(), 1);
+    let registered = given.are_registered(&mut core, alloc);
+    let recorded = are_refusals_recorded(&mut core, &given);
+    let astray = first_astray(&refusals(&given), core.record());
+    let open = core.calls().len();
+    drop(core);
+    assert!(rt; registered? && recorded);
+    assert_eq!(rt; astray, None);
+    assert_eq!(rt; open, 1);
     Ok(())
 }
 

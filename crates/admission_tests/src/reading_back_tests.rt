@@ -3,10 +3,10 @@
 use crate::test_cores::{
     Given, admission, called_terminal, change, core_of, is_recorded, terminal_in,
 };
-use crate::wanted::{Asked, Wanted};
+use crate::wanted::{Asked, Wanted, first_astray};
 use admission::{
-    AdmitRefusal, AdmittedCall, CallEvent, ChangeRefusal, Core, Duplicate, Event, EventKind,
-    RegisterRefusal, Reply, Route, RouteRefusal, UnregisterRefusal,
+    AdmitRefusal, AdmittedCall, CallEvent, ChangeRefusal, Core, Duplicate, Entry, Event, EventKind,
+    ReadEvent, Record, RegisterRefusal, Reply, Route, RouteRefusal, UnregisterRefusal,
 };
 use gk_terms::{Address, Dialled, Name, Units};
 use registry::{Endpoint, EndpointKind};
@@ -40,15 +40,15 @@ fn changes_and_releases_read_back(rt: HostRuntime) -> Result<(), Fail> {
 /// Asserts what eight registrations and unregistrations read back as.
 fn assert_registrations(rt: &impl Abort, alloc: Global, id: &[u8]) -> Result<(), Fail> {
     let given = Given::of(id)?;
+    let first_local = Name::read(b"-")?;
+    let alias = Dialled::read(b"7")?;
     let mut core = core_of(alloc)?;
-    assert!(rt; are_registrations_recorded(&mut core, alloc, &given)?);
-    for wanted in &registrations(&given, Name::read(b"-")?) {
-        assert!(rt;
-            wanted.is_kept(core.record()),
-            "entry {}",
-            wanted.receipt.number
-        );
-    }
+    let recorded = are_registrations_recorded(&mut core, alloc, &given);
+    let is_read = is_alias_read(core.record(), alloc, &alias);
+    let astray = first_astray(&registrations(&given, first_local), core.record());
+    drop(core);
+    assert!(rt; recorded? && is_read);
+    assert_eq!(rt; astray, None);
     Ok(())
 }
 
@@ -77,6 +77,32 @@ fn are_registrations_recorded(core: &mut Core, alloc: Global, given: &Given) -> 
             && is_recorded(core, Event::Unregister { id })
             && is_recorded(core, Event::Unregister { id }),
     )
+}
+
+/// Whether the alias is read again of the first and the fourth entry, and of the second it is not.
+fn is_alias_read(record: &Record, alloc: Global, alias: &Dialled) -> bool {
+    has_alias(record, 1, alloc, alias)
+        && has_alias(record, 4, alloc, alias)
+        && !has_alias(record, 2, alloc, alias)
+}
+
+/// Whether the entry of the number is a registration with the alias.
+fn has_alias(record: &Record, number: u32, alloc: Global, alias: &Dialled) -> bool {
+    match &record.get(number) {
+        Some(Entry::Asked(read)) => is_with_alias(&read.event, alloc, alias),
+        _ => false,
+    }
+}
+
+/// Whether the event is a registration with the alias.
+fn is_with_alias(event: &ReadEvent<'_>, alloc: Global, alias: &Dialled) -> bool {
+    match event {
+        ReadEvent::Register(read) => match read.endpoint(alloc) {
+            Ok(endpoint) => endpoint.has_alias(alias),
+            Err(_) => false,
+        },
+        _ => false,
+    }
 }
 
 /// A gateway with the alias `7`.
@@ -180,15 +206,12 @@ fn not_registered(id: Name) -> Reply {
 fn assert_admissions(rt: &impl Abort, alloc: Global, id: &[u8]) -> Result<(), Fail> {
     let given = Given::of(id)?;
     let mut core = core_of(alloc)?;
-    assert!(rt; given.are_registered(&mut core, alloc)?);
-    assert!(rt; are_admissions_recorded(&mut core, &given));
-    for wanted in &admissions(&given) {
-        assert!(rt;
-            wanted.is_kept(core.record()),
-            "entry {}",
-            wanted.receipt.number
-        );
-    }
+    let registered = given.are_registered(&mut core, alloc);
+    let recorded = are_admissions_recorded(&mut core, &given);
+    let astray = first_astray(&admissions(&given), core.record());
+    drop(core);
+    assert!(rt; registered? && recorded);
+    assert_eq!(rt; astray, None);
     Ok(())
 }
 
@@ -340,16 +363,14 @@ fn without_route(given: &Given) -> Wanted {
 fn assert_changes(rt: &impl Abort, alloc: Global, id: &[u8]) -> Result<(), Fail> {
     let given = Given::of(id)?;
     let mut core = core_of(alloc)?;
-    assert!(rt; given.are_registered(&mut core, alloc)?);
-    assert!(rt; are_changes_recorded(&mut core, &given));
-    for wanted in &changes(&given) {
-        assert!(rt;
-            wanted.is_kept(core.record()),
-            "entry {}",
-            wanted.receipt.number
-        );
-    }
-    assert_eq!(rt; core.calls().len(), 0);
+    let registered = given.are_registered(&mut core, alloc);
+    let recorded = are_changes_recorded(&mut core, &given);
+    let astray = first_astray(&changes(&given), core.record());
+    let open = core.calls().len();
+    drop(core);
+    assert!(rt; registered? && recorded);
+    assert_eq!(rt; astray, None);
+    assert_eq!(rt; open, 0);
     Ok(())
 }
 

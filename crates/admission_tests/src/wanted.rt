@@ -36,6 +36,16 @@ pub(crate) struct Wanted {
     pub(crate) row: Option<CallEvent>,
 }
 
+/// The number of the first of these that the record does not have as it is wanted.
+pub(crate) fn first_astray(wanted: &[Wanted], record: &Record) -> Option<u32> {
+    for entry in wanted {
+        if !entry.is_kept(record) {
+            return Some(entry.receipt.number);
+        }
+    }
+    None
+}
+
 impl Wanted {
     /// An entry about no call.
     pub(crate) fn callless(
