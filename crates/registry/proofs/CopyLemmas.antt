@@ -1,5 +1,5 @@
 -- Endpoints that are put one after another into an empty list.
-use Rattle.std.proofs.Common.{◌≡◌, ℕ, zero, suc, ◌+◌, ◌<◌, ◌≤◌, Bool, true, false, not, cond, ◌&&◌, ◌||◌, List, [], ◌∷◌, ◌++◌, length, length-append, ◌^◌, slice_get, find, refl, sym, ap, subst, ◌∙◌, arith}
+use Rattle.std.proofs.Common.{◌≡◌, ℕ, zero, suc, ◌+◌, ◌<◌, ◌≤◌, Bool, true, false, not, cond, ◌&&◌, ◌||◌, List, [], ◌∷◌, ◌++◌, length, length-append, ◌^◌, get_or, drop, slice_get, find, refl, sym, ap, subst, ◌∙◌, arith}
 use Rattle.std.specs.Prelude.{Option, Some, None, bytes_eq}
 use denote.Ref.{Bor}
 use Rattle.std.specs.Option.{option_copied, option_map}
@@ -105,6 +105,19 @@ one_more (z ∷ zs) ys x = ap (λ l. z ∷ l) (one_more zs ys x)
 longer : {X : Type 0} (xs : List X) (x : X) → length (xs ++ x ∷ []) ≡ suc (length xs)
 longer [] x = refl
 longer (z ∷ zs) x = ap suc (longer zs x)
+
+-- what is left of a list begins with the element at that place
+left_after : (xs : List EndpointParts) (n : ℕ) (e : EndpointParts) → n < length xs
+    → e ≡ get_or xs n e → drop n xs ≡ e ∷ drop (suc n) xs
+left_after [] n e within is = let never : ⊥ = omega (arith, within) in absurd never
+left_after (x ∷ xs) zero e within is = ap (λ y. y ∷ xs) (sym is)
+left_after (x ∷ xs) (suc n) e within is = left_after xs n e (omega (arith, within)) is
+
+pub left_at : (xs : List EndpointParts) (n : ℕ) (e : EndpointParts) → n < length xs
+    → e ≡ get_or xs n e → drop n xs ≡ e ∷ drop (n + 1) xs
+left_at xs n e within is =
+    let next : suc n ≡ n + 1 = omega arith in
+    left_after xs n e within is ∙ ap (λ k. e ∷ drop k xs) next
 
 module _ (all copied left rest : List EndpointParts) (e : EndpointParts) (next : ℕ)
     (before : IsCopied all copied left next) (head : left ≡ e ∷ rest)

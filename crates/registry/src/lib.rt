@@ -4,6 +4,7 @@
 
 mod changes;
 mod choosing;
+pub mod endpoint_list;
 mod endpoint_number;
 pub mod endpoints;
 pub mod faults;
@@ -17,6 +18,7 @@ pub mod registry;
 mod served;
 mod served_zones;
 
+pub use endpoint_list::EndpointList;
 pub use endpoints::{Endpoint, EndpointKind};
 pub use faults::{Duplicate, PlacementFault, RegistryFault};
 pub use registry::Registry;

@@ -291,6 +291,31 @@ impl Endpoints {
         Ok(copy)
     }
 
+    /// Copies of the endpoints, in order.
+    pub fn list(&self, alloc: Global) -> Result<Vec<Endpoint>, AllocError>
+        ensures { IfOk result (λ list. list.items ≡ endpoints_of self.now) }
+    {
+        let mut list = Vec::with_capacity(alloc, self.len())?;
+        for held in self.by_number.endpoints() {
+            list.push(held.endpoint().copy()?)?;
+        }
+        Ok(list)
+    }
+
+    /// These endpoints in the same order, under numbers from 0 on.
+    pub fn of(alloc: Global, endpoints: &[Endpoint]) -> Result<Endpoints, AllocError>
+        requires different { HaveDifferentIds endpoints.now }
+        requires unshared { ShareNoAlias endpoints.now }
+        requires few { length endpoints.now < 2 ^ 32 }
+        ensures { IfOk result (λ made. endpoints_of made ≡ endpoints.now) }
+    {
+        let mut made = Endpoints::new(alloc);
+        for endpoint in endpoints {
+            made.put_numbered(endpoint, endpoint.zone(), alloc)?;
+        }
+        Ok(made)
+    }
+
     /// The endpoint with this E.164 alias, in whatever zone.
     fn owner(&self, alias: &Dialled) -> Option<&Endpoint>
         ensures found { option_copied result ≡ owner_of (endpoints_of self.now) alias.now }

@@ -11,6 +11,7 @@ ghost use Rattle.registry.specs.Learned.{learned_prefixes};
 ghost use Rattle.registry.specs.Gateway.{gateway_of};
 ghost use Rattle.registry.specs.Registering.{placement_among};
 
+use crate::endpoint_list::EndpointList;
 use crate::endpoints::Endpoint;
 use crate::faults::{Duplicate, PlacementFault, RegistryFault};
 use crate::keeping;
@@ -215,6 +216,35 @@ impl Registry {
             endpoints: self.endpoints.copy(self.alloc)?,
             most,
             alloc: self.alloc,
+        })
+    }
+
+    /// Copies of its endpoints, from which an equal registry can be made. `AllocError` comes only if
+    /// memory runs out.
+    pub fn list(&self) -> Result<EndpointList, AllocError>
+        ensures { IfOk result (λ list. list ≡ self.now) }
+    {
+        // So it is known that they are those of a registry.
+        let _count = self.len();
+        Ok(EndpointList {
+            endpoints: self.endpoints.list(self.alloc)?,
+            most: self.most,
+        })
+    }
+
+    /// That of these endpoints. `AllocError` comes only if memory runs out.
+    pub(crate) fn of(
+        alloc: Global,
+        endpoints: &[Endpoint],
+        most: u32,
+    ) -> Result<Registry, AllocError>
+        requires { IsRegistry (record { endpoints = endpoints.now; most = most }) }
+        ensures { IfOk result (λ made. made ≡ record { endpoints = endpoints.now; most = most }) }
+    {
+        Ok(Registry {
+            endpoints: Endpoints::of(alloc, endpoints)?,
+            most,
+            alloc,
         })
     }
 

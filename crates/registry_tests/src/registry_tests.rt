@@ -54,6 +54,17 @@ fn is_found_in_copy(registry: &Registry, tables: &Tables, sought: &Sought) -> bo
     }
 }
 
+/// Whether the gateway is found in the registry that is made of a list of the endpoints.
+fn is_found_in_list(registry: &Registry, tables: &Tables, sought: &Sought, alloc: Global) -> bool {
+    match &registry.list() {
+        Ok(list) => match &list.registry(alloc) {
+            Ok(made) => is_found(made, tables, sought),
+            Err(_) => false,
+        },
+        Err(_) => false,
+    }
+}
+
 /// The tables of two local zones.
 fn tables_of(alloc: Global) -> Result<Arc<Tables>, Fail> {
     let commands = read(alloc, b"zone local a d\nzone local b d\n")?;
@@ -94,6 +105,7 @@ fn assert_calls(
     registry.keep_zones(tables);
     assert!(rt; is_found(registry, tables, sought));
     assert!(rt; is_found_in_copy(registry, tables, sought));
+    assert!(rt; is_found_in_list(registry, tables, sought, alloc));
     let gone = registry.unregister(&sought.id)?;
     assert!(rt; gone.has_alias(&sought.alias) && registry.len() == 0);
     Ok(())
