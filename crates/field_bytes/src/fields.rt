@@ -1,6 +1,6 @@
 //! The fields of an entry, as they are read from its bytes.
 
-ghost use Rattle.std.specs.Prelude.{◌≡◌, MatchOption, Some, None};
+ghost use Rattle.std.specs.Prelude.{◌≡◌, MatchOption, IsSome, Some, None};
 ghost use Rattle.field_bytes.specs.Fields.{Gives, address_in, byte_in, dialled_in, name_in, number_in, text_in};
 
 use crate::name_texts::NameText;
@@ -71,7 +71,7 @@ impl<'a> Fields<'a> {
     }
 
     /// A text after its length, as it stands.
-    pub fn text(&mut self) -> Option<&'a [u8]>
+    fn text(&mut self) -> Option<&'a [u8]>
         ensures { MatchOption result (text_in self.old ≡ None)
             (λ text. text_in self.old ≡ Some (text.now, self.new)) }
     {
@@ -89,6 +89,18 @@ impl<'a> Fields<'a> {
         ensures { Gives (name_in self.old) result self.new }
     {
         NameText::read(self.text()?)
+    }
+
+    #[tactic(auto, using(crate::proofs::KnownLemmas::text_there, crate::proofs::KnownLemmas::name_known))]
+    /// A name, which is known to be there, so that its text is not tried.
+    pub fn known_name(&mut self) -> NameText<'a>
+        requires { IsSome (name_in self.old) }
+        ensures { name_in self.old ≡ Some (result, self.new) }
+    {
+        match self.text() {
+            Some(text) => NameText::known(text),
+            None => unreachable!(),
+        }
     }
 
     /// Dialled digits.
