@@ -6,3 +6,5 @@ pub mod RowLemmas
 pub mod StoredLemmas
 pub mod ToldLemmas
 pub mod EntryLemmas
+pub mod SharedLemmas
+pub mod ReceiptLemmas

@@ -1,5 +1,6 @@
 -- The past reloads of a record, as one more is past and one more text may be known.
-use Rattle.std.proofs.Common.{◌≡◌, List, [], ◌∷◌, ◌++◌, map, refl, ap, ◌∙◌, arith}
+use Rattle.std.proofs.Common.{◌≡◌, ℕ, zero, suc, List, [], ◌∷◌, ◌++◌, map, refl, ap, ◌∙◌, arith}
+use Rattle.std.specs.Prelude.{Option, Some, None, IfSome, slice_get}
 use Rattle.std.specs.Option.{unwrap_or}
 use Rattle.pieces.specs.Pieces.{PiecesParts}
 use Rattle.command_reader.specs.declared.commands.Command.{Command}
@@ -7,8 +8,18 @@ use Rattle.entry_bytes.specs.Entry.{PlainEntry}
 use Rattle.decision_record.specs.declared.reloads.PastConfiguration.{PastConfiguration}
 use Rattle.decision_record.specs.declared.reloads.PastConfiguration.TheVariants as past
 use Rattle.decision_record.specs.declared.reloads.PastReload.{PastReload}
+use Rattle.decision_record.specs.declared.reloads.LastReload.{LastReload}
 use Rattle.decision_record.specs.History.{reload_entry}
-use Rattle.decision_record.specs.Reloads.{ArePlaced, IsPlaced, KeepsTexts, commands_past, plain_past}
+use Rattle.decision_record.specs.Reloads.{ArePlaced, IsPlaced, IsReload, KeepsTexts, Texts, commands_last, commands_past, plain_past, reloads_told}
+
+-- each entry is that of a reload
+pub reloads_are : (texts : Texts) (reloads : List PastReload) (last : Option LastReload)
+    (place : ℕ) → IfSome (slice_get (reloads_told texts reloads last) place) IsReload
+reloads_are texts [] None place = tt
+reloads_are texts [] (Some r) zero = (commands_last r, r.version, refl)
+reloads_are texts [] (Some r) (suc place) = tt
+reloads_are texts (r ∷ rs) last zero = (commands_past texts r.configuration, r.version, refl)
+reloads_are texts (r ∷ rs) last (suc place) = reloads_are texts rs last place
 
 module _ (old new : PiecesParts (List Command)) (keeps : KeepsTexts old new) where
   -- one that was past says what it said

@@ -10,6 +10,7 @@ use Rattle.rulings.specs.declared.replies.Reply.{Reply}
 use Rattle.rulings.specs.declared.replies.Reply.TheVariants as reply
 use Rattle.entry_bytes.specs.Entry.{PlainEntry, asked_id, entry_by, unrouted_entry}
 use Rattle.entry_bytes.specs.ReadEntry.{entry_read}
+use Rattle.entry_bytes.specs.declared.brief_event.BriefEvent.{BriefEvent}
 use Rattle.decision_record.specs.declared.entries.Entry.{Entry}
 use Rattle.decision_record.specs.declared.entries.Entry.TheVariants as entry
 use Rattle.decision_record.specs.declared.entries.ReloadedCommands.{ReloadedCommands}
@@ -93,6 +94,12 @@ pub record IsOfEvent (event : PlainEvent) (receipt : Receipt) : Type 0 where
   pub kind : receipt.kind ≡ kind_of event
   pub call : receipt.call ≡ call_number_of event
   pub id : receipt.id ≡ Some (asked_id event)
+
+-- the same of an event that asked this
+pub record IsOfAsked (asked : BriefEvent) (receipt : Receipt) : Type 0 where
+  pub kind : receipt.kind ≡ asked.kind
+  pub call : receipt.call ≡ asked.call
+  pub id : receipt.id ≡ Some asked.id
 
 -- the entry of this number, counted from 1
 abbrev pub entry_of_number : List PlainEntry → ℕ → Option PlainEntry

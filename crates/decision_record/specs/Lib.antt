@@ -1,5 +1,6 @@
 pub mod Drafts
 pub mod History
 pub mod Items
+pub mod Past
 pub mod Reloads
 pub mod Rows

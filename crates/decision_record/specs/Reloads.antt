@@ -19,6 +19,10 @@ pub record ReloadsParts : Type 0 where
   pub last : Option (List Command)
   pub room : ℕ
 
+-- the entry is that of a reload
+abbrev pub IsReload : PlainEntry → Type 0
+IsReload e = (commands : List Command) × (version : ℕ) × (e ≡ reload_entry commands version)
+
 -- what the known lines say
 abbrev pub Texts : Type 0
 Texts = List (List Command)

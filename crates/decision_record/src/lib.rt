@@ -4,6 +4,7 @@
 mod drafts;
 mod entries;
 mod known_lines;
+mod past_record;
 mod receipts;
 mod record;
 mod recording;
@@ -13,5 +14,6 @@ mod rows;
 pub use drafts::Draft;
 pub use entries::{Entry, Receipt, ReloadedCommands};
 pub use entry_bytes::{EndpointBytes, ReadEntry, ReadEvent, Verdict};
+pub use past_record::PastRecord;
 pub use record::Record;
 pub use recording::RELOAD_BYTES;

@@ -1,29 +1,28 @@
 //! Whether a receipt is that of an entry, which is looked at where it stands.
 
 ghost use Rattle.std.specs.Prelude.{◌≡◌, ◌↔◌, Some, true, option_map};
-ghost use Rattle.rulings.specs.Events.{Admitting, Releasing};
 ghost use Rattle.entry_bytes.specs.Entry.{asked_id};
 ghost use Rattle.entry_bytes.specs.EntryBytes.{entry_after, entry_in};
-ghost use Rattle.entry_bytes.specs.GrantedBytes.{admitted_entry, released_entry};
 ghost use Rattle.entry_bytes.specs.ReadEntry.{entry_read};
 ghost use Rattle.entry_bytes.specs.ReadEvent.{event_read};
-ghost use Rattle.entry_bytes.specs.VerdictBytes.{admitted_in};
+ghost use Rattle.entry_bytes.specs.VerdictBytes.{admitted_in, registered_in};
 ghost use Rattle.entry_bytes.specs.declared.verdicts.Verdict.TheVariants as Verdict;
-ghost use Rattle.decision_record.specs.History.{IsOfEvent, receipt_of};
+ghost use Rattle.decision_record.specs.History.{IsOfAsked, IsOfEvent, receipt_of};
 ghost use Rattle.decision_record.specs.Items.{MeansEntry};
 
 use crate::entries::{Receipt, call_of, kind_of};
 use entry_bytes::{
-    AdmittedBytes, ReadEntry, ReadEvent, ReleasedBytes, VerdictKind, is_admitted, is_released,
-    read_entry, verdict_kind_of,
+    AdmittedTo, BriefEvent, ReadEntry, ReadEvent, VerdictKind, is_admitted, is_changed,
+    is_registered, is_released, read_entry, verdict_kind_of,
 };
 use field_bytes::{Fields, NameText};
 use gk_terms::Name;
-use rulings::{EventKind, Reply};
+use rulings::Reply;
 
 #[tactic(auto, unfolding(entry_bytes::specs::VerdictBytes::verdict_in, entry_bytes::specs::VerdictBytes::verdict_at))]
 /// Whether the receipt is that of the entry that these bytes are, if that has its number. Most
-/// entries are admissions and releases that were granted: of these, no text is tried as it is read.
+/// entries are grants: of these no text is tried as it is read, but of those of answers and
+/// unregistrations.
 pub(crate) fn is_of_bytes(item: &[u8], receipt: &Receipt) -> bool
     requires { MeansEntry (entry_in item.now) }
     ensures { (result ≡ true) ↔ (Some receipt.now
@@ -34,82 +33,73 @@ pub(crate) fn is_of_bytes(item: &[u8], receipt: &Receipt) -> bool
         return false;
     };
     match verdict_kind_of(code) {
-        Some(VerdictKind::Admitted) => is_of_admitted(item, &mut fields, receipt),
-        Some(VerdictKind::Released) => is_of_released(item, &mut fields, receipt),
+        Some(VerdictKind::Admitted) => is_of_admitted(&mut fields, receipt),
+        Some(VerdictKind::Released) => is_of_released(&mut fields, receipt),
+        Some(VerdictKind::Changed) => is_of_changed(&mut fields, receipt),
+        Some(VerdictKind::Registered) => is_of_registered(&mut fields, receipt),
         _ => is_of_any(item, receipt),
     }
 }
 
-#[tactic(auto, using(crate::proofs::EntryLemmas::reads_on))]
+#[tactic(auto, using(crate::proofs::EntryLemmas::verdict_known, crate::proofs::EntryLemmas::event_after, crate::proofs::ReceiptLemmas::admitted_by))]
 /// The same of what was admitted, after the kind of its verdict.
-fn is_of_admitted(item: &[u8], fields: &mut Fields<'_>, receipt: &Receipt) -> bool
-    requires known { MeansEntry (entry_in item.now) }
-    requires same { entry_in item.now ≡ entry_after (admitted_in fields.old) }
-    ensures { (result ≡ true) ↔ (Some receipt.now
-        ≡ option_map (receipt_of receipt.now.number) (entry_in item.now)) }
+fn is_of_admitted(fields: &mut Fields<'_>, receipt: &Receipt) -> bool
+    requires { MeansEntry (entry_after (admitted_in fields.old)) }
+    ensures { (result ≡ true) ↔ (Some receipt.now ≡ option_map (receipt_of receipt.now.number)
+        (entry_after (admitted_in fields.old))) }
 {
-    match &AdmittedBytes::read(fields) {
-        Some(call) => is_of_admitted_call(call, receipt),
-        None => is_of_any(item, receipt),
-    }
-}
-
-/// The same of a call that was admitted.
-fn is_of_admitted_call(call: &AdmittedBytes<'_>, receipt: &Receipt) -> bool
-    ensures { (result ≡ true)
-        ↔ (receipt.now ≡ receipt_of receipt.now.number (admitted_entry call.now)) }
-{
-    is_asked_by(call, receipt)
+    let led = &AdmittedTo::read(fields);
+    let asked = &BriefEvent::read(fields);
+    is_of_asked(asked, receipt)
         && is_admitted(
             &receipt.reply,
-            call.call(),
-            call.kind(),
-            &call.name(),
-            call.address(),
-            call.units(),
+            asked.number(),
+            led.kind,
+            &led.name,
+            led.address,
+            asked.units,
         )
 }
 
-/// Whether the receipt is of the admission of this call.
-fn is_asked_by(call: &AdmittedBytes<'_>, receipt: &Receipt) -> bool
-    ensures { (result ≡ true) ↔ IsOfEvent
-        (Admitting call.now.id call.now.call call.now.digits call.now.units) receipt.now }
-{
-    receipt.kind == EventKind::Admission
-        && receipt.call == Some(call.call())
-        && is_name(&receipt.id, &call.id())
-}
-
-#[tactic(auto, using(crate::proofs::EntryLemmas::reads_on))]
+#[tactic(auto, using(crate::proofs::EntryLemmas::event_known, crate::proofs::ReceiptLemmas::released_by))]
 /// The same of what was released, after the kind of its verdict.
-fn is_of_released(item: &[u8], fields: &mut Fields<'_>, receipt: &Receipt) -> bool
-    requires known { MeansEntry (entry_in item.now) }
-    requires same { entry_in item.now ≡ entry_after (Some (Verdict.Released, fields.old)) }
-    ensures { (result ≡ true) ↔ (Some receipt.now
-        ≡ option_map (receipt_of receipt.now.number) (entry_in item.now)) }
+fn is_of_released(fields: &mut Fields<'_>, receipt: &Receipt) -> bool
+    requires { MeansEntry (entry_after (Some (Verdict.Released, fields.old))) }
+    ensures { (result ≡ true) ↔ (Some receipt.now ≡ option_map (receipt_of receipt.now.number)
+        (entry_after (Some (Verdict.Released, fields.old)))) }
 {
-    match &ReleasedBytes::read(fields) {
-        Some(call) => is_of_released_call(call, receipt),
-        None => is_of_any(item, receipt),
-    }
+    let asked = &BriefEvent::read(fields);
+    is_of_asked(asked, receipt) && is_released(&receipt.reply, asked.number())
 }
 
-/// The same of a call that was released.
-fn is_of_released_call(call: &ReleasedBytes<'_>, receipt: &Receipt) -> bool
-    ensures { (result ≡ true)
-        ↔ (receipt.now ≡ receipt_of receipt.now.number (released_entry call.now)) }
+#[tactic(auto, using(crate::proofs::EntryLemmas::event_known, crate::proofs::ReceiptLemmas::changed_by))]
+/// The same of a change that was granted.
+fn is_of_changed(fields: &mut Fields<'_>, receipt: &Receipt) -> bool
+    requires { MeansEntry (entry_after (Some (Verdict.Changed, fields.old))) }
+    ensures { (result ≡ true) ↔ (Some receipt.now ≡ option_map (receipt_of receipt.now.number)
+        (entry_after (Some (Verdict.Changed, fields.old)))) }
 {
-    is_released_by(call, receipt) && is_released(&receipt.reply, call.call())
+    let asked = &BriefEvent::read(fields);
+    is_of_asked(asked, receipt) && is_changed(&receipt.reply, asked.number(), asked.units)
 }
 
-/// Whether the receipt is of the release of this call.
-fn is_released_by(call: &ReleasedBytes<'_>, receipt: &Receipt) -> bool
-    ensures { (result ≡ true)
-        ↔ IsOfEvent (Releasing call.now.id call.now.call) receipt.now }
+#[tactic(auto, using(crate::proofs::EntryLemmas::zone_known, crate::proofs::EntryLemmas::event_after, crate::proofs::ReceiptLemmas::registered_by))]
+/// The same of a registration that was granted.
+fn is_of_registered(fields: &mut Fields<'_>, receipt: &Receipt) -> bool
+    requires { MeansEntry (entry_after (registered_in fields.old)) }
+    ensures { (result ≡ true) ↔ (Some receipt.now ≡ option_map (receipt_of receipt.now.number)
+        (entry_after (registered_in fields.old))) }
 {
-    receipt.kind == EventKind::Release
-        && receipt.call == Some(call.call())
-        && is_name(&receipt.id, &call.id())
+    let zone = fields.known_name();
+    let asked = &BriefEvent::read(fields);
+    is_of_asked(asked, receipt) && is_registered(&receipt.reply, &asked.id, &zone)
+}
+
+/// Whether the receipt is of what was asked.
+fn is_of_asked(asked: &BriefEvent<'_>, receipt: &Receipt) -> bool
+    ensures { (result ≡ true) ↔ IsOfAsked asked.now receipt.now }
+{
+    receipt.kind == asked.kind && receipt.call == asked.call && is_name(&receipt.id, &asked.id)
 }
 
 #[tactic(auto, using(crate::proofs::EntryLemmas::right_if_any))]

@@ -1,26 +1,29 @@
 //! The record: what was asked, and what was replied.
 
-ghost use Rattle.std.specs.Prelude.{◌≡◌, ◌↔◌, ◌<◌, ◌∷◌, [], true, length, take, slice_get, OnOk, IfErr, IfNone, IfSome, Some, option_map};
+ghost use Rattle.std.specs.Prelude.{◌≡◌, ◌↔◌, ◌<◌, ◌∷◌, [], true, length, take, slice_get, OnOk, IfOk, IfErr, IfNone, IfSome, Some, option_map};
 ghost use Rattle.std.specs.List.{All};
 ghost use Rattle.std.specs.Option.{option_and_then};
 ghost use Rattle.std.specs.Arc.{arc_value};
 ghost use Rattle.entry_bytes.specs.EntryBytes.{entry_in};
 ghost use Rattle.entry_bytes.specs.ReadEvent.{HasRightEndpoint};
 ghost use Rattle.decision_record.specs.Items.{MeansEntry, item_meant, reload_in};
-ghost use Rattle.decision_record.specs.History.{plain_entry, entry_of_number, receipt_of, Stands, in_force};
+ghost use Rattle.decision_record.specs.Past.{HasRows};
 ghost use Rattle.decision_record.specs.Rows.{entry_row};
+ghost use Rattle.decision_record.specs.History.{plain_entry, entry_of_number, receipt_of, Stands, in_force};
 
 use crate::entries::{Entry, Receipt};
+use crate::past_record::PastRecord;
 use crate::receipts::{is_of_bytes, same_receipt};
 use crate::reloads::Reloads;
-use crate::rows::{row_of_bytes, row_of_entry};
+use crate::rows::numbered_row;
 use byte_log::ByteLog;
 use call_rows::CallRow;
 use compiler::Tables;
 use entry_bytes::read_entry;
 use field_bytes::Fields;
-use std::alloc::Global;
+use std::alloc::{AllocError, Global};
 use std::marker::Model;
+use std::snapshot::Snapshot;
 use std::sync::Arc;
 
 /// The first byte of the item of a reload, with which no other entry begins.
@@ -122,18 +125,27 @@ impl Record {
         ensures { result ≡ option_and_then (entry_row number)
             (entry_of_number self.now.entries number) }
     {
-        match number.checked_sub(1) {
-            None => None,
-            Some(place) => self.row_at(number, place as usize),
-        }
+        numbered_row(self.items(), number)
     }
 
-    /// The row of this number by the entry at this place, from 0.
-    fn row_at(&self, number: u32, place: usize) -> Option<CallRow>
-        ensures { result
-            ≡ option_and_then (entry_row number) (slice_get self.now.entries place) }
+    /// What the entries say of calls, as of now; what is entered later is not in it. It shares the
+    /// entries, so it is made in little time. `AllocError` comes only if memory runs out.
+    pub fn past(&self) -> Result<PastRecord, AllocError>
+        ensures { IfOk result (λ past. past ≡ self.now) }
     {
-        row_at(&self.log, &self.reloads, number, place)
+        Ok(PastRecord {
+            log: self.items().share()?,
+            was: Snapshot::of(self),
+        })
+    }
+
+    /// The items of the entries, of which the rows are made without the reloads.
+    fn items(&self) -> &ByteLog
+        ensures { HasRows result.now.items self.now.entries }
+    {
+        // So it is known that whatever stands among the reloads is one.
+        let _reloads = self.reloads.len();
+        &self.log
     }
 
     /// `Ok` if each receipt is that of the entry at its number; else the place, from 0, of the
@@ -220,43 +232,6 @@ fn is_of_reload_in(place: &[u8], reloads: &Reloads, receipt: &Receipt) -> bool
     match &reload_in(place, reloads) {
         None => false,
         Some(entry) => same_receipt(receipt, &entry.receipt(receipt.number)),
-    }
-}
-
-/// The row of this number by the item at this place.
-fn row_at(log: &ByteLog, reloads: &Reloads, number: u32, place: usize) -> Option<CallRow>
-    requires { IfSome (slice_get log.now.items place)
-        (λ item. MeansEntry (item_meant reloads.now.entries item)) }
-    ensures { result ≡ option_and_then (entry_row number) (option_and_then
-        (item_meant reloads.now.entries) (slice_get log.now.items place)) }
-{
-    match log.get(place) {
-        None => None,
-        Some(item) => row_of_item(number, item, reloads),
-    }
-}
-
-/// The row of this number by the entry that an item means.
-fn row_of_item(number: u32, item: &[u8], reloads: &Reloads) -> Option<CallRow>
-    requires { MeansEntry (item_meant reloads.now.entries item.now) }
-    ensures { result
-        ≡ option_and_then (entry_row number) (item_meant reloads.now.entries item.now) }
-{
-    match item {
-        [RELOAD, place @ ..] => row_of_reload(number, place, reloads),
-        [_, ..] => row_of_bytes(number, item),
-        [] => None,
-    }
-}
-
-/// The row of this number by the reload at the place that these bytes are.
-fn row_of_reload(number: u32, place: &[u8], reloads: &Reloads) -> Option<CallRow>
-    ensures { result
-        ≡ option_and_then (entry_row number) (reload_in reloads.now.entries place.now) }
-{
-    match &reload_in(place, reloads) {
-        None => None,
-        Some(entry) => row_of_entry(number, entry),
     }
 }
 

@@ -1,10 +1,10 @@
 //! The reloads of a record.
 
-ghost use Rattle.std.specs.Prelude.{◌≡◌, ◌<◌, ◌≤◌, ◌+◌, ◌++◌, ◌∷◌, [], Some, None, length, slice_get, option_map, OnOk, OnErr};
+ghost use Rattle.std.specs.Prelude.{◌≡◌, ◌<◌, ◌≤◌, ◌+◌, ◌++◌, ◌∷◌, [], Some, None, IfSome, length, slice_get, option_map, OnOk, OnErr};
 ghost use Rattle.std.specs.Arc.{arc_value};
 ghost use Rattle.pieces.specs.declared.list.TheConstants.{PIECE_ITEMS};
 ghost use Rattle.decision_record.specs.History.{plain_entry, commands_reloaded};
-ghost use Rattle.decision_record.specs.Reloads.{ArePlaced, IsPlaced, KeepsTexts, commands_past, commands_last, plain_past, plain_last};
+ghost use Rattle.decision_record.specs.Reloads.{ArePlaced, IsPlaced, IsReload, KeepsTexts, commands_past, commands_last, plain_past, plain_last};
 
 use crate::entries::{Entry, ReloadedCommands};
 use crate::known_lines::KnownLines;
@@ -165,7 +165,8 @@ impl Reloads {
 
     /// How many reloads there are.
     pub fn len(&self) -> usize
-        ensures { result ≡ length self.now.entries }
+        ensures value { result ≡ length self.now.entries }
+        ensures reloads { (place : _) → IfSome (slice_get self.now.entries place) IsReload }
     {
         match &self.last {
             Some(_) => self.past.len() + 1,

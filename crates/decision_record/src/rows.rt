@@ -1,44 +1,69 @@
 //! Rows: what the entries of a record say of calls.
 
-ghost use Rattle.std.specs.Prelude.{◌≡◌, Some};
+ghost use Rattle.std.specs.Prelude.{◌≡◌, IfSome, IsSome, Some, option_map, slice_get};
 ghost use Rattle.std.specs.Option.{option_and_then};
 ghost use Rattle.rulings.specs.Step.{is_granted};
+ghost use Rattle.entry_bytes.specs.Brief.{admission_of, admitted_meant};
+ghost use Rattle.entry_bytes.specs.Entry.{entry_told};
 ghost use Rattle.entry_bytes.specs.EntryBytes.{entry_after, entry_in};
-ghost use Rattle.entry_bytes.specs.GrantedBytes.{admitted_entry, released_entry};
 ghost use Rattle.entry_bytes.specs.ReadEntry.{entry_read};
 ghost use Rattle.entry_bytes.specs.ReadEvent.{event_read};
 ghost use Rattle.entry_bytes.specs.VerdictBytes.{admitted_in};
 ghost use Rattle.entry_bytes.specs.declared.verdicts.Verdict.TheVariants as VerdictMeant;
-ghost use Rattle.decision_record.specs.History.{plain_entry};
 ghost use Rattle.decision_record.specs.Items.{MeansEntry};
+ghost use Rattle.decision_record.specs.Past.{IsRightItem, item_row, numbered_row};
 ghost use Rattle.decision_record.specs.Rows as Spec;
 
-use crate::entries::Entry;
+use crate::record::RELOAD;
+use byte_log::ByteLog;
 use call_rows::{AdmittedCall, AnsweredCall, CallEvent, CallRow};
 use entry_bytes::{
-    AdmittedBytes, ReadEntry, ReadEvent, ReleasedBytes, Verdict, VerdictKind, read_entry,
-    verdict_kind_of,
+    AdmittedTo, BriefEvent, ReadEntry, ReadEvent, Verdict, VerdictKind, read_entry, verdict_kind_of,
 };
 use field_bytes::Fields;
 use gk_terms::{Dialled, Name, Units};
-use rulings::Route;
+use rulings::{EventKind, Route};
 
-/// The row of this number that an entry has: that an admission was routed, that an answer opened a
-/// call or was refused for a limit, that a bandwidth change was granted, or that a call was
-/// released.
-pub(crate) fn row_of_entry(number: u32, entry: &Entry<'_>) -> Option<CallRow>
-    ensures { result ≡ Spec.entry_row number (plain_entry entry.now) }
+/// The row of the item of this number, counted from 1.
+pub(crate) fn numbered_row(log: &ByteLog, number: u32) -> Option<CallRow>
+    requires { (place : _) → IfSome (slice_get log.now.items place) IsRightItem }
+    ensures { result ≡ numbered_row log.now.items number }
 {
-    match entry {
-        Entry::Asked(read) => row_of_read(number, read),
-        Entry::Reload { .. } => None,
+    match number.checked_sub(1) {
+        None => None,
+        Some(place) => row_at(log, number, place as usize),
+    }
+}
+
+/// The row of this number by the item at this place.
+fn row_at(log: &ByteLog, number: u32, place: usize) -> Option<CallRow>
+    requires { IfSome (slice_get log.now.items place) IsRightItem }
+    ensures { result ≡ option_and_then (item_row number) (slice_get log.now.items place) }
+{
+    match log.get(place) {
+        None => None,
+        Some(item) => row_of_item(number, item),
+    }
+}
+
+/// The row of this number by the entry that an item means.
+fn row_of_item(number: u32, item: &[u8]) -> Option<CallRow>
+    requires { IsRightItem item.now }
+    ensures { result ≡ item_row number item.now }
+{
+    match item {
+        [RELOAD, ..] => None,
+        [_, ..] => row_of_bytes(number, item),
+        [] => None,
     }
 }
 
 #[tactic(auto, unfolding(entry_bytes::specs::VerdictBytes::verdict_in, entry_bytes::specs::VerdictBytes::verdict_at))]
-/// The same by the entry that these bytes are. Most entries are admissions and releases that were
-/// granted: of these, a text is tried but once, as it is copied.
-pub(crate) fn row_of_bytes(number: u32, item: &[u8]) -> Option<CallRow>
+/// The row of this number by the entry that these bytes are: that an admission was routed, that an
+/// answer opened a call or was refused for a limit, that a bandwidth change was granted, or that a
+/// call was released. Most entries are admissions and releases that were granted: of these, a text
+/// is tried but once, as it is copied.
+fn row_of_bytes(number: u32, item: &[u8]) -> Option<CallRow>
     requires { MeansEntry (entry_in item.now) }
     ensures { result ≡ option_and_then (Spec.entry_row number) (entry_in item.now) }
 {
@@ -53,56 +78,70 @@ pub(crate) fn row_of_bytes(number: u32, item: &[u8]) -> Option<CallRow>
     }
 }
 
-#[tactic(auto, using(crate::proofs::EntryLemmas::reads_on))]
+#[tactic(auto, using(crate::proofs::EntryLemmas::verdict_known, crate::proofs::EntryLemmas::event_after, crate::proofs::RowLemmas::admission_known, crate::proofs::RowLemmas::admitted_row))]
 /// The same of what was admitted, after the kind of its verdict.
 fn row_of_admitted(number: u32, item: &[u8], fields: &mut Fields<'_>) -> Option<CallRow>
     requires known { MeansEntry (entry_in item.now) }
     requires same { entry_in item.now ≡ entry_after (admitted_in fields.old) }
     ensures { result ≡ option_and_then (Spec.entry_row number) (entry_in item.now) }
 {
-    match &AdmittedBytes::read(fields) {
-        Some(call) => row_of_admitted_call(number, call),
-        None => row_of_any(number, item),
+    let led = &AdmittedTo::read(fields);
+    let asked = &BriefEvent::read(fields);
+    match asked.kind {
+        EventKind::Admission => row_of_call(number, led, asked, fields),
+        _ => row_of_any(number, item),
     }
 }
 
-#[tactic(auto, using(crate::proofs::RowLemmas::row_made))]
-/// The same of a call that was admitted.
-fn row_of_admitted_call(number: u32, call: &AdmittedBytes<'_>) -> Option<CallRow>
-    ensures { result ≡ Spec.entry_row number (admitted_entry call.now) }
+#[tactic(auto, using(crate::proofs::RowLemmas::digits_there, crate::proofs::RowLemmas::row_made))]
+/// The same of the admission that asks this, whose digits are still to be read.
+fn row_of_call(
+    number: u32,
+    led: &AdmittedTo<'_>,
+    asked: &BriefEvent<'_>,
+    fields: &mut Fields<'_>,
+) -> Option<CallRow>
+    requires { IsSome (admission_of asked.now fields.old) }
+    ensures { result ≡ option_and_then (Spec.entry_row number) (option_map
+        (λ event. entry_told event (admitted_meant led.now)) (admission_of asked.now fields.old)) }
 {
+    let Some(digits) = fields.dialled() else {
+        unreachable!();
+    };
     CallRow::new(
         number,
         CallEvent::Admitted(AdmittedCall {
-            call: call.call(),
-            zone: call.zone().name(),
-            digits: call.digits(),
-            units: call.units(),
+            call: asked.number(),
+            zone: led.zone.name(),
+            digits,
+            units: asked.units,
             granted: true,
-            route: Route::To(call.kind().destination(&call.name().name(), call.address())),
+            route: Route::To(led.kind.destination(&led.name.name(), led.address)),
         }),
     )
 }
 
-#[tactic(auto, using(crate::proofs::EntryLemmas::reads_on))]
+#[tactic(auto, using(crate::proofs::EntryLemmas::event_known, crate::proofs::RowLemmas::released_row))]
 /// The same of what was released, after the kind of its verdict.
 fn row_of_released(number: u32, item: &[u8], fields: &mut Fields<'_>) -> Option<CallRow>
     requires known { MeansEntry (entry_in item.now) }
-    requires same { entry_in item.now ≡ entry_after (Some (VerdictMeant.Released, fields.old)) }
+    requires same { entry_in item.now
+        ≡ entry_after (Some (VerdictMeant.Released, fields.old)) }
     ensures { result ≡ option_and_then (Spec.entry_row number) (entry_in item.now) }
 {
-    match &ReleasedBytes::read(fields) {
-        Some(call) => row_of_released_call(number, call),
-        None => row_of_any(number, item),
+    let asked = &BriefEvent::read(fields);
+    match asked.kind {
+        EventKind::Release => row_of_release(number, asked.number()),
+        _ => row_of_any(number, item),
     }
 }
 
 #[tactic(auto, using(crate::proofs::RowLemmas::row_made))]
-/// The same of a call that was released.
-fn row_of_released_call(number: u32, call: &ReleasedBytes<'_>) -> Option<CallRow>
-    ensures { result ≡ Spec.entry_row number (released_entry call.now) }
+/// The row of this number that says that a call was released.
+fn row_of_release(number: u32, call: u32) -> Option<CallRow>
+    ensures { result ≡ Spec.row_of number (CallEvent.Released call) }
 {
-    CallRow::new(number, CallEvent::Released { call: call.call() })
+    CallRow::new(number, CallEvent::Released { call })
 }
 
 #[tactic(auto, using(crate::proofs::EntryLemmas::right_if_any))]

@@ -6,4 +6,6 @@ pub mod VerdictLaws
 pub mod EntryLaws
 pub mod AgreeLaws
 pub mod ReadLemmas
-pub mod GrantedLemmas
+pub mod KnownLemmas
+pub mod AdmittedToLemmas
+pub mod BriefLemmas

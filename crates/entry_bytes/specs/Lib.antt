@@ -9,5 +9,4 @@ pub mod EntryBytes
 pub mod Laws
 pub mod ReadEvent
 pub mod ReadEntry
-pub mod GrantedBytes
-pub mod GrantedTexts
+pub mod Brief

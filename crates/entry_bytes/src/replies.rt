@@ -2,6 +2,7 @@
 
 ghost use Rattle.std.specs.Prelude.{◌≡◌, ◌↔◌, true};
 ghost use Rattle.rulings.specs.Lent.{destination_meant};
+ghost use Rattle.rulings.specs.declared.replies.AdmitRefusal.TheVariants as Refusal;
 ghost use Rattle.rulings.specs.declared.replies.Reply.TheVariants as Reply;
 ghost use Rattle.entry_bytes.specs.ReadEntry.{entry_read};
 
@@ -9,7 +10,7 @@ use crate::entry_reading::ReadEntry;
 use crate::verdicts::Verdict;
 use field_bytes::NameText;
 use gk_terms::{Address, Units};
-use rulings::{Destination, DestinationKind, Reply};
+use rulings::{AdmitRefusal, Destination, DestinationKind, Reply, RouteRefusal};
 
 impl ReadEntry<'_> {
     /// Whether this is what was replied.
@@ -18,12 +19,6 @@ impl ReadEntry<'_> {
     {
         let event = &self.event;
         match &self.verdict {
-            Verdict::Admitted {
-                kind,
-                name,
-                address,
-                ..
-            } => is_admitted(reply, event.call(), *kind, name, *address, event.units()),
             Verdict::Answering { kind, address, .. } => is_admitted(
                 reply,
                 event.call(),
@@ -32,9 +27,7 @@ impl ReadEntry<'_> {
                 *address,
                 event.units(),
             ),
-            Verdict::Changed => is_changed(reply, event.call(), event.units()),
-            Verdict::Released => is_released(reply, event.call()),
-            Verdict::Registered { zone } => is_registered(reply, &event.id(), zone),
+            Verdict::NoRoute { refusal, .. } => is_unrouted(reply, event.call(), *refusal),
             _ => *reply == self.reply(),
         }
     }
@@ -116,7 +109,7 @@ fn is_zone(destination: &Destination, name: &NameText<'_>, address: Address) -> 
 }
 
 /// Whether it is replied that the call of this number has this bandwidth.
-fn is_changed(reply: &Reply, call: u32, units: Units) -> bool
+pub fn is_changed(reply: &Reply, call: u32, units: Units) -> bool
     ensures { (result ≡ true) ↔ (reply.now ≡ Reply.Changed call units) }
 {
     match reply {
@@ -139,7 +132,7 @@ pub fn is_released(reply: &Reply, call: u32) -> bool
 }
 
 /// Whether it is replied that this endpoint is registered in this zone.
-fn is_registered(reply: &Reply, id: &NameText<'_>, zone: &NameText<'_>) -> bool
+pub fn is_registered(reply: &Reply, id: &NameText<'_>, zone: &NameText<'_>) -> bool
     ensures { (result ≡ true) ↔ (reply.now ≡ Reply.Registered id.now zone.now) }
 {
     match reply {
@@ -147,6 +140,19 @@ fn is_registered(reply: &Reply, id: &NameText<'_>, zone: &NameText<'_>) -> bool
             id: replied,
             zone: place,
         } => id.is(replied) && zone.is(place),
+        _ => false,
+    }
+}
+
+/// Whether it is replied that the digits lead nowhere, for this reason.
+fn is_unrouted(reply: &Reply, call: u32, refusal: RouteRefusal) -> bool
+    ensures { (result ≡ true) ↔ (reply.now ≡ Reply.AdmitRefused call (Refusal.NoRoute refusal)) }
+{
+    match reply {
+        Reply::AdmitRefused {
+            call: replied,
+            reason: AdmitRefusal::NoRoute(given),
+        } => *replied == call && *given == refusal,
         _ => false,
     }
 }

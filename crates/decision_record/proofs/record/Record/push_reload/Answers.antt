@@ -25,12 +25,12 @@ stored c =
     omega (
       arith,
       c.requires.few,
-      c.len-place.ensures,
+      c.len-place.ensures.value,
       was.few_reloads,
       ap (λ (h : RecordParts). length h.entries) c.self.view_is,
     ) in
     reload_stored _ _ _ _ was c.len-place.result (plain_last (reload c)) c.push_reload_item.new.log
-    c.push.new.self c.len-place.ensures small tt c.push_reload_item.ensures.items
+    c.push.new.self c.len-place.ensures.value small tt c.push_reload_item.ensures.items
     c.push.ensures.entries
     (omega (arith, was.room, c.push_reload_item.ensures.room))
     (omega (arith, was.room_reloads, c.push.ensures.room))
