@@ -20,6 +20,7 @@ use Rattle.rulings.specs.Founded.{IsUnder}
 use Rattle.rulings.specs.Limits.{is_limit, are_limits}
 use Rattle.gk_terms.specs.declared.limits.TheConstants.{MOST_CALLS, MOST_RECORDS}
 use Rattle.admission.specs.HistoryLaws.{IsSound}
+use Rattle.admission.specs.PastCore.{IsBounded}
 use Rattle.rulings.specs.Ruling.{ruling_of}
 use Rattle.rulings.specs.Events.{PlainEvent}
 use Rattle.rulings.specs.Step.{state_after, step}
@@ -301,12 +302,6 @@ module _ (s : State) (entries : List PlainEntry) (none_open : s.calls ≡ [])
       ∙ of_a_known_call
 
 -- ---- how many there may be
--- no call is open at the opening, and the limits are those of a snapshot, or less
-pub record IsBounded (opening : State) (entries : List PlainEntry) : Type 0 where
-  pub none_open : opening.calls ≡ []
-  pub few_calls : opening.limits.calls ≤ most_open
-  pub few : length entries ≤ most_rows
-
 module _ (l : Limits) (good : are_limits l ≡ true) where
   few_limited_records : l.records ≤ most_rows
   few_limited_records =
@@ -340,22 +335,20 @@ bounded opening s entries machine limits begun sound under_is same good =
     }
 
 -- ---- as they are put into a snapshot
-module _ (s : State) (entries found : List PlainEntry) (same : found ≡ entries)
-    (place number : ℕ) (is : number ≡ place + 1) (within : place < length found)
-    (old now : SnapshotParts)
+module _ (s : State) (entries : List PlainEntry) (place number : ℕ) (is : number ≡ place + 1)
+    (within : place < length entries) (old now : SnapshotParts)
     (so_far : now ≡ record old { rows = rows_of s (take place entries) }) where
   next_rows : (o : Option RowParts)
-      → o ≡ option_and_then (entry_row number) (entry_of_number found number)
+      → o ≡ option_and_then (entry_row number) (entry_of_number entries number)
       → record old { rows = rows_of s (take place entries) ++ cons_option o [] }
       ≡ record old { rows = rows_of s (take (place + 1) entries) }
   next_rows o row_is =
       ap (λ rows. record old { rows = rows })
-      (sym (rows_next s entries place number is (subst (λ es. place < length es) same within) o
-      (row_is ∙ ap (λ es. option_and_then (entry_row number) (entry_of_number es number)) same)))
+      (sym (rows_next s entries place number is within o row_is))
 
   -- a row is put in
   pub row_put : (new : SnapshotParts) (row : RowParts)
-      → Some row ≡ option_and_then (entry_row number) (entry_of_number found number)
+      → Some row ≡ option_and_then (entry_row number) (entry_of_number entries number)
       → new ≡ record now { rows = now.rows ++ row ∷ [] }
       → new ≡ record old { rows = rows_of s (take (place + 1) entries) }
   row_put new row row_is put =
@@ -363,16 +356,17 @@ module _ (s : State) (entries found : List PlainEntry) (same : found ≡ entries
       ∙ next_rows (Some row) row_is
 
   -- there is none
-  pub none_put : None ≡ option_and_then (entry_row number) (entry_of_number found number)
+  pub none_put : None ≡ option_and_then (entry_row number) (entry_of_number entries number)
       → now ≡ record old { rows = rows_of s (take (place + 1) entries) }
   none_put row_is =
       so_far
-      ∙ ap (λ rows. record old { rows = rows }) (sym (append-nil (rows_of s (take place entries))))
+      ∙ ap (λ rows. record old { rows = rows })
+      (sym (append-nil (rows_of s (take place entries))))
       ∙ next_rows None row_is
 
   -- memory ran out
   pub only_memory : IsLegal s entries → IsBounded s entries → (row : RowParts)
-      → Some row ≡ option_and_then (entry_row number) (entry_of_number found number)
+      → Some row ≡ option_and_then (entry_row number) (entry_of_number entries number)
       → (fault : PushFault)
       → (push_fault now.rows row ≡ Some fault)
       ⊎ ((fault ≡ faults.NoMemory) × (push_fault now.rows row ≡ None))
@@ -380,8 +374,7 @@ module _ (s : State) (entries found : List PlainEntry) (same : found ≡ entries
   only_memory legal few row row_is fault (inr memory) = memory.0
   only_memory legal few row row_is fault (inl refused) =
       let unrefused = none_is_refused s entries few.none_open legal few.few_calls few.few place
-      number is (subst (λ es. place < length es) same within) row
-      (row_is ∙ ap (λ es. option_and_then (entry_row number) (entry_of_number es number)) same) in
+      number is within row row_is in
       let before : push_fault now.rows row ≡ None =
       ap (λ (p : SnapshotParts). push_fault p.rows row) so_far ∙ unrefused in
       absurd (none-some fault (sym before ∙ refused))

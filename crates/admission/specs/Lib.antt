@@ -2,6 +2,7 @@ pub mod Answering
 pub mod AnswerLaws
 pub mod CoreInvariant
 pub mod HistoryLaws
+pub mod PastCore
 pub mod Replying
 pub mod RouteLaws
 pub mod RowLaws

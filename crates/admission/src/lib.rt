@@ -23,3 +23,4 @@ pub use rulings::{
     KeptReply, LentEvent, LentRuling, Limits, RegisterRefusal, ReleaseRefusal, ReloadRefusal,
     Reply, ReplyTaker, Route, RouteRefusal, STATED_LIMITS, UnregisterRefusal, route,
 };
+pub use snapshots::PastCore;

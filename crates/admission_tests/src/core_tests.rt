@@ -20,8 +20,7 @@ fn assert_answers(rt: &impl Abort, alloc: Global, core: &mut Core) -> Result<(),
     core.register(terminal_in(alloc, ta, zone))?;
     let receipt = admitted(rt, core, &ta)?;
     core.change(&ta, 1001, Units::new(5))?;
-    core.release(&ta, 1001)?;
-    core.unregister(&ta)?;
+    assert_eq!(rt; shown_of_before(core, alloc, &ta), Some((2, 1)));
     assert_eq!(rt; (core.calls().len(), core.registry().len()), (0, 0));
     assert_eq!(rt; core.record().len(), 5);
     assert_eq!(rt; core.record().confirm(&[receipt, receipt]), Ok(()));
@@ -31,6 +30,17 @@ fn assert_answers(rt: &impl Abort, alloc: Global, core: &mut Core) -> Result<(),
     };
     assert_eq!(rt; core.record().confirm(&[receipt, another]), Err(1));
     assert_snapshot(rt, alloc, core)
+}
+
+/// Releases the call and unregisters `ta`; how many rows and endpoints the core as it was before
+/// these shows after them.
+fn shown_of_before(core: &mut Core, alloc: Global, ta: &Name) -> Option<(usize, usize)> {
+    let past = core.past().ok()?;
+    let gone = core.release(ta, 1001).is_ok() && core.unregister(ta).is_ok();
+    match past.snapshot(alloc) {
+        Ok(snapshot) if gone => Some((snapshot.len(), snapshot.endpoints().len())),
+        _ => None,
+    }
 }
 
 /// Asserts that a snapshot has a row for the admission, the change and the release.

@@ -193,29 +193,26 @@ grown_alike before kept after commands (Err reply) old new is same recorded take
     ∙ taken (ap (λ (c : CoreParts). c.reserved) same)))
 
 -- ---- snapshots
--- a snapshot of what lies under the lock is that of its entries
-pub snapshot_of : {E : Type 0} (opening : State) (live : CoreParts)
-    (result : Result SnapshotParts E) → live.opening ≡ opening
-    → IfOk result (λ snapshot. snapshot ≡ record {
-      rows = rows_of live.opening live.entries;
-      endpoints = (state_of live).endpoints;
-    }) → IfOk result (λ snapshot. snapshot ≡ seats.snapshot_of opening live.entries)
-unfolding state_of
-snapshot_of opening live (Ok snapshot) same is =
-    is ∙ ap (λ o. seats.snapshot_of o live.entries) same
-snapshot_of opening live (Err error) same is = tt
-
--- and if they are legal, it is one of a legal history
+-- a snapshot of a core as it was after a legal history
 pub snapshot_of_some : {E : Type 0} (opening : State) (entries : List PlainEntry)
-    (result : Result SnapshotParts E) → IsLegal opening entries
-    → IfOk result (λ snapshot. snapshot ≡ seats.snapshot_of opening entries)
-    → IfOk result (IsSnapshotOfSome opening)
-snapshot_of_some opening entries (Ok snapshot) legal is = record {
+    (past : CoreParts) (result : Result SnapshotParts E) → IsLegal opening entries
+    → unreserved past ≡ seats.held opening entries
+    → IfOk result (λ snapshot. snapshot ≡ record {
+      rows = rows_of past.opening past.entries;
+      endpoints = (state_of past).endpoints;
+    }) → IfOk result (IsSnapshotOfSome opening)
+unfolding state_of
+snapshot_of_some opening entries past (Ok snapshot) legal same is = record {
   history = entries;
   legal = legal;
-  shown = is;
+  shown =
+      is
+      ∙ ap (λ (c : CoreParts). record {
+        rows = rows_of c.opening c.entries;
+        endpoints = (state_of c).endpoints;
+      }) same;
 }
-snapshot_of_some opening entries (Err error) legal is = tt
+snapshot_of_some opening entries past (Err error) legal same is = tt
 
 -- ---- under the lock
 is_held : (core : CoreParts) (opening : State) → core.opening ≡ opening → core.reserved ≡ false

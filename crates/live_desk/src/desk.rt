@@ -96,16 +96,19 @@ impl<J: House> Desk<J> {
         }
     }
 
-    #[tactic(auto, using(crate::proofs::Grows::snapshot_of_some))]
-    /// The rows and endpoints of what was recorded so far, by whichever seat. The lock is held
-    /// while they are copied. `AllocError` if memory runs out.
+    /// The rows and endpoints of what was recorded so far, by whichever seat. While the lock is
+    /// held, the endpoints are copied and the entries shared; the rows and the registry are made
+    /// afterwards. `AllocError` if memory runs out.
     pub fn snapshot<R: Wait>(&self, rt: &R, alloc: Global) -> Result<Snapshot, AllocError>
         ensures { IfOk result (IsSnapshotOfSome (opening_of J.begun J.limits)) }
     {
         let room = self.room.lock(rt);
-        let snapshot = room.snapshot(alloc);
+        let past = room.past();
         let _room = MutexGuard::unlock(room);
-        snapshot
+        match past {
+            Ok(past) => past.snapshot(alloc),
+            Err(error) => Err(error),
+        }
     }
 
     /// Takes the lock, calls `begin(0)` of the gate, and lets the lock go.

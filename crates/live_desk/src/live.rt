@@ -13,10 +13,11 @@ ghost use Rattle.rulings.specs.Limits.{are_limits};
 ghost use Rattle.decision_record.specs.History.{generations, IsLegal, state_of, Steps};
 ghost use Rattle.decision_record.specs.Rows.{rows_of};
 ghost use Rattle.admission.specs.Answering.{answered, reply_kept};
-ghost use Rattle.live_desk.specs.Seats.{held, IsBadCount, IsPlanBehind, IsPut};
+ghost use Rattle.live_desk.specs.Seats.{held, unreserved, IsBadCount, IsPlanBehind, IsPut};
 
 use admission::{
-    Core, Event, KeptReply, LentEvent, Limits, Receipt, Record, ReloadRefusal, Reply, Snapshot,
+    Core, Event, KeptReply, LentEvent, Limits, PastCore, Receipt, Record, ReloadRefusal, Reply,
+    Snapshot,
 };
 use bandwidth::OpenCalls;
 use compiler::{Routed, Tables};
@@ -164,6 +165,13 @@ impl<J: Imprint> Live<J> {
         }) }
     {
         self.core.snapshot(alloc)
+    }
+
+    /// The core as it is now, as `Core::past`.
+    pub(crate) fn past(&self) -> Result<PastCore, AllocError>
+        ensures { IfOk result (λ past. unreserved past ≡ self.now) }
+    {
+        self.core.past()
     }
 
     #[tactic(auto, using(crate::proofs::Grows::same_state))]

@@ -8,17 +8,17 @@ ghost use Rattle.rulings.specs.Events.{event_meant, put_in_force, Reloading};
 ghost use Rattle.rulings.specs.State.{opening_of};
 ghost use Rattle.decision_record.specs.History.{generations, IsLegal, Steps};
 ghost use Rattle.admission.specs.Answering.{answered, reply_kept};
-ghost use Rattle.live_desk.specs.Seats.{Asked, held, IsAstrayIn, IsFound, IsPlanFor, IsPut, IsReceiptOf, IsTheirs, snapshot_of};
+ghost use Rattle.live_desk.specs.Seats.{Asked, held, IsAstrayIn, IsFound, IsPlanFor, IsPut, IsReceiptOf, IsTheirs, unreserved};
 
 use crate::house::House;
 use crate::live::Live;
 use crate::seats::{Seat, all_found, merge_all};
 use crate::turns::{reload_turn, turn};
-use admission::{KeptReply, LentEvent, Receipt, Record, Reply, Snapshot};
+use admission::{KeptReply, LentEvent, PastCore, Receipt, Record, Reply};
 use compiler::{Routed, Tables};
 use gk_terms::Version;
 use publisher::Told;
-use std::alloc::{AllocError, Global};
+use std::alloc::AllocError;
 use std::marker::Model;
 use std::sync::ledger::{Blank, Book, Share};
 use std::sync::{Arc, Wait};
@@ -97,15 +97,15 @@ impl<J: House> Room<J> {
         (self.live.record(), self.live.version())
     }
 
-    #[tactic(auto, using(crate::proofs::Grows::snapshot_of))]
-    /// The rows of the record and the registered endpoints. `AllocError` if memory runs out.
-    pub fn snapshot(&self, alloc: Global) -> Result<Snapshot, AllocError>
-        ensures snapshot { IfOk result (λ snapshot. snapshot
-            ≡ snapshot_of (opening_of J.begun J.limits) self.now.entries) }
+    /// The core as it is now, of which a snapshot is made once the lock was let go. `AllocError` if
+    /// memory runs out.
+    pub fn past(&self) -> Result<PastCore, AllocError>
+        ensures past { IfOk result (λ past. unreserved past
+            ≡ held (opening_of J.begun J.limits) self.now.entries) }
         ensures legal { IsLegal (opening_of J.begun J.limits) self.now.entries }
     {
         let _record = self.live.record();
-        self.live.snapshot(alloc)
+        self.live.past()
     }
 
     /// What a reader is told: the generations of the record.

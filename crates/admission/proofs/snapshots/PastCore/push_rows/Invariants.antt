@@ -1,6 +1,6 @@
 use Rattle.std.proofs.Common.{◌≡◌, take}
 use Rattle.decision_record.specs.Rows.{rows_of}
-use Rattle.admission.proofs.cores.Core.push_rows.Given as goal
+use Rattle.admission.proofs.snapshots.PastCore.push_rows.Given as goal
 
 abbrev pub invariant-loop-place : goal.invariant-loop-place
 invariant-loop-place l =
