@@ -1,26 +1,30 @@
--- An answer by what was kept and by the length of the record.
-use Rattle.std.proofs.Common.{◌≡◌, ℕ, length, Option, Some, None, refl, sym, ap, subst}
+-- An answer by the reply that was kept.
+use Rattle.std.proofs.Common.{◌≡◌, ℕ, Option, Some, sym, ap, subst, ◌∙◌}
+use Rattle.std.specs.Prelude.{is_some, IsSome}
+use Rattle.std.proofs.lemmas.Option.{same_Some}
 use Rattle.rulings.specs.Events.{PlainEvent}
 use Rattle.rulings.specs.declared.replies.Reply.{Reply}
-use Rattle.decision_record.specs.History.{CoreParts, MayReply, Steps}
-use Rattle.admission.specs.Answering.{answered, receipt_for, reply_kept}
-use Rattle.admission.proofs.EnteringLemmas.{as_long, was_entered}
+use Rattle.decision_record.specs.History.{CoreParts, Steps}
+use Rattle.admission.specs.Answering.{answered, reply_kept}
+use Rattle.admission.specs.Stepping.{StepsInto}
 
-module _ (core new : CoreParts) (event : PlainEvent) (kept : Option Reply)
-    (replies : (reply : Reply) × (kept ≡ Some reply) × MayReply core event reply new) where
-  kept_may : MayReply core event (reply_kept kept) new
-  kept_may =
-      subst (λ r. MayReply core event r new) (sym (ap reply_kept replies.1)) replies.2
+pub answered_as : (core new : CoreParts) (event : PlainEvent) (kept : Option Reply) (reply : Reply)
+    (number found : Option ℕ)
+    → StepsInto (λ (k : Option Reply) r. k ≡ Some r) core event kept number new
+    → kept ≡ Some reply → number ≡ found → Steps core event (answered event reply found) new
+answered_as core new event kept reply number found steps is same =
+    subst (λ n. Steps core event (answered event reply n) new) same
+    (subst (λ r. Steps core event (answered event r number) new)
+    (same_Some _ _ (sym steps.1 ∙ is)) steps.2)
 
-  -- as long as before
-  pub answered_none : length new.entries ≡ length core.entries
-      → Steps core event (answered event (reply_kept kept) None) new
-  answered_none same = as_long core new event (reply_kept kept) kept_may same
+module _ (core new : CoreParts) (event : PlainEvent) (kept : Option Reply) (number : Option ℕ)
+    (steps : StepsInto (λ (k : Option Reply) r. k ≡ Some r) core event kept number new) where
+  -- one was kept
+  pub kept_some : IsSome kept
+  kept_some = ap is_some steps.1
 
-  -- longer
-  pub answered_some : (length new.entries ≡ length core.entries → ⊥)
-      → (number : ℕ) → number ≡ length new.entries
-      → Steps core event (answered event (reply_kept kept) (Some number)) new
-  answered_some differs number is =
-      was_entered core new event (reply_kept kept) kept_may differs
-      (receipt_for event (reply_kept kept) number) is refl refl refl refl
+  -- with which the event was answered
+  pub kept_steps : Steps core event (answered event (reply_kept kept) number) new
+  kept_steps =
+      subst (λ r. Steps core event (answered event r number) new) (sym (ap reply_kept steps.1))
+      steps.2

@@ -1,21 +1,20 @@
 -- A core: its history, its state and its machine, what it may reply, and what every core keeps.
-use Rattle.std.proofs.Common.{◌≡◌, ◌+◌, Bool, true, false, cond, List, [], ◌∷◌, ◌++◌, length, Option, Some, None, inl, inr, refl, sym, ap, ap₂, subst, ◌∙◌, arith}
+use Rattle.std.proofs.Common.{◌≡◌, ◌+◌, Bool, true, false, cond, List, [], ◌∷◌, ◌++◌, length, Some, inl, inr, refl, sym, ap, ap₂, subst, ◌∙◌, arith}
 use Rattle.rulings.specs.declared.limits.Limits.{Limits}
-use Rattle.rulings.specs.State.{State, MachineParts, bare, opening_of, under}
+use Rattle.rulings.specs.State.{State, MachineParts, opening_of, under}
 use Rattle.rulings.specs.Founded.{IsUnder, takes_memory}
-use Rattle.std.specs.Prelude.{IsSome, is_some}
+use Rattle.std.specs.Prelude.{IsSome}
 use Rattle.std.specs.List.{AllByRecursion}
 use Rattle.command_reader.specs.declared.commands.Command.{Command}
 use Rattle.rulings.specs.Events.{PlainEvent, Registering, Unregistering, Admitting, Answering, Changing, Releasing, Reloading, put_in_force}
-use Rattle.rulings.specs.Ruling.{ruling_of, verdict_of}
-use Rattle.rulings.specs.Step.{places_needed, count_refusal, step, no_memory_reply_of}
+use Rattle.rulings.specs.Ruling.{ruling_of}
+use Rattle.rulings.specs.Lacks.{no_memory_reply_of}
+use Rattle.rulings.specs.Step.{places_needed, step}
 use Rattle.entry_bytes.specs.Entry.{PlainEntry}
 use Rattle.decision_record.specs.History.{entry_of, IsLegal, replay, CoreParts, RecordParts, in_force, generations_of, generations, state_of, with_entry, receipt_of, MayReply, core_after}
 use Rattle.admission.specs.CoreInvariant.{IsOrderKept}
 use Rattle.rulings.specs.Ruling.{Ruling}
-use Rattle.rulings.specs.declared.replies.Reply.{Reply}
 use Rattle.admission.specs.HistoryLaws.{AreAccepted, IsWithinLimits, IsSound}
-use Rattle.rulings.proofs.CarryingLemmas.{counts_alike}
 use Rattle.admission.proofs.VersionLemmas.{all_accepted}
 use Rattle.admission.proofs.HistoryLaws.{records_are_sound}
 use Rattle.admission.proofs.StepLemmas.{step_records}
@@ -43,11 +42,6 @@ replay_counts s (e ∷ es) legal =
     let rest = replay_counts (step s e.event).state es legal.2 in
     let first = step_records s e.event legal.1 in
     omega (arith, rest, first)
-
--- a refusal that the test denies
-pub nothing_if_not : (o : Option Reply) → is_some o ≡ false → o ≡ None
-nothing_if_not None h = refl
-nothing_if_not (Some reply) h = cc
 
 -- ---- a core
 -- a core with this record and these limits
@@ -113,31 +107,6 @@ module _ (machine : MachineParts) (history : RecordParts) (reserved : Bool)
     are_accepted =
         subst (λ (c : CoreParts). AllByRecursion AreAccepted (generations c)) same
         (all_accepted (generations_of history.opening history.entries) kept.accepted)
-
-    -- what a ruling says of the machine of a core
-    module _ (event : PlainEvent) (ruling : Ruling)
-        (given : ruling ≡ ruling_of (state_of core) event) where
-      pub ruled : ruling ≡ ruling_of (state_for machine history) event
-      ruled = given ∙ ap (λ s. ruling_of s event) (sym stands_as)
-
-      pub refusal_is : (refusal found : Option Reply)
-          → refusal ≡ count_refusal (state_for machine history) event ruling → refusal ≡ found
-          → count_refusal (state_for machine history) event
-          (ruling_of (state_for machine history) event) ≡ found
-      refusal_is refusal found refused is =
-          ap (count_refusal (state_for machine history) event) (sym ruled) ∙ sym refused ∙ is
-
-      -- no count refuses, since the test says so
-      pub unrefused : (test : Bool)
-          → test ≡ is_some (count_refusal (bare machine) event ruling) → test ≡ false
-          → count_refusal (state_for machine history) event
-          (ruling_of (state_for machine history) event) ≡ None
-      unrefused test is passed =
-          refusal_is _ _ (counts_alike _ _ _ _)
-          (nothing_if_not (count_refusal (bare machine) event ruling) (sym is ∙ passed))
-
-      pub verdict_is : ruling.verdict ≡ verdict_of (state_for machine history) event
-      verdict_is = ap (λ (r : Ruling). r.verdict) ruled
 
 -- if nothing changes but the room of the record
 pub core_still : (machine new : MachineParts) (history more : RecordParts) (reserved : Bool)

@@ -2,6 +2,7 @@
 use Rattle.std.proofs.Common.{◌≡◌, ◌≤◌, ◌+◌, ℕ, Bool, true, false, cond, List, [], ◌∷◌, ◌++◌, length, Option, Some, None, refl, sym, ap, ap₂, subst, ◌∙◌, arith}
 use Rattle.rulings.specs.State.{State, MachineParts, bare, opening_of, under}
 use Rattle.rulings.specs.Founded.{IsUnder}
+use Rattle.std.proofs.lemmas.List.{length_push}
 use Rattle.std.specs.Prelude.{IfSome}
 use Rattle.std.specs.List.{AllByRecursion}
 use Rattle.command_reader.specs.Accepted.{IsAccepted}
@@ -10,7 +11,10 @@ use Rattle.rulings.specs.Events.{PlainEvent, Reloading, put_in_force}
 use Rattle.rulings.specs.Ruling.{reload_ruling, ruling_of, verdict_of}
 use Rattle.rulings.specs.declared.replies.Reply.TheVariants.{ReloadRefused}
 use Rattle.rulings.specs.declared.replies.ReloadRefusal.TheVariants.{NoMemory}
-use Rattle.rulings.specs.Step.{is_recorded, reload_refusal, count_refusal, state_after, Outcome, outcome_of, step, no_memory_reply_of}
+use Rattle.std.specs.Option.{option_and_then}
+use Rattle.rulings.specs.declared.lacks.Lack.{Lack}
+use Rattle.rulings.specs.Lacks.{lacking, reload_reason, no_memory_reply_of}
+use Rattle.rulings.specs.Step.{is_recorded, are_reloads_spent, is_short, lack_if, count_refusal, state_after, Outcome, outcome_of, step}
 use Rattle.decision_record.specs.History.{entry_of, reload_entry, IsLegal, replay, CoreParts, RecordParts, in_force, in_force_of, generations_of, state_of, receipt_of, unrecorded_reply, IsRecorded, IsUnrecorded}
 use Rattle.rulings.specs.Ruling.{Ruling}
 use Rattle.rulings.specs.declared.replies.Reply.{Reply}
@@ -240,6 +244,14 @@ module _ (machine : MachineParts) (history : RecordParts) (reserved : Bool) (eve
             }) same;
       }
 
+  -- of which the record counts one more
+  pub counts_one : length new.calls ≤ more.kept → IfSome (put_in_force event) IsAccepted
+      → new.records ≡ machine.records + 1
+  counts_one enough asked =
+      counts new more false (kept_on enough asked) ∙ ap length entered
+      ∙ length_push history.entries (entry_of now event)
+      ∙ ap (λ n. n + 1) (sym (counts machine history reserved kept))
+
   -- the step was recorded
   pub was_recorded : (core : CoreParts) → core_with machine.limits history reserved ≡ core
       → (step (state_of core) event).recorded ≡ true
@@ -252,14 +264,18 @@ module _ (machine : MachineParts) (history : RecordParts) (reserved : Bool)
     (kept : IsCore machine history reserved) (core : CoreParts)
     (same : core_with machine.limits history reserved ≡ core) (commands : List Command)
     (ruling : Ruling) where
-  -- what a count says of a reload says it of the state
-  counted : (found : Option Reply) → ruling ≡ reload_ruling (bare machine)
-      → reload_refusal (bare machine) ruling.effect ≡ found
+  -- what the machine lacks for a reload, the state lacks
+  counted : (found : Option Lack) → ruling ≡ reload_ruling (bare machine)
+      → lack_if (are_reloads_spent (bare machine)) (is_short (bare machine) ruling.effect)
+      ≡ found
       → count_refusal (state_for machine history) (Reloading commands)
-      (ruling_of (state_for machine history) (Reloading commands)) ≡ found
+      (ruling_of (state_for machine history) (Reloading commands))
+      ≡ option_and_then (lacking (Reloading commands)) found
   unfolding ruling_of count_refusal
   counted found given is =
-      ap (λ (r : Ruling). reload_refusal (bare machine) r.effect) (sym given) ∙ is
+      ap (λ (r : Ruling). option_and_then (lacking (Reloading commands))
+      (lack_if (are_reloads_spent (bare machine)) (is_short (bare machine) r.effect))) (sym given)
+      ∙ ap (option_and_then (lacking (Reloading commands))) is
 
   -- what is ruled by the machine is ruled by the state
   pub reload_ruled : ruling ≡ reload_ruling (bare machine)
@@ -275,24 +291,27 @@ module _ (machine : MachineParts) (history : RecordParts) (reserved : Bool)
   unfolding ruling_of
   recorded_verdict = refl
 
-  pub reload_refused : (refusal : Reply) → ruling ≡ reload_ruling (bare machine)
-      → reload_refusal (bare machine) ruling.effect ≡ Some refusal
-      → IsUnrecorded core (Reloading commands) refusal core
-  reload_refused refusal given is =
+  pub reload_refused : (lack : Lack) → ruling ≡ reload_ruling (bare machine)
+      → lack_if (are_reloads_spent (bare machine)) (is_short (bare machine) ruling.effect)
+      ≡ Some lack
+      → IsUnrecorded core (Reloading commands) (ReloadRefused (reload_reason lack)) core
+  reload_refused lack given is =
       refuses (state_for machine history) (Reloading commands) core
-      (stands_as machine history reserved kept core same) refusal
-      (counted (Some refusal) given is)
+      (stands_as machine history reserved kept core same) (ReloadRefused (reload_reason lack))
+      (counted (Some lack) given is)
 
-  pub reload_not_recorded : (refusal : Reply) → ruling ≡ reload_ruling (bare machine)
-      → reload_refusal (bare machine) ruling.effect ≡ Some refusal
+  pub reload_not_recorded : (lack : Lack) → ruling ≡ reload_ruling (bare machine)
+      → lack_if (are_reloads_spent (bare machine)) (is_short (bare machine) ruling.effect)
+      ≡ Some lack
       → (step (state_of core) (Reloading commands)).recorded ≡ false
-  reload_not_recorded refusal given is =
+  reload_not_recorded lack given is =
       refused_step (state_for machine history) (Reloading commands) core
-      (stands_as machine history reserved kept core same) refusal
-      (counted (Some refusal) given is)
+      (stands_as machine history reserved kept core same) (ReloadRefused (reload_reason lack))
+      (counted (Some lack) given is)
 
   pub reload_recorded : ruling ≡ reload_ruling (bare machine)
-      → reload_refusal (bare machine) ruling.effect ≡ None
+      → lack_if (are_reloads_spent (bare machine)) (is_short (bare machine) ruling.effect)
+      ≡ None
       → (step (state_of core) (Reloading commands)).recorded ≡ true
   reload_recorded given is =
       ap (λ s. (step s (Reloading commands)).recorded)
@@ -302,7 +321,8 @@ module _ (machine : MachineParts) (history : RecordParts) (reserved : Bool)
       recorded_verdict)
 
   pub reload_lacks_memory : ruling ≡ reload_ruling (bare machine)
-      → reload_refusal (bare machine) ruling.effect ≡ None → (new : CoreParts) → new ≡ core
+      → lack_if (are_reloads_spent (bare machine)) (is_short (bare machine) ruling.effect)
+      ≡ None → (new : CoreParts) → new ≡ core
       → IsUnrecorded core (Reloading commands) (ReloadRefused NoMemory) new
   reload_lacks_memory given is new unchanged =
       lacks_memory (state_for machine history) (Reloading commands) core

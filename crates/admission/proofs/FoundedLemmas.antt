@@ -1,7 +1,7 @@
 -- The effect of a ruling that no count refuses can be carried out.
-use Rattle.std.proofs.Common.{◌≡◌, ◌≤◌, ◌+◌, ◌-◌, Bool, true, false, cond, List, length, ⊎_elim, Option, Some, None, refl, sym, ap, subst, ◌∙◌, true≢false, arith}
-use Rattle.std.specs.Prelude.{ℕ, zero, suc, nat_lt, IsSome}
-use Rattle.std.proofs.lemmas.Bool.{cases_Bool, ltb-false}
+use Rattle.std.proofs.Common.{◌≡◌, ◌≤◌, ◌+◌, ◌-◌, Bool, true, false, cond, List, length, Option, Some, None, refl, sym, ap, subst, ◌∙◌, true≢false, arith}
+use Rattle.std.specs.Prelude.{ℕ, zero, suc, IsSome}
+use Rattle.std.proofs.lemmas.Bool.{ltb-false}
 use Rattle.std.proofs.lemmas.Option.{none-some}
 use Rattle.registry.specs.Endpoint.{EndpointParts}
 use Rattle.registry.specs.Registration.{endpoint_of, is_registered}
@@ -28,16 +28,29 @@ use Rattle.command_reader.specs.declared.commands.Command.{Command}
 use Rattle.rulings.specs.Events.{PlainEvent, Registering, Unregistering, Admitting, Answering, Changing, Releasing, Reloading, endpoint_asking, put_in_force}
 use Rattle.rulings.specs.Routing.{target_for, destination_of, route_of}
 use Rattle.rulings.specs.Ruling.{unrouted, register_refusal, registration_unless, unregistration_ruling, admitted_call, admission_unless, admission_to, call_open_ruling, admission_ruling, answered_call, is_that, repeated_answer, answering_to, answering_ruling, change_unless, change_ruling, release_refused, release_ruling, ruling_of}
-use Rattle.rulings.specs.Step.{is_recorded, places_needed, record_full_reply_of, record_refusal, are_endpoints_full, are_calls_full, count_refusal, with_registered, with_commands, with_effect, no_memory_reply_of}
+use Rattle.std.specs.Option.{option_and_then}
+use Rattle.rulings.specs.declared.lacks.Lack.TheVariants.{Limit, Record}
+use Rattle.rulings.specs.Lacks.{lacking, no_memory_reply_of}
+use Rattle.rulings.specs.Step.{is_recorded, places_needed, lack_if, are_endpoints_full, are_calls_full, count_refusal, with_registered, with_commands, with_effect}
 use Rattle.admission.specs.HistoryLaws.{IsWithinLimits}
 use Rattle.admission.proofs.CallsLemmas.{length-with_call, length-with_changed, length-without_call}
 use Rattle.rulings.specs.Founded.{is_owned, IsFounded}
 
--- ---- what no count refused
-pub not_full : (full : Bool) (refusal : Reply) (rest : Option Reply)
-    → cond full (Some refusal) rest ≡ None → (full ≡ false) × (rest ≡ None)
-not_full true refusal rest h = absurd (none-some refusal (sym h))
-not_full false refusal rest h = (refl, h)
+-- ---- what lacks nothing
+-- it meets no limit
+not_full : (event : PlainEvent) (refusal : Reply) (full short : Bool)
+    → lacking event Limit ≡ Some refusal
+    → option_and_then (lacking event) (lack_if full short) ≡ None → full ≡ false
+not_full event refusal true short replied h = absurd (none-some refusal (sym h ∙ replied))
+not_full event refusal false short replied h = refl
+
+-- and the record has the places
+not_short : (event : PlainEvent) (refusal : Reply) (full short : Bool) → full ≡ false
+    → lacking event Record ≡ Some refusal
+    → option_and_then (lacking event) (lack_if full short) ≡ None → short ≡ false
+not_short event refusal true short free replied h = absurd (true≢false free)
+not_short event refusal false true free replied h = absurd (none-some refusal (sym h ∙ replied))
+not_short event refusal false false free replied h = refl
 
 -- ---- by the kind of event
 module _ (s : State) where
@@ -190,17 +203,19 @@ pub founded : (s : State) (event : PlainEvent) → count_refusal s event (ruling
     → IsFounded s event (ruling_of s event).effect
 unfolding ruling_of count_refusal
 founded s (Registering e) h =
-    registration_founded s e (register_refusal s e) refl (not_full _ _ _ h).0
+    registration_founded s e (register_refusal s e) refl (not_full (Registering e) _ _ _ refl h)
 founded s (Unregistering id) h = unregistration_founded s id
 founded s (Admitting id call digits units) h =
-    admission_founded s id digits call units (endpoint_of s.endpoints id) (not_full _ _ _ h).0
+    admission_founded s id digits call units (endpoint_of s.endpoints id)
+    (not_full (Admitting id call digits units) _ _ _ refl h)
 founded s (Answering id call units) h =
-    answering_founded s id call units (endpoint_of s.endpoints id) (not_full _ _ _ h).0
+    answering_founded s id call units (endpoint_of s.endpoints id)
+    (not_full (Answering id call units) _ _ _ refl h)
 founded s (Changing id call units) h = change_founded s id call units (call_of s.calls call) refl
 founded s (Releasing id call) h = release_founded s id call (call_of s.calls call) refl
 founded s (Reloading commands) h = record {
   puts = refl;
-  left = ltb-false s.limits.reloads s.version (not_full _ _ _ h).0;
+  left = ltb-false s.limits.reloads s.version (not_full (Reloading commands) _ _ _ refl h);
 }
 
 -- ---- releases
@@ -233,39 +248,30 @@ module _ (s : State) (id : List ℕ) (call : ℕ) where
           absurd (true≢false (sym recorded ∙ refused_unrecorded release.NotYours))
 
 -- ---- places
--- the record has the places, if its refusal did not come and the event may be refused for them
-pub has_places : (s : State) (event : PlainEvent) (effect : Effect) (full : Reply)
-    → record_full_reply_of event ≡ Some full → record_refusal s event effect ≡ None
-    → places_needed effect ≤ free_places s
-has_places s event effect full may h =
-    ⊎_elim
-    (λ (short : nat_lt (free_places s) (places_needed effect) ≡ true).
-    absurd (none-some full
-    (sym h ∙ ap (λ t. cond t (record_full_reply_of event) None) short ∙ may)))
-    (λ (enough : nat_lt (free_places s) (places_needed effect) ≡ false).
-    ltb-false (free_places s) (places_needed effect) enough)
-    (cases_Bool (nat_lt (free_places s) (places_needed effect)))
-
--- so it has the places that are needed for a ruling that is recorded
+-- the record has the places that are needed for a ruling that is recorded
 pub places_are_free : (s : State) (event : PlainEvent)
     → count_refusal s event (ruling_of s event) ≡ None
     → is_recorded (ruling_of s event).verdict ≡ true
     → places_needed (ruling_of s event).effect ≤ free_places s
 unfolding count_refusal ruling_of
 places_are_free s (Registering e) h recorded =
-    has_places s (Registering e) _ _ refl (not_full _ _ _ h).1
-places_are_free s (Unregistering id) h recorded = has_places s (Unregistering id) _ _ refl h
+    let full = not_full (Registering e) _ _ _ refl h in
+    ltb-false (free_places s) _ (not_short (Registering e) _ _ _ full refl h)
+places_are_free s (Unregistering id) h recorded =
+    ltb-false (free_places s) _ (not_short (Unregistering id) _ false _ refl refl h)
 places_are_free s (Admitting id call digits units) h recorded =
-    has_places s (Admitting id call digits units) _ _ refl (not_full _ _ _ h).1
+    let full = not_full (Admitting id call digits units) _ _ _ refl h in
+    ltb-false (free_places s) _ (not_short (Admitting id call digits units) _ _ _ full refl h)
 places_are_free s (Answering id call units) h recorded =
-    has_places s (Answering id call units) _ _ refl (not_full _ _ _ h).1
+    let full = not_full (Answering id call units) _ _ _ refl h in
+    ltb-false (free_places s) _ (not_short (Answering id call units) _ _ _ full refl h)
 places_are_free s (Changing id call units) h recorded =
-    has_places s (Changing id call units) _ _ refl h
+    ltb-false (free_places s) _ (not_short (Changing id call units) _ false _ refl refl h)
 places_are_free s (Releasing id call) h recorded =
     let none = closes_by s id call (call_of s.calls call) recorded in omega (arith, none)
 places_are_free s (Reloading commands) h recorded =
-    has_places s (Reloading commands) (ruling_of s (Reloading commands)).effect _ refl
-    (not_full _ _ _ h).1
+    let full = not_full (Reloading commands) _ _ _ refl h in
+    ltb-false (free_places s) _ (not_short (Reloading commands) _ _ _ full refl h)
 
 -- memory may run out only for an event that needs a place
 pub may_lack_memory : (s : State) (event : PlainEvent)

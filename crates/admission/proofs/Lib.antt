@@ -19,6 +19,7 @@ pub mod RowHistoryLemmas
 pub mod RowLawLemmas
 pub mod RowStepLemmas
 pub mod StepLemmas
+pub mod SteppingLemmas
 pub mod TargetLaws
 pub mod ToldRowLemmas
 pub mod VersionLemmas

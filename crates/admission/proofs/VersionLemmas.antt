@@ -1,6 +1,6 @@
 -- The versions that a core has had.
 use Rattle.std.proofs.Common.{◌≡◌, ◌+◌, true, List, [], ◌∷◌, ◌++◌, length, Option, Some, None, refl, sym, ap, subst, ◌∙◌, length-append, Bool, false, cond, true≢false}
-use Rattle.std.specs.Prelude.{nat_lt, Result, Ok, Err, IfOk, IfErr, IfSome, MatchResult}
+use Rattle.std.specs.Prelude.{Result, Ok, Err, IfOk, IfErr, IfSome, MatchResult}
 use Rattle.std.proofs.lemmas.Option.{same_Some}
 use Rattle.std.specs.List.{AllByRecursion, cons_option, filter_map}
 use Rattle.gk_terms.specs.Text.{lines_of}
@@ -10,13 +10,15 @@ use Rattle.command_reader.specs.Reading.{reading_of}
 use Rattle.command_reader.proofs.read_back.File.{file_back}
 use Rattle.admission.specs.HistoryLaws.{AreAccepted}
 use Rattle.command_reader.specs.declared.commands.Command.{Command}
-use Rattle.rulings.specs.State.{State, free_places}
+use Rattle.rulings.specs.State.{State}
 use Rattle.rulings.specs.declared.rulings.Effect.TheVariants.{PutInForce}
 use Rattle.rulings.specs.declared.replies.ReloadRefusal.{ReloadRefusal}
 use Rattle.rulings.specs.declared.replies.ReloadRefusal.TheVariants.{ReloadsSpent, RecordFull, NoMemory}
 use Rattle.rulings.specs.Events.{PlainEvent, Reloading, put_in_force}
 use Rattle.rulings.specs.Ruling.{reload_ruling, ruling_of, verdict_of}
-use Rattle.rulings.specs.Step.{places_needed, are_reloads_spent, count_refusal, outcome_of, step}
+use Rattle.rulings.specs.Step.{are_reloads_spent, is_short, lack_if, count_refusal, outcome_of, step}
+use Rattle.rulings.specs.Lacks.{lacking}
+use Rattle.std.specs.Option.{option_and_then}
 use Rattle.entry_bytes.specs.Entry.{PlainEntry}
 use Rattle.decision_record.specs.History.{CoreParts, entry_of, generations_of, generations, state_of, with_entry, Steps}
 use Rattle.rulings.specs.declared.replies.Reply.{Reply}
@@ -86,12 +88,11 @@ all_accepted (g ∷ gs) all = (unfolded g all.0, all_accepted gs all.1)
 -- a reload that is not recorded is refused by a count
 refused_by : (s : State) (commands : List Command) (spent full : Bool)
     → (outcome_of s (Reloading commands) (reload_ruling s)
-    (cond spent (Some (ReloadRefused ReloadsSpent))
-    (cond full (Some (ReloadRefused RecordFull)) None))).recorded ≡ false
+    (option_and_then (lacking (Reloading commands)) (lack_if spent full))).recorded ≡ false
     → (reason : ReloadRefusal)
     × ((outcome_of s (Reloading commands) (reload_ruling s)
-    (cond spent (Some (ReloadRefused ReloadsSpent))
-    (cond full (Some (ReloadRefused RecordFull)) None))).reply ≡ ReloadRefused reason)
+    (option_and_then (lacking (Reloading commands)) (lack_if spent full))).reply
+    ≡ ReloadRefused reason)
 refused_by s commands true full h = (ReloadsSpent, refl)
 refused_by s commands false true h = (RecordFull, refl)
 refused_by s commands false false h = absurd (true≢false h)
@@ -102,7 +103,7 @@ not_recorded_as : (s : State) (commands : List Command)
 unfolding step count_refusal ruling_of
 not_recorded_as s commands h =
     refused_by s commands (are_reloads_spent s)
-    (nat_lt (free_places s) (places_needed PutInForce)) h
+    (is_short s PutInForce) h
 
 reloaded_as : (s : State) (commands : List Command)
     → verdict_of s (Reloading commands) ≡ Reloaded (s.version + 1)

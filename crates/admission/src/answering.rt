@@ -1,76 +1,39 @@
-//! How a core answers an event with a receipt, or with the number of its entry.
+//! How a core answers an event with a receipt.
 
-ghost use Rattle.std.specs.Prelude.{◌≡◌, true, false, None, IfSome, OnErr, IsSome};
+ghost use Rattle.std.specs.Prelude.{◌≡◌, None, IfSome};
 ghost use Rattle.std.specs.Option.{option_copied};
-ghost use Rattle.rulings.specs.Events as Events;
 ghost use Rattle.rulings.specs.Events.{event_meant, put_in_force};
-ghost use Rattle.rulings.specs.Lent.{IsPlanOf};
-ghost use Rattle.rulings.specs.Step.{step};
+ghost use Rattle.rulings.specs.declared.events.EventKind.TheVariants as EventKind;
 ghost use Rattle.decision_record.specs.History.{state_of, Steps};
 ghost use Rattle.admission.specs.Answering as Spec;
-ghost use Rattle.admission.specs.Answering.{IsRoutedFor, answered, reply_kept};
+ghost use Rattle.admission.specs.Answering.{IsRoutedFor};
 
 use crate::cores::Core;
-use compiler::{Plan, Routed};
+use compiler::Routed;
 use decision_record::Receipt;
-use rulings::{Event, EventKind, KeptReply, LentEvent, Reply};
+use rulings::{EventKind, KeptReply, LentEvent, Reply};
 
 impl Core {
-    /// Answers an event that is lent, and is not a reload, as `answer` does: the reply is kept in
-    /// place, and the number of the event's entry is given back if it was recorded, from which its
-    /// receipt can be made. For whoever answers many. An admission is planned by the tables in
-    /// force, unless its digits were routed under their version, and by the technology prefixes that
-    /// gateways gave.
-    pub fn answer_lent(
+    #[tactic(auto, using(crate::proofs::AnsweringLemmas::answered_as))]
+    /// Answers an event that is lent, and is not a reload, as `answer` does. An admission is planned
+    /// as by `step`.
+    pub(crate) fn answer_lent(
         &mut self,
         routed: Option<&Routed>,
         event: &LentEvent<'_>,
-        kept: &mut KeptReply,
-    ) -> Option<u32>
+    ) -> Result<(Reply, Receipt), Reply>
         requires planned { IfSome (option_copied routed)
             (IsRoutedFor (state_of self.old) (event_meant event.now)) }
         requires other { put_in_force (event_meant event.now) ≡ None }
-        ensures kept { IsSome kept.new.kept }
-        ensures step { Steps self.old (event_meant event.now)
-            (answered (event_meant event.now) (reply_kept kept.new.kept) result) self.new }
+        ensures { Steps self.old (event_meant event.now) result self.new }
     {
-        let before = self.history.len();
-        self.reply_lent(routed, event, kept);
-        if self.history.len() == before {
-            return None;
+        let mut kept = KeptReply::none();
+        let number = self.step(routed, event, &mut kept);
+        let reply = kept.reply();
+        match number {
+            Some(number) => Ok((reply, receipt_for(event, &reply, number))),
+            None => Err(reply),
         }
-        Some(self.machine.records())
-    }
-
-    /// Answers an event as `answer` does. An admission is planned by the tables in force, unless
-    /// their plan for its digits is given.
-    pub(crate) fn answer_by(
-        &mut self,
-        planned: Option<&Plan>,
-        event: Event,
-    ) -> Result<(Reply, Receipt), Reply>
-        requires planned { IfSome (option_copied planned)
-            (IsPlanOf (state_of self.old).commands (Events.plain event)) }
-        ensures step { Steps self.old (Events.plain event) result self.new }
-        ensures reserved { self.old.reserved ≡ true → IsSome (put_in_force (Events.plain event))
-            → OnErr result ((step (state_of self.old) (Events.plain event)).recorded ≡ false) }
-    {
-        let before = self.history.len();
-        let kind = event.kind();
-        let id = event.id();
-        let call = event.call();
-        let reply = &self.reply_by(planned, event);
-        if self.history.len() == before {
-            return Err(*reply);
-        }
-        let receipt = Receipt {
-            number: self.machine.records(),
-            kind,
-            id,
-            call,
-            reply: *reply,
-        };
-        Ok((*reply, receipt))
     }
 }
 
@@ -121,12 +84,25 @@ pub fn receipt_for(event: &LentEvent<'_>, reply: &Reply, number: u32) -> Receipt
             call: Some(*call),
             reply: *reply,
         },
-        LentEvent::Reload(_) => Receipt {
-            number,
-            kind: EventKind::Reload,
-            id: None,
-            call: None,
-            reply: *reply,
-        },
+        LentEvent::Reload(_) => reload_receipt(reply, number),
+    }
+}
+
+/// The receipt of a reload with this reply, if its entry has this number.
+pub(crate) fn reload_receipt(reply: &Reply, number: u32) -> Receipt
+    ensures { result ≡ record {
+      number = number;
+      kind = EventKind.Reload;
+      id = None;
+      call = None;
+      reply = reply.now;
+    } }
+{
+    Receipt {
+        number,
+        kind: EventKind::Reload,
+        id: None,
+        call: None,
+        reply: *reply,
     }
 }

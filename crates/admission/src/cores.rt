@@ -9,17 +9,18 @@ ghost use Rattle.rulings.specs.State.{opening_of};
 ghost use Rattle.rulings.specs.Limits.{are_limits};
 ghost use Rattle.compiler.specs.Plan.{plan_of, target_of};
 ghost use Rattle.rulings.specs.Step.{step};
-ghost use Rattle.decision_record.specs.History.{generations, IsLegal, IsUnrecorded, MayReply, state_of, Steps, with_entry};
+ghost use Rattle.decision_record.specs.History.{generations, IsLegal, IsUnrecorded, state_of, Steps};
 ghost use Rattle.rulings.specs.Founded.{IsUnder};
 ghost use Rattle.admission.specs.HistoryLaws.{AreAccepted, IsSound};
 ghost use Rattle.std.specs.List.{AllByRecursion};
 
+use crate::answering::reload_receipt;
 use bandwidth::OpenCalls;
-use compiler::{Plan, Routed, Tables};
+use compiler::{Routed, Tables};
 use decision_record::{Draft, RELOAD_BYTES, Receipt, Record};
 use gk_terms::{Dialled, Name, Units, Version};
 use registry::{Endpoint, Registry};
-use rulings::{Event, Limits, Machine, ReloadRefusal, Reply};
+use rulings::{Event, KeptReply, Limits, Machine, ReloadRefusal, Reply};
 use std::alloc::Global;
 use std::marker::Model;
 use std::sync::Arc;
@@ -125,14 +126,13 @@ impl Core {
         ensures { Steps self.old (Events.Admitting id.now call routed.now.dialled units)
             result self.new }
     {
-        let plan = &self.plan_for(routed);
-        let event = Event::Admit {
+        let event = &Event::Admit {
             id: *id,
             call,
             digits: routed.dialled,
             units,
         };
-        self.answer_by(Some(plan), event)
+        self.answer_lent(Some(routed), &event.lent())
     }
 
     /// Lets an endpoint answer a call. A call of a number that is not open comes from a zone of
@@ -195,7 +195,13 @@ impl Core {
     {
         // So it is known which version comes next.
         let _before = self.version();
-        self.answer(Event::Reload(tables))
+        let mut kept = KeptReply::none();
+        let number = self.step_reload(tables, &mut kept);
+        let reply = kept.reply();
+        match number {
+            Some(number) => Ok((reply, reload_receipt(&reply, number))),
+            None => Err(reply),
+        }
     }
 
     /// Keeps a place for the entry of a reload of these tables, so that `reload`, if it is the next
@@ -214,8 +220,10 @@ impl Core {
     {
         let _ = tables;
         let ruling = &self.machine.reload();
-        if let Some(refusal) = self.machine.reload_refusal(ruling) {
-            return Err(refusal);
+        if let Some(lack) = self.machine.reload_lack(ruling) {
+            return Err(Reply::ReloadRefused {
+                reason: lack.of_reload(),
+            });
         }
         if self.reserved {
             return Ok(());
@@ -243,17 +251,10 @@ impl Core {
         ensures reserved { self.old.reserved ≡ true → IsSome (put_in_force (Events.plain event))
             → OnErr result ((step (state_of self.old) (Events.plain event)).recorded ≡ false) }
     {
-        self.answer_by(None, event)
-    }
-
-    /// Answers an event as `answer` does, for a caller that keeps no receipt.
-    pub fn reply(&mut self, event: Event) -> Reply
-        ensures reply { MayReply self.old (Events.plain event) result self.new }
-        ensures reserved { self.old.reserved ≡ true → IsSome (put_in_force (Events.plain event))
-            → (step (state_of self.old) (Events.plain event)).recorded ≡ true
-            → self.new ≡ with_entry self.old (Events.plain event) }
-    {
-        self.reply_by(None, event)
+        match event {
+            Event::Reload(tables) => self.reload(tables),
+            event => self.answer_lent(None, &event.lent()),
+        }
     }
 
     /// What the tables in force say of the digits.
@@ -264,22 +265,6 @@ impl Core {
             ≡ Some (plan_of (state_of self.now).commands digits.now) }
     {
         self.tables().routed(self.version(), digits)
-    }
-
-    /// The plan of the tables in force for the digits: the one given if it is of the version in
-    /// force, else made anew.
-    pub(crate) fn plan_for(&self, routed: &Routed) -> Plan
-        requires { routed.now.version ≡ (state_of self.now).version
-            → target_of (state_of self.now).commands routed.now.plan
-            ≡ Some (plan_of (state_of self.now).commands routed.now.dialled) }
-        ensures { target_of (state_of self.now).commands result
-            ≡ Some (plan_of (state_of self.now).commands routed.now.dialled) }
-    {
-        if routed.version == self.version() {
-            routed.plan
-        } else {
-            self.tables().plan(&routed.dialled)
-        }
     }
 
     // ---- views

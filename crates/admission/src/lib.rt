@@ -5,9 +5,9 @@ mod answering;
 pub mod cores;
 mod entering;
 pub mod laws;
-mod replying;
 mod settling;
 mod snapshots;
+mod stepping;
 
 pub use answering::receipt_for;
 pub use call_rows::{

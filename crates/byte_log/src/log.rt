@@ -31,7 +31,7 @@ pub struct ByteLog {
     places: PlaceList,
 }
 
-/// What threads may share and pass on, as a trial's may a log of the record.
+/// What threads may share and pass on, as those of a server do a record with its log.
 trait Shared: Send + Sync {}
 
 impl Shared for ByteLog {}

@@ -5,7 +5,8 @@ use Rattle.command_reader.specs.Configuration.{Configuration}
 use Rattle.rulings.specs.State.{State}
 use Rattle.rulings.specs.Events.{PlainEvent, Reloading, kind_of, id_of, call_number_of, put_in_force}
 use Rattle.rulings.specs.Ruling.{ruling_of}
-use Rattle.rulings.specs.Step.{step, no_memory_reply_of}
+use Rattle.rulings.specs.Lacks.{no_memory_reply_of}
+use Rattle.rulings.specs.Step.{step}
 use Rattle.rulings.specs.declared.replies.Reply.{Reply}
 use Rattle.rulings.specs.declared.replies.Reply.TheVariants as reply
 use Rattle.entry_bytes.specs.Entry.{PlainEntry, asked_id, entry_by, unrouted_entry}

@@ -16,7 +16,8 @@ use Rattle.rulings.specs.Lent.{ruling_meant}
 use Rattle.rulings.specs.Routing.{destination_of, route_of, target_for}
 use Rattle.rulings.specs.Ruling.{Ruling, admission_ruling, admission_to, admission_unless, admitted_call, answered_call, answering_ruling, answering_to, call_open_ruling, change_ruling, change_unless, is_that, register_refusal, registration_unless, release_refused, release_ruling, repeated_answer, ruling_of, unrouted}
 use Rattle.rulings.specs.State.{State}
-use Rattle.rulings.specs.Step.{no_memory_reply_of, places_needed}
+use Rattle.rulings.specs.Lacks.{no_memory_reply_of}
+use Rattle.rulings.specs.Step.{places_needed}
 use Rattle.rulings.specs.declared.lent_rulings.LentRuling.{LentRuling}
 use Rattle.rulings.specs.declared.lent_rulings.LentRuling.TheVariants as ruling
 use Rattle.rulings.specs.declared.replies.ChangeRefusal.TheVariants as change

@@ -3,7 +3,8 @@ use Rattle.std.specs.Prelude.{◌≡◌, ℕ, Bool, true, false, List, [], Optio
 use Rattle.rulings.specs.Events.{PlainEvent, Registering, Unregistering, Admitting, Answering, Changing, Releasing, Reloading}
 use Rattle.rulings.specs.Lent.{destination_meant}
 use Rattle.rulings.specs.Ruling.{Ruling}
-use Rattle.rulings.specs.Step.{no_memory_reply_of, opens_call}
+use Rattle.rulings.specs.Lacks.{no_memory_reply_of}
+use Rattle.rulings.specs.Step.{opens_call}
 use Rattle.rulings.specs.declared.lent_rulings.LentRuling.{LentRuling}
 use Rattle.rulings.specs.declared.lent_rulings.LentRuling.TheVariants as ruling
 use Rattle.rulings.specs.declared.replies.AdmitRefusal.{AdmitRefusal}

@@ -2,7 +2,7 @@
 
 ghost use Rattle.std.specs.Prelude.{◌≡◌, ◌≤◌, None, length};
 ghost use Rattle.rulings.specs.Events.{event_meant, put_in_force, Admitting, Answering, Changing, Releasing};
-ghost use Rattle.rulings.specs.Step.{no_memory_reply_of};
+ghost use Rattle.rulings.specs.Lacks.{no_memory_reply_of};
 ghost use Rattle.field_bytes.specs.Adding.{Adds, HasRoom};
 ghost use Rattle.entry_bytes.specs.EventBytes.{IsEvent, event_bytes};
 ghost use Rattle.entry_bytes.specs.ReadEvent.{HasRightEndpoint};

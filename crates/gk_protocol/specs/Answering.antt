@@ -8,6 +8,7 @@ use Rattle.command_reader.specs.Configuration.{Configuration}
 use Rattle.command_reader.specs.Reading.{reading_in, MayRead}
 use Rattle.rulings.specs.Events.{PlainEvent, Registering, Unregistering, Admitting, Answering, Changing, Releasing, Reloading}
 use Rattle.rulings.specs.declared.replies.Reply.{Reply as CoreReply}
+use Rattle.decision_record.specs.declared.entries.Receipt.{Receipt}
 use Rattle.call_rows.specs.Rows.{SnapshotParts}
 use Rattle.trial_run.specs.Report.{report_of}
 use Rattle.trial_run.specs.ReportText.{report_text}
@@ -40,6 +41,11 @@ IsNoTablesFor fault (none.Faulty other) = (other ≡ fault) × (fault.kind ≢ f
 IsNoTablesFor fault none.NoMemory = fault.kind ≡ fault_kind.NoMemory
 
 -- ---- events, by the replies that are allowed to them
+-- the reply in what a core or a seat answered, whether or not the event was recorded
+abbrev pub reply_in : Result (CoreReply × Receipt) CoreReply → CoreReply
+reply_in (Ok answer) = answer.0
+reply_in (Err reply) = reply
+
 module _ {S : Type 0} (MayReply : S → PlainEvent → CoreReply → S → Type 0) where
   -- the answer is a reply that is allowed to the event, and repeats the request's sequence number
   abbrev pub Replies : S → ℕ → PlainEvent → Answer → S → Type 0

@@ -1,6 +1,7 @@
 pub mod Answering
 pub mod Answers
 pub mod AnswersLine
+pub mod AskedEvents
 pub mod Asking
 pub mod CoreAnswers
 pub mod EndpointFiles

@@ -1,13 +1,10 @@
 //! Who answers requests.
 
-ghost use Rattle.rulings.specs.Events.{plain};
-ghost use Rattle.gk_protocol.specs.CoreAnswers.{Replies};
 ghost use Rattle.gk_protocol.specs.Hearing.{AnswersInto};
 
 use crate::answers::Answer;
 use crate::reply_lines::ReplyLine;
 use crate::requests::Request;
-use admission::{Core, Event};
 use std::alloc::Global;
 
 /// Who answers the requests of a session, as a core does.
@@ -29,15 +26,5 @@ pub trait Answerer {
         ensures { AnswersInto may_answer self.old request reply.new.text self.new }
     {
         reply.show(self.answer(alloc, request));
-    }
-}
-
-/// The core's reply to an event, as the answer to the request of this number.
-pub(crate) fn replied(core: &mut Core, sequence: u32, event: Event) -> Answer
-    ensures { Replies core.old sequence (plain event) result core.new }
-{
-    Answer::Reply {
-        sequence,
-        reply: core.reply(event),
     }
 }

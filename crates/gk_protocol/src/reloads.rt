@@ -1,16 +1,20 @@
 //! Reloads: another configuration in place of the one in force.
 
 ghost use Rattle.std.specs.Prelude.{◌≡◌};
+ghost use Rattle.std.specs.Arc.{arc_value};
 ghost use Rattle.gk_terms.specs.Text.{lines_of};
-ghost use Rattle.gk_protocol.specs.CoreAnswers.{MayReload};
+ghost use Rattle.rulings.specs.Events.{Reloading};
+ghost use Rattle.gk_protocol.specs.Answering.{reply_in};
+ghost use Rattle.gk_protocol.specs.CoreAnswers.{MayReload, Replies};
 ghost use Rattle.gk_protocol.specs.Requests.{reload_without_memory};
 
-use crate::answerer::replied;
 use crate::answers::Answer;
 use crate::owned_lines::OwnedLines;
 use crate::owned_tables::{NoTables, tables_of};
-use admission::{Core, Event, ReloadRefusal, Reply};
+use admission::{Core, Receipt, ReloadRefusal, Reply};
+use compiler::Tables;
 use std::alloc::Global;
+use std::sync::Arc;
 
 /// Answers `CFG`: reads the lines, compiles them and puts them in force, whole. The lines are read
 /// and compiled before anything is asked of the core: a fault of a line is named although no
@@ -25,9 +29,28 @@ pub(crate) fn reload(
     ensures { MayReload core.old sequence (lines_of lines.old) result core.new }
 {
     match tables_of(alloc, lines) {
-        Ok(tables) => replied(core, sequence, Event::Reload(tables)),
+        Ok(tables) => put_in_force(core, sequence, tables),
         Err(NoTables::Faulty(fault)) => Answer::Misconfigured { sequence, fault },
         Err(NoTables::NoMemory) => reload_without_memory(sequence),
+    }
+}
+
+/// Puts these tables in force: the core's reply, as the answer to the request of this number.
+fn put_in_force(core: &mut Core, sequence: u32, tables: Arc<Tables>) -> Answer
+    ensures { Replies core.old sequence (Reloading (arc_value tables).commands) result core.new }
+{
+    let answer = core.reload(tables);
+    let reply = reply_in(&answer);
+    Answer::Reply { sequence, reply }
+}
+
+/// The reply in what a core or a seat answered, whether or not the event was recorded.
+pub fn reply_in(answer: &Result<(Reply, Receipt), Reply>) -> Reply
+    ensures { result ≡ reply_in answer.now }
+{
+    match answer {
+        Ok((reply, _)) => *reply,
+        Err(reply) => *reply,
     }
 }
 

@@ -1,6 +1,12 @@
 //! Requests, as they are read.
 
+ghost use Rattle.std.specs.Prelude.{◌≡◌};
+ghost use Rattle.std.specs.Option.{option_map};
+ghost use Rattle.rulings.specs.Events.{event_meant};
+ghost use Rattle.gk_protocol.specs.AskedEvents as Spec;
+
 use crate::owned_lines::OwnedLines;
+use admission::LentEvent;
 use gk_terms::{Dialled, Name, Units};
 use registry::Endpoint;
 
@@ -83,4 +89,67 @@ pub enum Request {
         /// The lines of the configuration.
         lines: OwnedLines,
     },
+}
+
+impl Request {
+    /// The sequence number, 1 to 65535, which the reply repeats.
+    pub fn sequence(&self) -> u32
+        ensures { result ≡ Spec.sequence_of self.now }
+    {
+        match self {
+            Request::Register { sequence, .. }
+            | Request::Unregister { sequence, .. }
+            | Request::Admit { sequence, .. }
+            | Request::Incoming { sequence, .. }
+            | Request::Change { sequence, .. }
+            | Request::Release { sequence, .. }
+            | Request::Reload { sequence, .. }
+            | Request::Try { sequence, .. } => *sequence,
+        }
+    }
+
+    /// The event that it asks for, of which the names and the endpoint are lent; nothing for a
+    /// reload, which asks for one by its lines, and for a trial.
+    pub fn event(&self) -> Option<LentEvent<'_>>
+        ensures { option_map event_meant result ≡ Spec.asked_event self.now }
+    {
+        match self {
+            Request::Register { endpoint, .. } => Some(LentEvent::Register(endpoint)),
+            Request::Unregister { id, .. } => Some(LentEvent::Unregister { id }),
+            Request::Admit {
+                id,
+                call,
+                digits,
+                units,
+                ..
+            } => Some(LentEvent::Admit {
+                id,
+                call: *call,
+                digits,
+                units: *units,
+            }),
+            Request::Incoming {
+                id,
+                call,
+                units,
+                ..
+            } => Some(LentEvent::Incoming {
+                id,
+                call: *call,
+                units: *units,
+            }),
+            Request::Change {
+                id,
+                call,
+                units,
+                ..
+            } => Some(LentEvent::Change {
+                id,
+                call: *call,
+                units: *units,
+            }),
+            Request::Release { id, call, .. } => Some(LentEvent::Release { id, call: *call }),
+            Request::Reload { .. } | Request::Try { .. } => None,
+        }
+    }
 }

@@ -1,15 +1,17 @@
 //! A core with the threads to try other configurations with.
 
-ghost use Rattle.std.specs.Prelude.{◌≡◌};
-ghost use Rattle.gk_protocol.specs.CoreAnswers.{MayAnswer};
+ghost use Rattle.std.specs.Prelude.{◌≡◌, None};
+ghost use Rattle.rulings.specs.Events.{event_meant, put_in_force};
+ghost use Rattle.gk_protocol.specs.AskedEvents.{asked_event};
+ghost use Rattle.gk_protocol.specs.CoreAnswers.{MayAnswer, Replies};
 
-use crate::answerer::{Answerer, replied};
+use crate::answerer::Answerer;
 use crate::answers::Answer;
 use crate::reloads::reload;
 use crate::reply_lines::ReplyLine;
 use crate::requests::Request;
 use crate::trials::tried;
-use admission::{Core, Event};
+use admission::{Core, KeptReply, LentEvent};
 use std::alloc::Global;
 use std::marker::Model;
 use std::sync::Wait;
@@ -46,115 +48,54 @@ impl<'r, R> TryingCore<'r, R> {
     }
 }
 
-impl<R: Threads + Wait> Answerer for TryingCore<'_, R> {
-    ghost may_answer = { MayAnswer };
-
-    fn answer(&mut self, alloc: Global, request: Request) -> Answer {
-        match request {
-            Request::Register { sequence, endpoint } => {
-                replied(&mut self.core, sequence, Event::Register(endpoint))
-            }
-            Request::Unregister { sequence, id } => {
-                replied(&mut self.core, sequence, Event::Unregister { id })
-            }
-            Request::Admit {
-                sequence,
-                id,
-                call,
-                digits,
-                units,
-            } => {
-                let event = Event::Admit {
-                    id,
-                    call,
-                    digits,
-                    units,
-                };
-                replied(&mut self.core, sequence, event)
-            }
-            Request::Incoming {
-                sequence,
-                id,
-                call,
-                units,
-            } => replied(
-                &mut self.core,
-                sequence,
-                Event::Incoming { id, call, units },
-            ),
-            Request::Change {
-                sequence,
-                id,
-                call,
-                units,
-            } => replied(&mut self.core, sequence, Event::Change { id, call, units }),
-            Request::Release { sequence, id, call } => {
-                replied(&mut self.core, sequence, Event::Release { id, call })
-            }
-            Request::Reload {
-                sequence,
-                mut lines,
-            } => { reload(&mut self.core, alloc, sequence, &mut lines) }
-            Request::Try {
-                sequence,
-                workers,
-                mut lines,
-            } => tried(self.rt, alloc, &self.core, sequence, workers, &mut lines),
-        }
+impl<R: Threads + Wait> TryingCore<'_, R> {
+    /// The core's reply to an event that is lent, and is not a reload, as the answer to the request
+    /// of this number.
+    fn replied(&mut self, sequence: u32, event: &LentEvent<'_>) -> Answer
+        requires { put_in_force (event_meant event.now) ≡ None }
+        ensures { Replies self.old sequence (event_meant event.now) result self.new }
+    {
+        let mut kept = KeptReply::none();
+        let _number = self.core.step(None, event, &mut kept);
+        let reply = kept.reply();
+        Answer::Reply { sequence, reply }
     }
 
-    fn answer_into(&mut self, alloc: Global, mut request: Request, reply: &mut ReplyLine) {
-        match &mut request {
-            Request::Register { sequence, endpoint } => {
-                reply.repeat(*sequence);
-                self.core.register_into(endpoint, reply);
-            }
-            Request::Unregister { sequence, id } => {
-                reply.repeat(*sequence);
-                self.core.unregister_into(id, reply);
-            }
-            Request::Admit {
-                sequence,
-                id,
-                call,
-                digits,
-                units,
-            } => {
-                reply.repeat(*sequence);
-                self.core.admit_into(id, *call, digits, *units, reply);
-            }
-            Request::Incoming {
-                sequence,
-                id,
-                call,
-                units,
-            } => {
-                reply.repeat(*sequence);
-                self.core.incoming_into(id, *call, *units, reply);
-            }
-            Request::Change {
-                sequence,
-                id,
-                call,
-                units,
-            } => {
-                reply.repeat(*sequence);
-                self.core.change_into(id, *call, *units, reply);
-            }
-            Request::Release { sequence, id, call } => {
-                reply.repeat(*sequence);
-                self.core.release_into(id, *call, reply);
-            }
+    /// Answers a request whose lines say what it asks for.
+    fn answer_lines(&mut self, alloc: Global, request: &mut Request) -> Answer
+        requires { asked_event request.old ≡ None }
+        ensures { MayAnswer self.old request.old result self.new }
+    {
+        match request {
             Request::Reload { sequence, lines } => {
-                reply.show(reload(&mut self.core, alloc, *sequence, lines));
+                reload(&mut self.core, alloc, *sequence, lines)
             }
             Request::Try {
                 sequence,
                 workers,
                 lines,
-            } => {
-                reply.show(tried(self.rt, alloc, &self.core, *sequence, *workers, lines));
-            }
+            } => tried(self.rt, alloc, &self.core, *sequence, *workers, lines),
+            _ => unreachable!(),
         }
+    }
+}
+
+impl<R: Threads + Wait> Answerer for TryingCore<'_, R> {
+    ghost may_answer = { MayAnswer };
+
+    fn answer(&mut self, alloc: Global, mut request: Request) -> Answer {
+        if let Some(event) = &request.event() {
+            return self.replied(request.sequence(), event);
+        }
+        self.answer_lines(alloc, &mut request)
+    }
+
+    fn answer_into(&mut self, alloc: Global, mut request: Request, reply: &mut ReplyLine) {
+        if let Some(event) = &request.event() {
+            reply.repeat(request.sequence());
+            let _number = self.core.step(None, event, reply);
+            return;
+        }
+        reply.show(self.answer_lines(alloc, &mut request));
     }
 }

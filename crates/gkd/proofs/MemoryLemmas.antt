@@ -25,7 +25,10 @@ use Rattle.rulings.specs.State.{State}
 use Rattle.rulings.specs.Events.{PlainEvent, Registering, Unregistering, Admitting, Answering, Changing, Releasing, Reloading}
 use Rattle.rulings.specs.Routing.{destination_of, target_for, route_of}
 use Rattle.rulings.specs.Ruling.{Ruling, register_refusal, registration_unless, admitted_call, admission_unless, admission_to, admission_ruling, answered_call, answering_ruling, answering_to, call_open_ruling, repeated_answer, change_unless, change_ruling, unrouted, ruling_of}
-use Rattle.rulings.specs.Step.{count_refusal, outcome_of, step, no_memory_reply_of}
+use Rattle.std.specs.Option.{option_and_then}
+use Rattle.rulings.specs.declared.lacks.Lack.TheVariants.{Limit, Record}
+use Rattle.rulings.specs.Lacks.{lacking, no_memory_reply_of}
+use Rattle.rulings.specs.Step.{count_refusal, is_short, lack_if, outcome_of, step}
 
 -- what holds of both
 either : {X : Type 0} (P : X → Type 0) (t : Bool) (x y : X) → P x → P y → P (cond t x y)
@@ -104,20 +107,28 @@ change_apart s id call units (Some held) h =
 
 -- ---- steps
 -- a step's reply is a refusal by a count, or the verdict
-outcome_apart : (s : State) (event : PlainEvent) (ruling : Ruling) (lacking : Reply)
-    (refusal : Option Reply) → Some lacking ≢ refusal → lacking ≢ ruling.verdict
-    → lacking ≢ (outcome_of s event ruling refusal).reply
-outcome_apart s event ruling lacking (Some reply) counts ruled = λ h. counts (ap Some h)
-outcome_apart s event ruling lacking None counts ruled = ruled
+outcome_apart : (s : State) (event : PlainEvent) (ruling : Ruling) (no_memory : Reply)
+    (refusal : Option Reply) → Some no_memory ≢ refusal → no_memory ≢ ruling.verdict
+    → no_memory ≢ (outcome_of s event ruling refusal).reply
+outcome_apart s event ruling no_memory (Some reply) counts ruled = λ h. counts (ap Some h)
+outcome_apart s event ruling no_memory None counts ruled = ruled
 
-step_apart : (s : State) (event : PlainEvent) (lacking : Reply) → Some lacking ≢ count_refusal s
-    event (ruling_of s event) → lacking ≢ (ruling_of s event).verdict
-    → Some lacking ≢ Some (step s event).reply
+step_apart : (s : State) (event : PlainEvent) (no_memory : Reply) → Some no_memory ≢ count_refusal s
+    event (ruling_of s event) → no_memory ≢ (ruling_of s event).verdict
+    → Some no_memory ≢ Some (step s event).reply
 unfolding step
-step_apart s event lacking counts ruled h =
-    let same : lacking ≡ (step s event).reply = cc in
-    outcome_apart s event (ruling_of s event) lacking (count_refusal s event (ruling_of s event))
+step_apart s event no_memory counts ruled h =
+    let same : no_memory ≡ (step s event).reply = cc in
+    outcome_apart s event (ruling_of s event) no_memory (count_refusal s event (ruling_of s event))
     counts ruled same
+
+-- what is lacking by a count is not what is lacking here
+counts_apart : (event : PlainEvent) (refusal : Reply) (at_limit short : Bool)
+    → Some refusal ≢ lacking event Limit → Some refusal ≢ lacking event Record
+    → Some refusal ≢ option_and_then (lacking event) (lack_if at_limit short)
+counts_apart event refusal true short limit places h = limit h
+counts_apart event refusal false true limit places h = places h
+counts_apart event refusal false false limit places h = cc
 
 pub lasts : (s : State) (event : PlainEvent) → no_memory_reply_of event ≢ Some (step s event).reply
 unfolding count_refusal ruling_of
@@ -126,9 +137,8 @@ lasts s (Registering e) =
     refusal in
     let endpoints : P (Some (RegisterRefused e.id register.EndpointsFull)) = λ h. cc in
     let records : P (Some (RegisterRefused e.id register.RecordFull)) = λ h. cc in
-    let none : P None = λ h. cc in
     step_apart s (Registering e) (RegisterRefused e.id register.NoMemory)
-    (either P _ _ _ endpoints (either P _ _ _ records none))
+    (counts_apart (Registering e) _ _ _ endpoints records)
     (register_apart s e (register_refusal s e) (register_refusal_apart s e))
 lasts s (Unregistering id) =
     let P : Option Reply → Type 0 = λ refusal. Some (UnregisterRefused id unregister.NoMemory) ≢
@@ -140,23 +150,22 @@ lasts s (Unregistering id) =
     let left : Q (unrouted (Unregistered id) (Remove id)) = λ h. cc in
     let unknown : Q (unrouted (UnregisterRefused id unregister.NotRegistered) Nothing) = λ h. cc in
     step_apart s (Unregistering id) (UnregisterRefused id unregister.NoMemory)
-    (either P _ _ _ records none)
+    (counts_apart (Unregistering id) _ false
+    (is_short s (ruling_of s (Unregistering id)).effect) none records)
     (either Q _ _ _ (either Q _ _ _ calls left) unknown)
 lasts s (Admitting id call digits units) =
     let P : Option Reply → Type 0 = λ refusal. Some (AdmitRefused call admit.NoMemory) ≢ refusal in
     let calls : P (Some (AdmitRefused call admit.CallsFull)) = λ h. cc in
     let records : P (Some (AdmitRefused call admit.RecordFull)) = λ h. cc in
-    let none : P None = λ h. cc in
     step_apart s (Admitting id call digits units) (AdmitRefused call admit.NoMemory)
-    (either P _ _ _ calls (either P _ _ _ records none))
+    (counts_apart (Admitting id call digits units) _ _ _ calls records)
     (admit_apart s call digits units (endpoint_of s.endpoints id))
 lasts s (Answering id call units) =
     let P : Option Reply → Type 0 = λ refusal. Some (AdmitRefused call admit.NoMemory) ≢ refusal in
     let calls : P (Some (AdmitRefused call admit.CallsFull)) = λ h. cc in
     let records : P (Some (AdmitRefused call admit.RecordFull)) = λ h. cc in
-    let none : P None = λ h. cc in
     step_apart s (Answering id call units) (AdmitRefused call admit.NoMemory)
-    (either P _ _ _ calls (either P _ _ _ records none))
+    (counts_apart (Answering id call units) _ _ _ calls records)
     (answer_apart s call units (endpoint_of s.endpoints id))
 lasts s (Changing id call units) =
     let P : Option Reply → Type 0 = λ refusal. Some (ChangeRefused call change.NoMemory) ≢ refusal
@@ -164,13 +173,13 @@ lasts s (Changing id call units) =
     let records : P (Some (ChangeRefused call change.RecordFull)) = λ h. cc in
     let none : P None = λ h. cc in
     step_apart s (Changing id call units) (ChangeRefused call change.NoMemory)
-    (either P _ _ _ records none)
+    (counts_apart (Changing id call units) _ false
+    (is_short s (ruling_of s (Changing id call units)).effect) none records)
     (change_apart s id call units (call_of s.calls call))
 lasts s (Releasing id call) = λ h. cc
 lasts s (Reloading commands) =
     let P : Option Reply → Type 0 = λ refusal. Some (ReloadRefused reload.NoMemory) ≢ refusal in
     let spent : P (Some (ReloadRefused reload.ReloadsSpent)) = λ h. cc in
     let records : P (Some (ReloadRefused reload.RecordFull)) = λ h. cc in
-    let none : P None = λ h. cc in
     step_apart s (Reloading commands) (ReloadRefused reload.NoMemory)
-    (either P _ _ _ spent (either P _ _ _ records none)) (λ h. cc)
+    (counts_apart (Reloading commands) _ _ _ spent records) (λ h. cc)

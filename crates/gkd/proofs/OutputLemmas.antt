@@ -8,7 +8,8 @@ use Rattle.command_reader.specs.Reading.{reading_in}
 use Rattle.gk_terms.specs.Text.{lines_of}
 use Rattle.rulings.specs.declared.limits.Limits.{Limits}
 use Rattle.rulings.specs.Events.{PlainEvent, Registering, Unregistering, Admitting, Answering, Changing, Releasing, Reloading}
-use Rattle.rulings.specs.Step.{step, no_memory_reply_of}
+use Rattle.rulings.specs.Lacks.{no_memory_reply_of}
+use Rattle.rulings.specs.Step.{step}
 use Rattle.decision_record.specs.History.{CoreParts, MayReply, state_of, with_entry, core_after}
 use Rattle.rulings.specs.declared.replies.Reply.{Reply as CoreReply}
 use Rattle.admission.proofs.CoreLemmas.{answers_as_the_machine}

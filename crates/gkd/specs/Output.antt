@@ -6,7 +6,8 @@ use Rattle.command_reader.specs.Reading.{reading_in}
 use Rattle.gk_terms.specs.Text.{lines_of}
 use Rattle.rulings.specs.declared.limits.Limits.{Limits}
 use Rattle.rulings.specs.Events.{PlainEvent, Registering, Unregistering, Admitting, Answering, Changing, Releasing, Reloading}
-use Rattle.rulings.specs.Step.{step, no_memory_reply_of}
+use Rattle.rulings.specs.Lacks.{no_memory_reply_of}
+use Rattle.rulings.specs.Step.{step}
 use Rattle.decision_record.specs.History.{CoreParts, state_of, core_after}
 use Rattle.gk_protocol.specs.declared.request_faults.RequestFault.{RequestFault}
 use Rattle.gk_protocol.specs.declared.requests.Request.{Request}
@@ -16,23 +17,13 @@ use Rattle.gk_protocol.specs.declared.answers.Answer.TheVariants.{Reply, Misconf
 use Rattle.gk_protocol.specs.declared.answers.TrialRefusal.TheVariants as trial
 use Rattle.gk_protocol.specs.Answers.{answer_text_of}
 use Rattle.gk_protocol.specs.Requests.{reload_without_memory, trial_without_memory}
+use Rattle.gk_protocol.specs.AskedEvents.{sequence_of}
 use Rattle.gk_protocol.specs.Answering.{are_workers}
 use Rattle.gk_protocol.specs.CoreAnswers.{report_under, MayAnswer}
 use Rattle.gk_protocol.specs.Session.{Asked, requests_of, Runs}
 use Rattle.configuration_reader.specs.declared.configuration.Until.TheVariants.{EndLine}
 use Rattle.configuration_reader.specs.Configuration.{configuration_of, rest_of}
 use Rattle.gkd.specs.Run.{opened}
-
--- the sequence number of a request
-abbrev pub sequence_of : Request → ℕ
-sequence_of (Register sequence endpoint) = sequence
-sequence_of (Unregister sequence id) = sequence
-sequence_of (Admit sequence id call digits units) = sequence
-sequence_of (Incoming sequence id call units) = sequence
-sequence_of (Change sequence id call units) = sequence
-sequence_of (Release sequence id call) = sequence
-sequence_of (Reload sequence lines) = sequence
-sequence_of (Try sequence workers lines) = sequence
 
 -- a reload of what was read, or the answer that names its fault
 abbrev pub reloading : ℕ → Result Configuration LineFault → Result PlainEvent Answer

@@ -4,13 +4,15 @@ use Rattle.std.proofs.lemmas.List.{append-nil}
 use Rattle.std.specs.List.{cons_option}
 use Rattle.std.specs.Prelude.{IfOk, IfErr, OnErr, MatchResult, if◌then◌else◌}
 use Rattle.std.proofs.Common.{false, true≢false, inl}
-use Rattle.rulings.specs.Step.{step, no_memory_reply_of}
+use Rattle.rulings.specs.Lacks.{no_memory_reply_of}
+use Rattle.rulings.specs.Step.{step}
 use Rattle.rulings.specs.declared.replies.ReloadRefusal.TheVariants.{NoMemory}
 use Rattle.publisher.proofs.Prefixes.{get_last}
 use Rattle.rulings.specs.declared.replies.Reply.TheVariants.{Reloaded, ReloadRefused}
 use Rattle.rulings.specs.declared.replies.ReloadRefusal.{ReloadRefusal}
 use Rattle.command_reader.specs.declared.commands.Command.{Command}
-use Rattle.rulings.specs.Events.{PlainEvent, Reloading, put_in_force}
+use Rattle.rulings.specs.Events.{PlainEvent, Registering, Unregistering, Admitting, Answering, Changing, Releasing, Reloading, put_in_force}
+use Rattle.std.proofs.lemmas.Option.{none-some}
 use Rattle.rulings.specs.declared.replies.Reply.{Reply}
 use Rattle.decision_record.specs.declared.entries.Receipt.{Receipt}
 use Rattle.entry_bytes.specs.Entry.{PlainEntry}
@@ -74,6 +76,17 @@ put_as old new commands (Ok answer) grown version refused =
           ∙ get_last old commands (length new - 1) place,
     )
 put_as old new commands (Err reply) same version refused = refused
+
+-- an event that puts nothing in force says nothing of it
+pub puts_nothing : (event : PlainEvent) (result : Result (Reply × Receipt) Reply)
+    (list : List (List Command)) → put_in_force event ≡ None → IsPut event result list
+puts_nothing (Registering endpoint) result list none = tt
+puts_nothing (Unregistering id) result list none = tt
+puts_nothing (Admitting id call digits units) result list none = tt
+puts_nothing (Answering id call units) result list none = tt
+puts_nothing (Changing id call units) result list none = tt
+puts_nothing (Releasing id call) result list none = tt
+puts_nothing (Reloading commands) result list none = absurd (none-some commands (sym none))
 
 pub as_reload : (commands : List Command) (result : Result (Reply × Receipt) Reply)
     (list : List (List Command)) → IsPut (Reloading commands) result list → IsReloadAnswer result

@@ -280,9 +280,9 @@ impl<J: Imprint> Live<J> {
     }
 
     #[tactic(auto, using(crate::proofs::Grows::steps_shown, crate::proofs::Grows::stays))]
-    /// Answers an event that is lent, and is not a reload, as `Core::answer_lent`. An admission
-    /// goes by a plan that was made outside if that was done under the version in force.
-    pub(crate) fn answer_lent(
+    /// Answers an event that is lent, and is not a reload, as `Core::step`. An admission goes by a
+    /// plan that was made outside if that was done under the version in force.
+    pub(crate) fn step(
         &mut self,
         routed: Option<&Routed>,
         event: &LentEvent<'_>,
@@ -299,7 +299,7 @@ impl<J: Imprint> Live<J> {
         // So it is known which commands are in force, and how many were.
         let _tables = self.core.tables();
         let _version = self.core.version();
-        self.core.answer_lent(routed, event, kept)
+        self.core.step(routed, event, kept)
     }
 
     #[tactic(auto, using(crate::proofs::Grows::steps_shown))]

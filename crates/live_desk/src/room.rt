@@ -93,6 +93,7 @@ impl<J: House> Room<J> {
             ≡ length (generations (held (opening_of J.begun J.limits) self.now.entries)) }
         ensures given { self.now.given ≤ self.now.most }
     {
+        // So it is known that no more seats were given out than there are.
         let _rest = &self.rest;
         (self.live.record(), self.live.version())
     }
@@ -104,6 +105,7 @@ impl<J: House> Room<J> {
             ≡ held (opening_of J.begun J.limits) self.now.entries) }
         ensures legal { IsLegal (opening_of J.begun J.limits) self.now.entries }
     {
+        // So it is known that the record is a legal history.
         let _record = self.live.record();
         self.live.past()
     }

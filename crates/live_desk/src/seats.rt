@@ -173,42 +173,8 @@ impl<J: House> Seat<J> {
         ensures put { self.new.lost ≡ false → IsPut (plain event) result self.new.seen }
     {
         match event {
-            Event::Register(endpoint) => { self.answer(rt, desk, &LentEvent::Register(&endpoint)) }
-            Event::Unregister { id } => self.answer(rt, desk, &LentEvent::Unregister { id: &id }),
-            Event::Admit {
-                id,
-                call,
-                digits,
-                units,
-            } => {
-                let event = &LentEvent::Admit {
-                    id: &id,
-                    call,
-                    digits: &digits,
-                    units,
-                };
-                self.answer(rt, desk, event)
-            }
-            Event::Incoming { id, call, units } => {
-                let event = &LentEvent::Incoming {
-                    id: &id,
-                    call,
-                    units,
-                };
-                self.answer(rt, desk, event)
-            }
-            Event::Change { id, call, units } => {
-                let event = &LentEvent::Change {
-                    id: &id,
-                    call,
-                    units,
-                };
-                self.answer(rt, desk, event)
-            }
-            Event::Release { id, call } => {
-                self.answer(rt, desk, &LentEvent::Release { id: &id, call })
-            }
             Event::Reload(tables) => self.put_in_force(rt, desk, tables),
+            event => self.answer(rt, desk, &event.lent()),
         }
     }
 

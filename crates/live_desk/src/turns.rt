@@ -63,7 +63,7 @@ pub(crate) fn turn<J: Imprint>(
 {
     let met = meet(live, reader);
     let usable = if met { routed } else { None };
-    let number = live.answer_lent(usable, event, kept);
+    let number = live.step(usable, event, kept);
     (number, met)
 }
 

@@ -232,7 +232,7 @@ impl Registry {
         })
     }
 
-    /// That of these endpoints. `AllocError` comes only if memory runs out.
+    /// A registry of copies of these endpoints. `AllocError` comes only if memory runs out.
     pub(crate) fn of(
         alloc: Global,
         endpoints: &[Endpoint],

@@ -4,7 +4,7 @@ use Rattle.std.specs.Prelude.{IsSome}
 use Rattle.command_reader.specs.declared.commands.Command.{Command}
 use Rattle.rulings.specs.State.{MachineParts, bare, under}
 use Rattle.rulings.specs.Events.{PlainEvent, Registering, Unregistering, Admitting, Answering, Changing, Releasing, Reloading, put_in_force}
-use Rattle.rulings.specs.Step.{count_refusal, with_commands, with_effect}
+use Rattle.rulings.specs.Step.{lack_of, with_commands, with_effect}
 use Rattle.rulings.specs.Founded.{IsUnder}
 use Rattle.rulings.specs.declared.rulings.Effect.TheVariants.{PutInForce}
 use Rattle.rulings.specs.Ruling.{Ruling}
@@ -21,15 +21,13 @@ put_under commands old new event puts h = by (put_in_force event) puts h
     by None some h = let impossible : ⊥ = cc in absurd impossible
     by (Some others) some h = h
 
--- an event is refused by a count alike
-pub counts_alike : (commands : List Command) (m : MachineParts) (event : PlainEvent)
-    (ruling : Ruling)
-    → count_refusal (bare m) event ruling ≡ count_refusal (under commands m) event ruling
-unfolding count_refusal
-counts_alike commands m (Registering e) ruling = refl
-counts_alike commands m (Unregistering id) ruling = refl
-counts_alike commands m (Admitting id call digits units) ruling = refl
-counts_alike commands m (Answering id call units) ruling = refl
-counts_alike commands m (Changing id call units) ruling = refl
-counts_alike commands m (Releasing id call) ruling = refl
-counts_alike commands m (Reloading others) ruling = refl
+-- an event lacks the same
+pub lacks_alike : (commands : List Command) (m : MachineParts) (event : PlainEvent)
+    (ruling : Ruling) → lack_of (bare m) event ruling ≡ lack_of (under commands m) event ruling
+lacks_alike commands m (Registering e) ruling = refl
+lacks_alike commands m (Unregistering id) ruling = refl
+lacks_alike commands m (Admitting id call digits units) ruling = refl
+lacks_alike commands m (Answering id call units) ruling = refl
+lacks_alike commands m (Changing id call units) ruling = refl
+lacks_alike commands m (Releasing id call) ruling = refl
+lacks_alike commands m (Reloading others) ruling = refl

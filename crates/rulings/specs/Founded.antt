@@ -11,7 +11,7 @@ use Rattle.rulings.specs.declared.rulings.Effect.TheVariants.{Nothing, Put, Remo
 use Rattle.rulings.specs.State.{State, MachineParts, under}
 use Rattle.rulings.specs.Events.{PlainEvent, endpoint_asking, put_in_force}
 use Rattle.rulings.specs.Ruling.{register_refusal}
-use Rattle.rulings.specs.Step.{no_memory_reply_of}
+use Rattle.rulings.specs.Lacks.{no_memory_reply_of}
 
 -- there is no room for the endpoint
 abbrev pub is_full_of_endpoints : State → EndpointParts → Bool

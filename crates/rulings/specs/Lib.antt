@@ -1,5 +1,6 @@
 pub mod Events
 pub mod Founded
+pub mod Lacks
 pub mod Lent
 pub mod Limits
 pub mod Refusals

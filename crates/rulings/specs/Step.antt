@@ -4,16 +4,15 @@ use Rattle.registry.specs.Endpoint.{EndpointParts}
 use Rattle.command_reader.specs.declared.commands.Command.{Command}
 use Rattle.registry.specs.Registration.{with_endpoint, without_endpoint, is_registered, kept_zones}
 use Rattle.bandwidth.specs.Calls.{with_call, without_call, with_changed}
-use Rattle.rulings.specs.declared.replies.RegisterRefusal.TheVariants as register
-use Rattle.rulings.specs.declared.replies.UnregisterRefusal.TheVariants as unregister
-use Rattle.rulings.specs.declared.replies.AdmitRefusal.TheVariants as admit
-use Rattle.rulings.specs.declared.replies.ChangeRefusal.TheVariants as change
-use Rattle.rulings.specs.declared.replies.ReloadRefusal.TheVariants as reload
+use Rattle.std.specs.Option.{option_and_then}
 use Rattle.rulings.specs.declared.replies.Reply.{Reply}
 use Rattle.rulings.specs.declared.replies.Reply.TheVariants.{Registered, RegisterRefused, Unregistered, UnregisterRefused, Admitted, AdmitRefused, Changed, ChangeRefused, Released, ReleaseRefused, Reloaded, ReloadRefused}
 use Rattle.rulings.specs.declared.rulings.Effect.{Effect}
 use Rattle.rulings.specs.declared.rulings.Effect.TheVariants.{Nothing, Put, Remove, Open, Resize, Close, PutInForce}
 use Rattle.rulings.specs.Ruling.{Ruling}
+use Rattle.rulings.specs.declared.lacks.Lack.{Lack}
+use Rattle.rulings.specs.declared.lacks.Lack.TheVariants.{Limit, Record}
+use Rattle.rulings.specs.Lacks.{lacking}
 use Rattle.rulings.specs.State.{State, free_places}
 use Rattle.rulings.specs.Events.{PlainEvent, Registering, Unregistering, Admitting, Answering, Changing, Releasing, Reloading, endpoint_asking, put_in_force}
 use Rattle.rulings.specs.Ruling.{ruling_of}
@@ -60,21 +59,6 @@ places_needed (Resize call id units) = 1
 places_needed (Close call id) = 0
 places_needed PutInForce = 1
 
--- the refusal for a full record; a release is never refused for it
-abbrev pub record_full_reply_of : PlainEvent → Option Reply
-record_full_reply_of (Registering e) = Some (RegisterRefused e.id register.RecordFull)
-record_full_reply_of (Unregistering id) = Some (UnregisterRefused id unregister.RecordFull)
-record_full_reply_of (Admitting id call digits units) = Some (AdmitRefused call admit.RecordFull)
-record_full_reply_of (Answering id call units) = Some (AdmitRefused call admit.RecordFull)
-record_full_reply_of (Changing id call units) = Some (ChangeRefused call change.RecordFull)
-record_full_reply_of (Releasing id call) = None
-record_full_reply_of (Reloading commands) = Some (ReloadRefused reload.RecordFull)
-
--- it comes if the record lacks the places
-abbrev pub record_refusal : State → PlainEvent → Effect → Option Reply
-record_refusal s event effect =
-    if nat_lt (free_places s) (places_needed effect) then record_full_reply_of event else None
-
 -- a new endpoint would be registered, and there are as many as the limit allows
 abbrev pub are_endpoints_full : State → EndpointParts → Reply → Bool
 are_endpoints_full s e verdict =
@@ -99,30 +83,33 @@ are_calls_full s effect = opens_call effect && nat_le s.limits.calls (length s.c
 abbrev pub are_reloads_spent : State → Bool
 are_reloads_spent s = nat_lt s.limits.reloads s.version
 
--- the refusal of a reload by a count
-abbrev pub reload_refusal : State → Effect → Option Reply
-reload_refusal s effect =
-    if are_reloads_spent s then Some (ReloadRefused reload.ReloadsSpent)
-    else (if nat_lt (free_places s) (places_needed effect)
-    then Some (ReloadRefused reload.RecordFull) else None)
+-- the record lacks the free places that the entry needs
+abbrev pub is_short : State → Effect → Bool
+is_short s effect = nat_lt (free_places s) (places_needed effect)
 
--- the first refusal by a count: endpoints-full, calls-full, reloads-spent, record-full
+-- what is lacking, by whether a limit is met and whether the record lacks places
+abbrev pub lack_if : Bool → Bool → Option Lack
+lack_if true short = Some Limit
+lack_if false true = Some Record
+lack_if false false = None
+
+-- what the event lacks, memory aside; a release lacks nothing
+abbrev pub lack_of : State → PlainEvent → Ruling → Option Lack
+lack_of s (Registering e) ruling =
+    lack_if (are_endpoints_full s e ruling.verdict) (is_short s ruling.effect)
+lack_of s (Unregistering id) ruling = lack_if false (is_short s ruling.effect)
+lack_of s (Admitting id call digits units) ruling =
+    lack_if (are_calls_full s ruling.effect) (is_short s ruling.effect)
+lack_of s (Answering id call units) ruling =
+    lack_if (are_calls_full s ruling.effect) (is_short s ruling.effect)
+lack_of s (Changing id call units) ruling = lack_if false (is_short s ruling.effect)
+lack_of s (Releasing id call) ruling = None
+lack_of s (Reloading commands) ruling =
+    lack_if (are_reloads_spent s) (is_short s ruling.effect)
+
+-- the refusal by a count: endpoints-full, calls-full or reloads-spent, and else record-full
 unfoldable pub count_refusal : State → PlainEvent → Ruling → Option Reply
-count_refusal s (Registering e) ruling =
-    if are_endpoints_full s e ruling.verdict
-    then Some (RegisterRefused e.id register.EndpointsFull)
-    else record_refusal s (Registering e) ruling.effect
-count_refusal s (Unregistering id) ruling = record_refusal s (Unregistering id) ruling.effect
-count_refusal s (Admitting id call digits units) ruling =
-    if are_calls_full s ruling.effect then Some (AdmitRefused call admit.CallsFull)
-    else record_refusal s (Admitting id call digits units) ruling.effect
-count_refusal s (Answering id call units) ruling =
-    if are_calls_full s ruling.effect then Some (AdmitRefused call admit.CallsFull)
-    else record_refusal s (Answering id call units) ruling.effect
-count_refusal s (Changing id call units) ruling =
-    record_refusal s (Changing id call units) ruling.effect
-count_refusal s (Releasing id call) ruling = record_refusal s (Releasing id call) ruling.effect
-count_refusal s (Reloading commands) ruling = reload_refusal s ruling.effect
+count_refusal s event ruling = option_and_then (lacking event) (lack_of s event ruling)
 
 -- ---- what a ruling changes
 -- the endpoint registered in the zone
@@ -179,14 +166,3 @@ unfoldable pub step : State → PlainEvent → Outcome
 step s event =
     let ruling = ruling_of s event in
     outcome_of s event ruling (count_refusal s event ruling)
-
--- ---- out of memory
--- the reply if memory runs out for an event that would be recorded; a release takes none
-abbrev pub no_memory_reply_of : PlainEvent → Option Reply
-no_memory_reply_of (Registering e) = Some (RegisterRefused e.id register.NoMemory)
-no_memory_reply_of (Unregistering id) = Some (UnregisterRefused id unregister.NoMemory)
-no_memory_reply_of (Admitting id call digits units) = Some (AdmitRefused call admit.NoMemory)
-no_memory_reply_of (Answering id call units) = Some (AdmitRefused call admit.NoMemory)
-no_memory_reply_of (Changing id call units) = Some (ChangeRefused call change.NoMemory)
-no_memory_reply_of (Releasing id call) = None
-no_memory_reply_of (Reloading commands) = Some (ReloadRefused reload.NoMemory)

@@ -1,15 +1,16 @@
-//! Refusals by a count: of endpoints, of calls, of reloads, or of the entries of the record.
+//! What an event lacks by a count: of endpoints, of calls, of reloads, or of the entries of the
+//! record.
 
-ghost use Rattle.std.specs.Prelude.{◌≡◌, is_some, nat_lt};
+ghost use Rattle.std.specs.Prelude.{◌≡◌};
 ghost use Rattle.rulings.specs.State as States;
 ghost use Rattle.rulings.specs.Events.{event_meant};
 ghost use Rattle.rulings.specs.Lent.{ruling_meant};
 ghost use Rattle.rulings.specs.Step as Spec;
 
 use crate::events::LentEvent;
+use crate::lacks::Lack;
 use crate::lent_rulings::LentRuling;
 use crate::machine::Machine;
-use crate::replies::{AdmitRefusal, RegisterRefusal, ReloadRefusal, Reply};
 use crate::rulings::Effect;
 use registry::Endpoint;
 
@@ -32,73 +33,47 @@ impl Effect {
 }
 
 impl Machine {
-    #[tactic(auto, unfolding(crate::specs::Step::count_refusal))]
-    /// What replaces a verdict: endpoints-full if a new endpoint would be registered and there are
-    /// as many as the limit allows; calls-full if a call would be opened and as many are open as
-    /// the limit allows; reloads-spent if the configuration would be replaced once more than the
-    /// limit allows; and else record-full if the record lacks the free places: two if a call would
-    /// be opened, none for a release, and one for another verdict.
-    pub fn count_refusal(&self, event: &LentEvent<'_>, ruling: &LentRuling<'_>) -> Option<Reply>
+    /// What an event on which this was ruled lacks, memory aside. The limit of endpoints, if a new
+    /// one would be registered and there are as many; that of calls, if one would be opened and as
+    /// many are open; that of reloads, if the configuration would be replaced once more than it
+    /// allows. Else places of the record, if fewer are free than the entry needs: two if a call
+    /// would be opened, and one for another verdict. A release lacks nothing.
+    pub fn lack(&self, event: &LentEvent<'_>, ruling: &LentRuling<'_>) -> Option<Lack>
         ensures { result
-            ≡ Spec.count_refusal (States.bare self.now) (event_meant event.now)
+            ≡ Spec.lack_of (States.bare self.now) (event_meant event.now)
             (ruling_meant ruling.now) }
     {
         match event {
             LentEvent::Register(endpoint) => {
-                if self.are_endpoints_full(endpoint, ruling) {
-                    let reason = RegisterRefusal::EndpointsFull;
-                    let id = *endpoint.id();
-                    return Some(Reply::RegisterRefused { id, reason });
-                }
-            }
-            LentEvent::Admit { call, .. } | LentEvent::Incoming { call, .. } => {
-                if self.are_calls_full(ruling) {
-                    let reason = AdmitRefusal::CallsFull;
-                    return Some(Reply::AdmitRefused {
-                        call: *call,
-                        reason,
-                    });
-                }
-            }
-            LentEvent::Reload(_) => return self.reload_refusal(ruling),
-            LentEvent::Unregister { .. } | LentEvent::Change { .. } | LentEvent::Release { .. } =>
-                {}
-        }
-        self.record_refusal(event, ruling)
-    }
-
-    #[tactic(auto, unfolding(crate::specs::Step::count_refusal))]
-    /// Whether there is such a refusal. It is asked for each event, so it makes no reply.
-    pub fn is_refused_by_count(&self, event: &LentEvent<'_>, ruling: &LentRuling<'_>) -> bool
-        ensures { result ≡ is_some
-            (Spec.count_refusal (States.bare self.now) (event_meant event.now)
-            (ruling_meant ruling.now)) }
-    {
-        match event {
-            LentEvent::Register(endpoint) => {
-                self.are_endpoints_full(endpoint, ruling) || self.lacks_places(ruling)
+                self.lack_if(self.are_endpoints_full(endpoint, ruling), ruling)
             }
             LentEvent::Admit { .. } | LentEvent::Incoming { .. } => {
-                self.are_calls_full(ruling) || self.lacks_places(ruling)
+                self.lack_if(self.are_calls_full(ruling), ruling)
             }
-            LentEvent::Reload(_) => self.are_reloads_spent() || self.lacks_places(ruling),
-            LentEvent::Unregister { .. } | LentEvent::Change { .. } => self.lacks_places(ruling),
-            LentEvent::Release { .. } => false,
+            LentEvent::Unregister { .. } | LentEvent::Change { .. } => self.lack_if(false, ruling),
+            LentEvent::Release { .. } => None,
+            LentEvent::Reload(_) => self.reload_lack(ruling),
         }
     }
 
-    /// The refusal of a reload on which this was ruled, likewise.
-    pub fn reload_refusal(&self, ruling: &LentRuling<'_>) -> Option<Reply>
-        ensures { result
-            ≡ Spec.reload_refusal (States.bare self.now) (ruling_meant ruling.now).effect }
+    /// The same of a reload.
+    pub fn reload_lack(&self, ruling: &LentRuling<'_>) -> Option<Lack>
+        ensures { result ≡ Spec.lack_if (Spec.are_reloads_spent (States.bare self.now))
+            (Spec.is_short (States.bare self.now) (ruling_meant ruling.now).effect) }
     {
-        if self.are_reloads_spent() {
-            let reason = ReloadRefusal::ReloadsSpent;
-            return Some(Reply::ReloadRefused { reason });
+        self.lack_if(self.are_reloads_spent(), ruling)
+    }
+
+    /// What is lacking, by whether a limit is met.
+    fn lack_if(&self, at_limit: bool, ruling: &LentRuling<'_>) -> Option<Lack>
+        ensures { result ≡ Spec.lack_if at_limit
+            (Spec.is_short (States.bare self.now) (ruling_meant ruling.now).effect) }
+    {
+        if at_limit {
+            return Some(Lack::Limit);
         }
         if self.lacks_places(ruling) {
-            let reason = ReloadRefusal::RecordFull;
-            return Some(Reply::ReloadRefused { reason });
+            return Some(Lack::Record);
         }
         None
     }
@@ -128,22 +103,10 @@ impl Machine {
         self.limits().reloads < self.version().value()
     }
 
-    /// record-full, if the record lacks the free places that the entry needs.
-    fn record_refusal(&self, event: &LentEvent<'_>, ruling: &LentRuling<'_>) -> Option<Reply>
-        ensures { result ≡ Spec.record_refusal (States.bare self.now) (event_meant event.now)
-            (ruling_meant ruling.now).effect }
-    {
-        if self.lacks_places(ruling) {
-            event.record_full_reply()
-        } else {
-            None
-        }
-    }
-
     /// Whether the record lacks the free places that the entry needs.
     fn lacks_places(&self, ruling: &LentRuling<'_>) -> bool
-        ensures { result ≡ nat_lt (States.free_places (States.bare self.now))
-            (Spec.places_needed (ruling_meant ruling.now).effect) }
+        ensures { result
+            ≡ Spec.is_short (States.bare self.now) (ruling_meant ruling.now).effect }
     {
         self.free_places() < ruling.places_needed()
     }

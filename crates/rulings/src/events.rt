@@ -2,7 +2,7 @@
 
 ghost use Rattle.std.specs.Prelude.{◌≡◌, IfSome};
 ghost use Rattle.command_reader.specs.Accepted.{IsAccepted};
-ghost use Rattle.rulings.specs.Events.{plain, event_meant, kind_of, id_of, call_number_of, put_in_force};
+ghost use Rattle.rulings.specs.Events.{plain, event_meant, put_in_force};
 
 use compiler::Tables;
 use gk_terms::{Dialled, Name, Units};
@@ -129,46 +129,36 @@ pub enum EventKind {
 }
 
 impl Event {
-    /// What kind of event it is.
-    pub fn kind(&self) -> EventKind
-        ensures { result ≡ kind_of (plain self.now) }
+    /// The same event, of which the names, the endpoint and the tables are lent.
+    pub fn lent(&self) -> LentEvent<'_>
+        ensures { event_meant result ≡ plain self.now }
     {
         match self {
-            Event::Register(_) => EventKind::Registration,
-            Event::Unregister { .. } => EventKind::Unregistration,
-            Event::Admit { .. } => EventKind::Admission,
-            Event::Incoming { .. } => EventKind::Incoming,
-            Event::Change { .. } => EventKind::BandwidthChange,
-            Event::Release { .. } => EventKind::Release,
-            Event::Reload(_) => EventKind::Reload,
-        }
-    }
-
-    /// The ID of the endpoint that asks; nothing for a reload, which an operator asks for.
-    pub fn id(&self) -> Option<Name>
-        ensures { result ≡ id_of (plain self.now) }
-    {
-        match self {
-            Event::Register(endpoint) => Some(*endpoint.id()),
-            Event::Unregister { id }
-            | Event::Admit { id, .. }
-            | Event::Incoming { id, .. }
-            | Event::Change { id, .. }
-            | Event::Release { id, .. } => Some(*id),
-            Event::Reload(_) => None,
-        }
-    }
-
-    /// The number of the call that it is about, if it is about one.
-    pub fn call(&self) -> Option<u32>
-        ensures { result ≡ call_number_of (plain self.now) }
-    {
-        match self {
-            Event::Register(_) | Event::Unregister { .. } | Event::Reload(_) => None,
-            Event::Admit { call, .. }
-            | Event::Incoming { call, .. }
-            | Event::Change { call, .. }
-            | Event::Release { call, .. } => Some(*call),
+            Event::Register(endpoint) => LentEvent::Register(endpoint),
+            Event::Unregister { id } => LentEvent::Unregister { id },
+            Event::Admit {
+                id,
+                call,
+                digits,
+                units,
+            } => LentEvent::Admit {
+                id,
+                call: *call,
+                digits,
+                units: *units,
+            },
+            Event::Incoming { id, call, units } => LentEvent::Incoming {
+                id,
+                call: *call,
+                units: *units,
+            },
+            Event::Change { id, call, units } => LentEvent::Change {
+                id,
+                call: *call,
+                units: *units,
+            },
+            Event::Release { id, call } => LentEvent::Release { id, call: *call },
+            Event::Reload(tables) => LentEvent::Reload(tables),
         }
     }
 }

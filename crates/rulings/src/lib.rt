@@ -4,6 +4,7 @@
 mod calling;
 mod counts;
 pub mod events;
+pub mod lacks;
 mod lent_routes;
 mod lent_rulings;
 pub mod limits;
@@ -14,9 +15,9 @@ mod reply_takers;
 pub mod routes;
 pub mod routing;
 mod rulings;
-mod verdicts;
 
 pub use events::{Event, EventKind, LentEvent};
+pub use lacks::Lack;
 pub use lent_routes::{DestinationKind, Led, LentRoute};
 pub use lent_rulings::LentRuling;
 pub use limits::{Limits, STATED_LIMITS};

@@ -1,5 +1,5 @@
 -- What a seat is answered, as an answer to a request.
-use Rattle.std.proofs.Common.{◌≡◌, ℕ, List, true, Option, Some, None, Result, Ok, Err, refl, sym, subst, inl, inr}
+use Rattle.std.proofs.Common.{◌≡◌, ℕ, List, true, Option, Some, None, Result, Ok, Err, sym, subst, inl, inr, ap, ◌∙◌}
 use Rattle.command_reader.specs.Configuration.{Configuration}
 use Rattle.command_reader.specs.Reading.{reading_in}
 use Rattle.rulings.specs.State.{State}
@@ -12,9 +12,12 @@ use Rattle.gk_protocol.specs.declared.requests.Request.{Request}
 use Rattle.gk_protocol.specs.declared.answers.Answer.{Answer}
 use Rattle.gk_protocol.specs.declared.answers.Answer.TheVariants as answers
 use Rattle.gk_protocol.specs.Hearing.{AnswersInto}
-use Rattle.gk_protocol.specs.Answering.{are_workers}
+use Rattle.gk_protocol.specs.Answers.{answer_text_of}
+use Rattle.gk_protocol.specs.Answering.{are_workers, reply_in}
+use Rattle.gk_protocol.specs.AskedEvents.{asked_event, sequence_of}
+use Rattle.gk_protocol.proofs.AnswerLemmas.{may_answer}
 use Rattle.gk_protocol.proofs.TrialLemmas.{tried_on, lacking_trial}
-use Rattle.seat_sessions.specs.SeatAnswers.{MayAnswer, MaySay, MayShow, MayTry, Replies, RepliesInto, reply_in, TriesOnSome}
+use Rattle.seat_sessions.specs.SeatAnswers.{MayAnswer, MaySay, MayShow, MayTry, Replies, RepliesInto, TriesOnSome}
 
 -- the reply in what was answered is one that the desk may give
 pub said : (opening : State) (old : SeatParts) (event : PlainEvent)
@@ -38,18 +41,26 @@ pub said_lent : (opening : State) (old : SeatParts) (event : PlainEvent) (reply 
 said_lent opening old event reply (Some number) new h = inl (receipt_for event reply number, h)
 said_lent opening old event reply None new h = inr h
 
--- a request that asks for an event is answered by the line of the desk's reply to it
-pub said_into : (opening : State) (old : SeatParts) (request asked : Request) (sequence : ℕ)
-    (event : PlainEvent) (text : List ℕ) (new : SeatParts) → request ≡ asked
-    → ((answer : Answer) → Replies opening old sequence event answer new
-    → MayAnswer opening old asked answer new)
-    → RepliesInto opening old sequence event text new
+-- a request is answered by the line of the desk's reply to its event
+pub said_into : (opening : State) (old : SeatParts) (request : Request) (sequence : ℕ)
+    (event : PlainEvent) (text : List ℕ) (new : SeatParts) → asked_event request ≡ Some event
+    → sequence ≡ sequence_of request → RepliesInto opening old sequence event text new
     → AnswersInto (MayAnswer opening) old request text new
-said_into opening old request asked sequence event text new is asks told = (
-  answers.Reply sequence told.0,
-  rw (is) (asks (answers.Reply sequence told.0) (told.0, refl, told.2)),
-  told.1,
+said_into opening old request sequence event text new asks same told = (
+  answers.Reply (sequence_of request) told.0,
+  may_answer (MaySay opening) (MayShow opening) old new event told.0 told.2 request asks,
+  told.1 ∙ ap (λ n. answer_text_of (answers.Reply n told.0)) same,
 )
+
+-- and by that reply
+pub said_to : (opening : State) (old : SeatParts) (request : Request) (sequence : ℕ)
+    (event : PlainEvent) (answer : Answer) (new : SeatParts) → asked_event request ≡ Some event
+    → sequence ≡ sequence_of request → Replies opening old sequence event answer new
+    → MayAnswer opening old request answer new
+said_to opening old request sequence event answer new asks same told =
+    subst (λ a. MayAnswer opening old request a new)
+    (ap (λ n. answers.Reply n told.0) (sym same) ∙ sym told.1)
+    (may_answer (MaySay opening) (MayShow opening) old new event told.0 told.2 request asks)
 
 -- what is answered to a trial of some legal history is an answer to the trial
 pub tried_on_some : (opening : State) (seat : SeatParts) (sequence workers : ℕ)

@@ -1,6 +1,6 @@
 -- What a session over a seat may be answered: the generic answers, by the replies of a desk to a
 -- seat, and by the snapshots of a desk.
-use Rattle.std.specs.Prelude.{◌≡◌, ◌⊎◌, ℕ, List, Result, Ok, Err}
+use Rattle.std.specs.Prelude.{◌≡◌, ◌⊎◌, ℕ, List, Ok, Err}
 use Rattle.command_reader.specs.Configuration.{Configuration}
 use Rattle.call_rows.specs.Rows.{SnapshotParts}
 use Rattle.rulings.specs.State.{State}
@@ -14,11 +14,6 @@ use Rattle.gk_protocol.specs.declared.answers.Answer.TheVariants as answers
 use Rattle.gk_protocol.specs.Answers.{answer_text_of}
 use Rattle.gk_protocol.specs.Requests.{trial_without_memory}
 use Rattle.gk_protocol.specs.Answering as answering
-
--- the reply in what a seat is answered
-abbrev pub reply_in : Result (Reply × Receipt) Reply → Reply
-reply_in (Ok answer) = answer.0
-reply_in (Err reply) = reply
 
 -- the desk replies so to an event of a seat, whether or not it was recorded
 abbrev pub MaySay : State → SeatParts → PlainEvent → Reply → SeatParts → Type 0

@@ -6,13 +6,14 @@ ghost use Rattle.gk_terms.specs.Text.{lines_of};
 ghost use Rattle.rulings.specs.Events.{event_meant, put_in_force, Reloading};
 ghost use Rattle.rulings.specs.State.{opening_of};
 ghost use Rattle.gk_protocol.specs.Answering.{are_workers};
+ghost use Rattle.gk_protocol.specs.AskedEvents.{asked_event};
 ghost use Rattle.seat_sessions.specs.SeatAnswers as Spec;
 
-use admission::{KeptReply, LentEvent, Receipt, Reply, ReplyTaker};
+use admission::{KeptReply, LentEvent, ReplyTaker};
 use compiler::Tables;
 use gk_protocol::{
-    Answer, Answerer, NoTables, OwnedLines, ReplyLine, Request, reload_without_memory, tables_of,
-    trial_answer, trial_tables, trial_without_memory,
+    Answer, Answerer, NoTables, OwnedLines, ReplyLine, Request, reload_without_memory, reply_in,
+    tables_of, trial_answer, trial_tables, trial_without_memory,
 };
 use live_desk::{Desk, House, Seat};
 use std::alloc::Global;
@@ -126,6 +127,23 @@ impl<J: House, R: Threads + Wait> Sitting<'_, J, R> {
             Err(_) => trial_without_memory(sequence),
         }
     }
+
+    /// Answers a request whose lines say what it asks for.
+    fn answer_lines(&mut self, alloc: Global, request: &mut Request) -> Answer
+        requires { asked_event request.old ≡ None }
+        ensures { Spec.MayAnswer (opening_of J.begun J.limits) self.old request.old result
+            self.new }
+    {
+        match request {
+            Request::Reload { sequence, lines } => self.reload(alloc, *sequence, lines),
+            Request::Try {
+                sequence,
+                workers,
+                lines,
+            } => self.tried(alloc, *sequence, *workers, lines),
+            _ => unreachable!(),
+        }
+    }
 }
 
 impl<J: House, R: Threads + Wait> Answerer for Sitting<'_, J, R> {
@@ -135,136 +153,17 @@ impl<J: House, R: Threads + Wait> Answerer for Sitting<'_, J, R> {
     ghost may_answer = { MayAnswer (opening_of J.begun J.limits) };
 
     fn answer(&mut self, alloc: Global, mut request: Request) -> Answer {
-        match &mut request {
-            Request::Register { sequence, endpoint } => {
-                self.replied(*sequence, &LentEvent::Register(endpoint))
-            }
-            Request::Unregister { sequence, id } => {
-                self.replied(*sequence, &LentEvent::Unregister { id })
-            }
-            Request::Admit {
-                sequence,
-                id,
-                call,
-                digits,
-                units,
-            } => {
-                let event = &LentEvent::Admit {
-                    id,
-                    call: *call,
-                    digits,
-                    units: *units,
-                };
-                self.replied(*sequence, event)
-            }
-            Request::Incoming {
-                sequence,
-                id,
-                call,
-                units,
-            } => {
-                let event = &LentEvent::Incoming {
-                    id,
-                    call: *call,
-                    units: *units,
-                };
-                self.replied(*sequence, event)
-            }
-            Request::Change {
-                sequence,
-                id,
-                call,
-                units,
-            } => {
-                let event = &LentEvent::Change {
-                    id,
-                    call: *call,
-                    units: *units,
-                };
-                self.replied(*sequence, event)
-            }
-            Request::Release { sequence, id, call } => {
-                self.replied(*sequence, &LentEvent::Release { id, call: *call })
-            }
-            Request::Reload { sequence, lines } => self.reload(alloc, *sequence, lines),
-            Request::Try {
-                sequence,
-                workers,
-                lines,
-            } => self.tried(alloc, *sequence, *workers, lines),
+        if let Some(event) = &request.event() {
+            return self.replied(request.sequence(), event);
         }
+        self.answer_lines(alloc, &mut request)
     }
 
     fn answer_into(&mut self, alloc: Global, mut request: Request, reply: &mut ReplyLine) {
-        match &mut request {
-            Request::Register { sequence, endpoint } => {
-                self.reply_into(*sequence, &LentEvent::Register(endpoint), reply);
-            }
-            Request::Unregister { sequence, id } => {
-                self.reply_into(*sequence, &LentEvent::Unregister { id }, reply);
-            }
-            Request::Admit {
-                sequence,
-                id,
-                call,
-                digits,
-                units,
-            } => {
-                let event = &LentEvent::Admit {
-                    id,
-                    call: *call,
-                    digits,
-                    units: *units,
-                };
-                self.reply_into(*sequence, event, reply);
-            }
-            Request::Incoming {
-                sequence,
-                id,
-                call,
-                units,
-            } => {
-                let event = &LentEvent::Incoming {
-                    id,
-                    call: *call,
-                    units: *units,
-                };
-                self.reply_into(*sequence, event, reply);
-            }
-            Request::Change {
-                sequence,
-                id,
-                call,
-                units,
-            } => {
-                let event = &LentEvent::Change {
-                    id,
-                    call: *call,
-                    units: *units,
-                };
-                self.reply_into(*sequence, event, reply);
-            }
-            Request::Release { sequence, id, call } => {
-                self.reply_into(*sequence, &LentEvent::Release { id, call: *call }, reply);
-            }
-            Request::Reload { sequence, lines } => {
-                reply.show(self.reload(alloc, *sequence, lines));
-            }
-            Request::Try {
-                sequence,
-                workers,
-                lines,
-            } => reply.show(self.tried(alloc, *sequence, *workers, lines)),
+        if let Some(event) = &request.event() {
+            self.reply_into(request.sequence(), event, reply);
+            return;
         }
-    }
-}
-
-/// The reply in what was answered, whether or not the event was recorded.
-fn reply_in(asked: &Result<(Reply, Receipt), Reply>) -> Reply
-    ensures { result ≡ Spec.reply_in asked.now }
-{
-    match asked {
-        Ok((reply, _)) => *reply,
-        Err(reply) => *reply,
+        reply.show(self.answer_lines(alloc, &mut request));
     }
 }

@@ -1,15 +1,16 @@
-use Rattle.std.proofs.Common.{◌≡◌, ◌≤◌, length, ◌++◌, ◌∷◌, [], false, refl, sym, ap, ap₂, ◌∙◌, true≢false, arith, inr}
+use Rattle.std.proofs.Common.{◌≡◌, ◌≤◌, length, ◌++◌, ◌∷◌, [], false, refl, sym, ap, ap₂, ◌∙◌, true≢false, arith}
 use Rattle.std.specs.Arc.{arc_value}
 use Rattle.rulings.specs.Events.{Reloading}
 use Rattle.rulings.specs.State.{State}
 use Rattle.decision_record.specs.History.{CoreParts, RecordParts, state_of}
 use Rattle.admission.specs.CoreInvariant.{places_reserved}
-use Rattle.rulings.specs.Ruling.{ruling_of}
+use Rattle.rulings.specs.Ruling.{ruling_of, verdict_of}
 use Rattle.rulings.specs.Founded.{takes_memory}
 use Rattle.rulings.specs.Step.{places_needed, step}
-use Rattle.admission.proofs.EnteringLemmas.{recorded_unrefused, recorded_verdict_of, verdict_may}
+use Rattle.admission.proofs.EnteringLemmas.{recorded_unrefused, recorded_verdict_of}
 use Rattle.admission.proofs.CoreLemmas.{stands_as, counts, is_within, core_still, reload_is_light, state_for}
-use Rattle.admission.proofs.EventLemmas.{lacks_memory, kept_on, records, entry_of_reload, reload_calls}
+use Rattle.admission.proofs.EventLemmas.{counts_one, lacks_memory, kept_on, records, entry_of_reload, reload_calls}
+use Rattle.admission.proofs.SteppingLemmas.{receipt_is}
 use Rattle.admission.proofs.cores.Core.enter_reload.Goals as goal
 
 pub prepare-requires-clause-ruled : goal.prepare-requires-clause-ruled
@@ -70,54 +71,50 @@ invariant_of-self g c =
       )),
     )
 
-pub returns-in-Ok-clause-reserved : goal.returns-in-Ok-clause-reserved
-returns-in-Ok-clause-reserved g c =
+pub returns-in-Ok-clause-step : goal.returns-in-Ok-clause-step
+returns-in-Ok-clause-step g c =
     let stands = stands_as _ _ _ c.self.invariant.0 _ c.self.view_is in
     let event = Reloading (arc_value c.args.tables).commands in
     let recorded = ap (λ s. (step s event).recorded) stands ∙ c.requires.recorded in
-    λ _. (records _ _ _ event c.self.invariant.0 (recorded_unrefused _ _ recorded)
-    (recorded_verdict_of _ _ recorded) c.prepare.new.machine c.push_reload.new.self
-    (rw (c.deref.ensures) at c.in-Ok.ensures.state)
-    (ap (λ (h : RecordParts). h.opening) c.push_reload.ensures.entered ∙ c.in-Ok.ensures.opening)
-    (ap (λ (h : RecordParts). h.entries) c.push_reload.ensures.entered
+    let moved = rw (c.deref.ensures) at c.in-Ok.ensures.state in
+    let opened = ap (λ (h : RecordParts). h.opening) c.push_reload.ensures.entered
+    ∙ c.in-Ok.ensures.opening in
+    let entered = ap (λ (h : RecordParts). h.entries) c.push_reload.ensures.entered
     ∙ ap₂ (λ es e. es ++ e ∷ []) c.in-Ok.ensures.entries
     (entry_of_reload _ _ _ (c.version.ensures.version
-    ∙ ap (λ (s : State). s.version) (rw (c.deref.ensures) at c.in-Ok.ensures.state))))
-    _ _ _ c.self.view_is refl refl).new_is
-
-pub returns-in-Ok-clause-reply : goal.returns-in-Ok-clause-reply
-returns-in-Ok-clause-reply g c =
-    let stands = stands_as _ _ _ c.self.invariant.0 _ c.self.view_is in
-    let event = Reloading (arc_value c.args.tables).commands in
-    let recorded = ap (λ s. (step s event).recorded) stands ∙ c.requires.recorded in (
+    ∙ ap (λ (s : State). s.version) (rw (c.deref.ensures) at c.in-Ok.ensures.state))) in
+    let replied = c.requires.verdict ∙ ap (λ s. verdict_of s event) (sym stands) in
+    let number = c.records-number.ensures
+    ∙ counts_one _ _ _ event c.self.invariant.0 (recorded_unrefused _ _ recorded)
+    (recorded_verdict_of _ _ recorded) c.prepare.new.machine c.push_reload.new.self moved opened
+    entered
+    (omega (
+      arith,
+      ap (λ (h : RecordParts). h.kept) c.push_reload.ensures.entered,
+      c.in-Ok.ensures.places,
+    ))
+    (rw (c.deref.ensures) at c.is_of_an_accepted_configuration.ensures) in (
       _,
       c.take_reply.ensures.taken,
-      verdict_may _ _ _ _ c.requires.recorded c.requires.verdict
-          (records _ _ _ event c.self.invariant.0 (recorded_unrefused _ _ recorded)
-          (recorded_verdict_of _ _ recorded) c.prepare.new.machine c.push_reload.new.self
-          (rw (c.deref.ensures) at c.in-Ok.ensures.state)
-          (ap (λ (h : RecordParts). h.opening) c.push_reload.ensures.entered
-          ∙ c.in-Ok.ensures.opening)
-          (ap (λ (h : RecordParts). h.entries) c.push_reload.ensures.entered
-          ∙ ap₂ (λ es e. es ++ e ∷ []) c.in-Ok.ensures.entries
-          (entry_of_reload _ _ _ (c.version.ensures.version
-          ∙ ap (λ (s : State). s.version) (rw (c.deref.ensures) at c.in-Ok.ensures.state))))
-          _ _ _ c.self.view_is refl refl).new_is,
+      records _ _ _ event c.self.invariant.0 (recorded_unrefused _ _ recorded)
+          (recorded_verdict_of _ _ recorded) c.prepare.new.machine c.push_reload.new.self moved
+          opened entered _ _ _ c.self.view_is replied
+          (receipt_is _ event _ _ _ replied number),
     )
 
-pub returns-in-Err-clause-reply : goal.returns-in-Err-clause-reply
-returns-in-Err-clause-reply g c =
+pub returns-in-Err-clause-step : goal.returns-in-Err-clause-step
+returns-in-Err-clause-step g c =
     let stands = stands_as _ _ _ c.self.invariant.0 _ c.self.view_is in
     let event = Reloading (arc_value c.args.tables).commands in
     let recorded = ap (λ s. (step s event).recorded) stands ∙ c.requires.recorded in (
       _,
       c.take_reply-in-Err.ensures.taken,
-      inr (lacks_memory _ event _ stands (recorded_unrefused _ _ recorded) _ _
+      lacks_memory _ event _ stands (recorded_unrefused _ _ recorded) _ _
           (recorded_verdict_of _ _ recorded) refl
           (core_still c.self.inside.machine c.prepare.new.machine c.self.inside.history
           c.prepare.new.history c.self.inside.reserved c.in-Err.ensures.err.0
           c.in-Err.ensures.err.1
-          ∙ c.self.view_is)),
+          ∙ c.self.view_is),
     )
 
 pub returns-in-Err-clause-reserved : goal.returns-in-Err-clause-reserved

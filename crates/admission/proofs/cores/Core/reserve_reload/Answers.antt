@@ -1,5 +1,8 @@
-use Rattle.std.proofs.Common.{true, sym, ap, ◌∙◌}
-use Rattle.decision_record.specs.History.{CoreParts, RecordParts}
+use Rattle.std.proofs.Common.{true, sym, ap, subst, ◌∙◌}
+use Rattle.decision_record.specs.History.{CoreParts, IsUnrecorded, RecordParts}
+use Rattle.std.specs.Arc.{arc_value}
+use Rattle.rulings.specs.Events.{Reloading}
+use Rattle.rulings.specs.declared.replies.Reply.TheVariants.{ReloadRefused}
 use Rattle.rulings.specs.Lent.{ruling_meant}
 use Rattle.admission.proofs.CoreLemmas.{core_with}
 use Rattle.admission.proofs.EventLemmas.{reload_refused, reload_not_recorded, reload_recorded, reload_lacks_memory}
@@ -7,14 +10,16 @@ use Rattle.admission.proofs.cores.Core.reserve_reload.Goals as goal
 
 pub returns-in-Some-clause-err : goal.returns-in-Some-clause-err
 returns-in-Some-clause-err c =
-    reload_refused _ _ _ c.self.invariant.0 _ c.self.view_is _ (ruling_meant c.reload.result) _
-    c.reload.ensures (sym c.reload_refusal.ensures ∙ c.in-Some.is)
+    subst (λ reason. IsUnrecorded c.args.self.now (Reloading (arc_value c.args.tables.now).commands)
+    (ReloadRefused reason) c.args.self.now) (sym c.of_reload.ensures)
+    (reload_refused _ _ _ c.self.invariant.0 _ c.self.view_is _ (ruling_meant c.reload.result) _
+    c.reload.ensures (sym c.reload_lack.ensures ∙ c.in-Some.is))
 
 pub returns-in-Some-clause-again : goal.returns-in-Some-clause-again
 returns-in-Some-clause-again c =
     λ _. reload_not_recorded _ _ _ c.self.invariant.0 _ c.self.view_is _
     (ruling_meant c.reload.result) _
-    c.reload.ensures (sym c.reload_refusal.ensures ∙ c.in-Some.is)
+    c.reload.ensures (sym c.reload_lack.ensures ∙ c.in-Some.is)
 
 pub returns-then-self-clause-ok : goal.returns-then-self-clause-ok
 returns-then-self-clause-ok c = (
@@ -22,7 +27,7 @@ returns-then-self-clause-ok c = (
       ∙ ap (λ b. core_with c.self.inside.machine.limits c.self.inside.history b) c.if-self.true
       ∙ ap (λ (core : CoreParts). record core { reserved = true }) c.self.view_is,
   reload_recorded _ _ _ c.self.invariant.0 _ c.self.view_is _ (ruling_meant c.reload.result)
-      c.reload.ensures (sym c.reload_refusal.ensures ∙ c.in_default.is),
+      c.reload.ensures (sym c.reload_lack.ensures ∙ c.in_default.is),
 )
 
 pub returns-in-Ok-clause-ok : goal.returns-in-Ok-clause-ok
@@ -30,13 +35,13 @@ returns-in-Ok-clause-ok c = (
   ap (λ (h : RecordParts). core_with c.self.inside.machine.limits h true) c.in-Ok.ensures.ok
       ∙ ap (λ (core : CoreParts). record core { reserved = true }) c.self.view_is,
   reload_recorded _ _ _ c.self.invariant.0 _ c.self.view_is _ (ruling_meant c.reload.result)
-      c.reload.ensures (sym c.reload_refusal.ensures ∙ c.in_default.is),
+      c.reload.ensures (sym c.reload_lack.ensures ∙ c.in_default.is),
 )
 
 pub returns-in-Err-clause-err : goal.returns-in-Err-clause-err
 returns-in-Err-clause-err c =
     reload_lacks_memory _ _ _ c.self.invariant.0 _ c.self.view_is _ (ruling_meant c.reload.result)
-    c.reload.ensures (sym c.reload_refusal.ensures ∙ c.in_default.is) _
+    c.reload.ensures (sym c.reload_lack.ensures ∙ c.in_default.is) _
     (ap (λ (h : RecordParts).
     core_with c.self.inside.machine.limits h c.self.inside.reserved) c.in-Err.ensures.err
     ∙ c.self.view_is)
