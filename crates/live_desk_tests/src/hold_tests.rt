@@ -13,16 +13,20 @@ use std::marker::Brand;
 use std::sync::atomic::{AtomicU64, Ordering};
 use std::sync::{Arc, Wait};
 use std::test::Fail;
-use std::thread::{Threads, join};
+use std::thread::{Threads, join, yield_now};
 
-/// How often each of the two looks for the other.
-const TURNS: u32 = 10_000_000;
+/// How often one looks for what the other is about to do. At each look other threads may run, so
+/// that these are seconds at the least, however busy the machine is.
+const PATIENCE: u32 = 10_000_000;
+
+/// How often one looks for what may not come.
+const GLANCES: u32 = 100_000;
 
 /// No worker's number.
 const NOBODY: u64 = 77;
 
-/// A gate that holds the lock until a plan was made, and then for so many turns more, in which no
-/// event may be answered.
+/// A gate that holds the lock until a plan was made, and then for as many turns as it glances, in
+/// which no event may be answered.
 #[derive(Drop)]
 struct Signals {
     worker: AtomicU64,
@@ -37,21 +41,22 @@ impl Gate for Signals {
     fn begin(&self, worker: u32) {
         self.worker.store(worker as u64, Ordering::SeqCst);
         self.held.store(1, Ordering::SeqCst);
-        if is_set(&self.planned) {
+        if is_set(&self.planned, PATIENCE) {
             self.saw_plan.store(1, Ordering::SeqCst);
         }
-        if is_set(&self.answered) {
+        if is_set(&self.answered, GLANCES) {
             self.saw_answer.store(1, Ordering::SeqCst);
         }
     }
 }
 
 /// Whether the signal is set within so many turns.
-fn is_set(signal: &AtomicU64) -> bool {
-    for _ in 0..TURNS {
+fn is_set(signal: &AtomicU64, turns: u32) -> bool {
+    for _ in 0..turns {
         if signal.load(Ordering::SeqCst) == 1 {
             return true;
         }
+        yield_now();
     }
     false
 }
@@ -150,7 +155,7 @@ fn planned_and_asked<J: House, R: Wait>(
     id: &Name,
     signals: &Signals,
 ) -> Option<Done> {
-    if !is_set(&signals.held) {
+    if !is_set(&signals.held, PATIENCE) {
         return None;
     }
     let planned = seat.route(digits).is_ok();

@@ -5,10 +5,11 @@ use gk_terms::Gate;
 use std::alloc::Global;
 use std::sync::Wait;
 use std::sync::atomic::{AtomicU64, Ordering};
-use std::thread::Threads;
+use std::thread::{Threads, yield_now};
 use trial_run::trial;
 
-/// How often a worker that waits looks for the other.
+/// How often a worker that waits looks for the other. At each look other threads may run, so that
+/// these are seconds at the least, however busy the machine is.
 const TURNS: u32 = 10_000_000;
 
 /// A gate that holds each of two workers until the other has begun, or for so many turns.
@@ -37,6 +38,7 @@ impl Meeting {
                 let _before = self.met.fetch_add(1, Ordering::SeqCst);
                 return;
             }
+            yield_now();
         }
     }
 }
