@@ -31,7 +31,7 @@ pub struct ByteLog {
     places: PlaceList,
 }
 
-/// What threads may share and pass on, as those of a server do a record with its log.
+/// What threads may share and pass on, as the threads of a server share a record.
 trait Shared: Send + Sync {}
 
 impl Shared for ByteLog {}

@@ -17,11 +17,11 @@ use std::marker::Model;
 /// the event is carried out. A contract sees the entry, how many bytes it has, and how many there
 /// is room for without memory. The room stays from one entry to the next.
 #[derive(Drop)]
-pub struct Draft {
+pub struct EntryDraft {
     pub(crate) bytes: Vec<u8>,
 }
 
-impl Model for Draft {
+impl Model for EntryDraft {
     ghost use Rattle.std.specs.Prelude.{vec_capacity, vec_len};
     ghost use Rattle.entry_bytes.specs.EntryBytes.{entry_in};
     ghost use Rattle.decision_record.specs.Drafts.{DraftParts, IsDraft};
@@ -37,13 +37,13 @@ impl Model for Draft {
     ghost invariant = { λ d. IsDraft d.bytes.items };
 }
 
-impl Draft {
+impl EntryDraft {
     #[tactic(auto, unfolding(entry_bytes::specs::VerdictBytes::verdict_in))]
     /// None. It takes no memory.
-    pub fn new(alloc: Global) -> Draft
+    pub fn new(alloc: Global) -> EntryDraft
         ensures { result.entry ≡ None }
     {
-        Draft {
+        EntryDraft {
             bytes: Vec::new(alloc),
         }
     }

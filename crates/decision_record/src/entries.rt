@@ -2,7 +2,7 @@
 
 ghost use Rattle.std.specs.Prelude.{◌≡◌, MatchResult};
 ghost use Rattle.std.specs.Cow.{cow_value};
-ghost use Rattle.rulings.specs.Events.{kind_of, id_of, call_number_of};
+ghost use Rattle.rulings.specs.Events.{kind_of, call_number_of};
 ghost use Rattle.entry_bytes.specs.ReadEntry.{entry_read};
 ghost use Rattle.entry_bytes.specs.ReadEvent.{event_read};
 ghost use Rattle.decision_record.specs.History.{plain_entry, receipt_of, configuration_reloaded, AreKeptAsLines};

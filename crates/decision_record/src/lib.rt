@@ -11,7 +11,7 @@ mod recording;
 mod reloads;
 mod rows;
 
-pub use drafts::Draft;
+pub use drafts::EntryDraft;
 pub use entries::{Entry, Receipt, ReloadedCommands};
 pub use entry_bytes::{EndpointBytes, ReadEntry, ReadEvent, Verdict};
 pub use past_record::PastRecord;

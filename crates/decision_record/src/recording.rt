@@ -7,7 +7,7 @@ ghost use Rattle.byte_log.specs.Room.{places_taken};
 ghost use Rattle.decision_record.specs.History.{reload_entry};
 ghost use Rattle.decision_record.specs.Items.{reload_item, room_in};
 
-use crate::drafts::Draft;
+use crate::drafts::EntryDraft;
 use crate::record::{RELOAD, Record};
 use crate::reloads::{LastReload, Reloads};
 use byte_log::{ByteLog, SHORT_BYTES, room_taken};
@@ -61,7 +61,7 @@ impl Record {
 
     /// Puts the entry that was written at the end, in a place that was kept and in room that was
     /// made for it. It takes no memory.
-    pub fn push(&mut self, draft: &Draft)
+    pub fn push(&mut self, draft: &EntryDraft)
         requires kept { 1 ≤ self.old.kept }
         requires room { places_taken draft.now.bytes + self.old.kept ≤ self.old.room + 1 }
         requires written { IsSome draft.now.entry }

@@ -27,7 +27,7 @@ pub enum ReaderFault {
 
 /// Why the tables in force can't be handed out. This project's profile.
 #[derive(Clone, Copy, Debug, PartialEq, Eq, Error)]
-pub enum ReadFault {
+pub enum TablesFault {
     /// As `Lost`.
     #[error("the reader is lost")]
     Lost,

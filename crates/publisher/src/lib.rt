@@ -13,7 +13,7 @@ mod showing;
 mod tellings;
 
 pub use blanks::{Blank, Imprint};
-pub use faults::{Lost, NewFault, NoMemory, ReadFault, ReaderFault};
+pub use faults::{Lost, NewFault, NoMemory, ReaderFault, TablesFault};
 pub use publishers::{MOST_PLACES, Publisher};
 pub use readers::Reader;
 pub use tellings::Told;

@@ -11,7 +11,7 @@ ghost use Rattle.publisher.specs.History.{generations_in};
 ghost use Rattle.publisher.specs.Publications.{list_of};
 
 use crate::blanks::Imprint;
-use crate::faults::{Lost, ReadFault};
+use crate::faults::{Lost, TablesFault};
 use crate::fronts::Front;
 use crate::publications::Publication;
 use crate::showing::{Place, Shown};
@@ -41,7 +41,10 @@ pub(crate) fn version_of<J: Imprint>(
 pub(crate) fn tables_of<J: Imprint>(
     place: Place<J>,
     told: &Front<J>,
-) -> (Place<J>, Result<(Version, Arc<Tables, Global>), ReadFault>)
+) -> (
+    Place<J>,
+    Result<(Version, Arc<Tables, Global>), TablesFault>,
+)
     ensures grows { IsPrefix (view place.place) (view result.0.place) }
     ensures told { IfOk result.1 (λ _. IsPrefix (generations_in told.now) (view result.0.place)) }
     ensures version { IfOk result.1 (λ read. read.0 ≡ length (view result.0.place)) }
@@ -50,7 +53,7 @@ pub(crate) fn tables_of<J: Imprint>(
 {
     let reading = match place.enter_as::<Shown<J>>() {
         Ok(reading) => reading,
-        Err(place) => return (place, Err(ReadFault::Lost)),
+        Err(place) => return (place, Err(TablesFault::Lost)),
     };
     let answer = tables_in(reading.get(), told);
     (reading.leave(), answer)
@@ -95,7 +98,7 @@ fn version_in<J: Imprint>(shown: &Publication, told: &Front<J>) -> Result<Versio
 fn tables_in<J: Imprint>(
     shown: &Publication,
     told: &Front<J>,
-) -> Result<(Version, Arc<Tables, Global>), ReadFault>
+) -> Result<(Version, Arc<Tables, Global>), TablesFault>
     requires { shown.now.stem.seen.book ≡ J.book }
     ensures told { IfOk result (λ _. IsPrefix (generations_in told.now) (list_of shown.now)) }
     ensures version { IfOk result (λ read. read.0 ≡ length (list_of shown.now)) }
@@ -103,11 +106,11 @@ fn tables_in<J: Imprint>(
         slice_get (list_of shown.now) (read.0 - 1) ≡ Some (arc_value read.1).commands) }
 {
     if !shown.has(told) {
-        return Err(ReadFault::Lost);
+        return Err(TablesFault::Lost);
     }
     match Arc::try_clone(&shown.tables) {
         Ok(tables) => Ok((shown.version(), tables)),
-        Err(_) => Err(ReadFault::NoMemory),
+        Err(_) => Err(TablesFault::NoMemory),
     }
 }
 

@@ -9,7 +9,7 @@ ghost use Rattle.publisher.specs.Generations.{commands_of};
 ghost use Rattle.publisher.specs.History.{generations_in, is_in_force};
 
 use crate::blanks::Imprint;
-use crate::faults::{Lost, ReadFault};
+use crate::faults::{Lost, TablesFault};
 use crate::fronts::Front;
 use crate::looks::{route_of, tables_of, version_of};
 use crate::showing::Place;
@@ -58,7 +58,7 @@ impl<J: Imprint> Reader<J> {
     /// The version in force and its tables, which stay as they are for as long as they are held.
     /// It takes no block of memory. `Lost` if the reader isn't let in, `NoMemory` if the tables
     /// have as many owners as can be counted.
-    pub fn read(&mut self) -> Result<(Version, Arc<Tables, Global>), ReadFault>
+    pub fn read(&mut self) -> Result<(Version, Arc<Tables, Global>), TablesFault>
         ensures grows { IsPrefix self.old.list self.new.list }
         ensures told { IfOk result (λ _. IsPrefix self.old.told self.new.list) }
         ensures version { IfOk result (λ read. read.0 ≡ length self.new.list) }

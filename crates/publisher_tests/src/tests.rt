@@ -5,7 +5,7 @@ ghost use Rattle.std.specs.Prelude.{◌≡◌, ◌+◌, ◌<◌, ◌≤◌, leng
 use command_reader::read;
 use compiler::{Plan, Tables, ZoneNo};
 use gk_terms::{Dialled, Version};
-use publisher::{Blank, Imprint, Lost, Publisher, ReadFault, Reader};
+use publisher::{Blank, Imprint, Lost, Publisher, Reader, TablesFault};
 use std::alloc::Global;
 use std::marker::Brand;
 use std::process::Abort;
@@ -60,14 +60,14 @@ pub(crate) type InForce = (u32, u32);
 type Read = (Option<InForce>, Option<InForce>, Option<InForce>);
 
 /// Why a reader reads nothing: no version, no tables, no route.
-type Refusals = (Option<Lost>, Option<ReadFault>, Option<Lost>);
+type Refusals = (Option<Lost>, Option<TablesFault>, Option<Lost>);
 
 #[test]
 fn what_was_told_is_read_and_what_is_held_stays(rt: HostRuntime) -> Result<(), Fail> {
     let tables = both(&rt, rt.alloc())?;
     let (read, refusals) = read_when_told::<Brand, _>(&rt, rt.alloc(), Blank::new(), &tables);
     assert!(rt; read == (Some((1, 1)), Some((2, 2)), Some((2, 2))));
-    assert!(rt; refusals == (Some(Lost), Some(ReadFault::Lost), Some(Lost)));
+    assert!(rt; refusals == (Some(Lost), Some(TablesFault::Lost), Some(Lost)));
     assert!(rt; Arc::strong_count(&tables.0) == 1);
     Ok(())
 }
@@ -104,7 +104,7 @@ fn read_when_told<J: Imprint, R: Wait + Abort>(
 /// The version that was read, and where its tables lead 12.
 fn in_force<R: Abort>(
     rt: &R,
-    read: Result<(Version, Arc<Tables, Global>), ReadFault>,
+    read: Result<(Version, Arc<Tables, Global>), TablesFault>,
 ) -> Option<InForce> {
     match read {
         Ok((version, tables)) => Some((version.value(), zone_in(&tables.plan(&digits(rt)))?)),
