@@ -5,7 +5,6 @@ use Rattle.rulings.specs.State.{State, MachineParts, opening_of, under}
 use Rattle.rulings.specs.Founded.{IsUnder, takes_memory}
 use Rattle.std.specs.Prelude.{IsSome}
 use Rattle.std.specs.List.{AllByRecursion}
-use Rattle.command_reader.specs.declared.commands.Command.{Command}
 use Rattle.rulings.specs.Events.{PlainEvent, Registering, Unregistering, Admitting, Answering, Changing, Releasing, Reloading, put_in_force}
 use Rattle.rulings.specs.Ruling.{ruling_of}
 use Rattle.rulings.specs.Lacks.{no_memory_reply_of}
@@ -13,7 +12,6 @@ use Rattle.rulings.specs.Step.{places_needed, step}
 use Rattle.entry_bytes.specs.Entry.{PlainEntry}
 use Rattle.decision_record.specs.History.{entry_of, IsLegal, replay, CoreParts, RecordParts, in_force, generations_of, generations, state_of, with_entry, receipt_of, MayReply, core_after}
 use Rattle.admission.specs.CoreInvariant.{IsOrderKept}
-use Rattle.rulings.specs.Ruling.{Ruling}
 use Rattle.admission.specs.HistoryLaws.{AreAccepted, IsWithinLimits, IsSound}
 use Rattle.admission.proofs.VersionLemmas.{all_accepted}
 use Rattle.admission.proofs.HistoryLaws.{records_are_sound}
@@ -134,20 +132,6 @@ answers_as_the_machine old event = by (step (state_of old) event).recorded refl
     })
 
 -- ---- what every core keeps
--- the version is the number of the configurations that were put in force
-pub version_counts : (core : CoreParts)
-    → IsSound core.opening.commands core.opening.limits core.entries (state_of core)
-    → (state_of core).version ≡ length (generations core)
-version_counts core sound = sound.version_is
-
--- a ruling of a machine under the commands in force
-pub ruled_by : (machine : MachineParts) (commands : List Command) (s : State) (event : PlainEvent)
-    (ruling : Ruling)
-    → IsUnder machine s → commands ≡ s.commands → ruling ≡ ruling_of (under commands machine) event
-    → ruling ≡ ruling_of s event
-ruled_by machine commands s event ruling is same given =
-    given ∙ ap (λ cs. ruling_of (under cs machine) event) same ∙ ap (λ t. ruling_of t event) is
-
 -- a reload needs one place, and no memory of its own
 pub reload_is_light : (s : State) (event : PlainEvent) → IsSome (put_in_force event)
     → (takes_memory (ruling_of s event).effect ≡ false)
@@ -161,11 +145,3 @@ reload_is_light s (Answering id call units) puts = let impossible : ⊥ = cc in 
 reload_is_light s (Changing id call units) puts = let impossible : ⊥ = cc in absurd impossible
 reload_is_light s (Releasing id call) puts = let impossible : ⊥ = cc in absurd impossible
 reload_is_light s (Reloading commands) puts = (refl, refl)
-
-pub ruled_light : (s : State) (event : PlainEvent) (ruling : Ruling) → ruling ≡ ruling_of s event
-    → IsSome (put_in_force event)
-    → (takes_memory ruling.effect ≡ false) × (places_needed ruling.effect ≡ 1)
-ruled_light s event ruling given puts =
-    subst (λ (r : Ruling).
-    (takes_memory r.effect ≡ false) × (places_needed r.effect ≡ 1)) (sym given)
-    (reload_is_light s event puts)

@@ -120,14 +120,6 @@ module _ (machine : State) (event : PlainEvent) (core : CoreParts)
       unchanged = refl;
     }
 
-    -- and its step is not recorded
-    pub left_out_step : (verdict : Reply) → verdict ≡ verdict_of machine event
-        → is_recorded verdict ≡ false → (step (state_of core) event).recorded ≡ false
-    left_out_step verdict is unrecorded =
-        ap (λ s. (step s event).recorded) (sym same)
-        ∙ ap (λ (o : Outcome). o.recorded)
-        (step_unrecorded machine event free (ap is_recorded (sym is) ∙ unrecorded))
-
     -- and so does one for which memory runs out
     pub lacks_memory : (new : CoreParts) (reply : Reply)
         → is_recorded (verdict_of machine event) ≡ true
@@ -251,13 +243,6 @@ module _ (machine : MachineParts) (history : RecordParts) (reserved : Bool) (eve
       counts new more false (kept_on enough asked) ∙ ap length entered
       ∙ length_push history.entries (entry_of now event)
       ∙ ap (λ n. n + 1) (sym (counts machine history reserved kept))
-
-  -- the step was recorded
-  pub was_recorded : (core : CoreParts) → core_with machine.limits history reserved ≡ core
-      → (step (state_of core) event).recorded ≡ true
-  was_recorded core same =
-      ap (λ s. (step s event).recorded) (sym (stands_as machine history reserved kept core same))
-      ∙ ap (λ (o : Outcome). o.recorded) step_now
 
 -- ---- reservations
 module _ (machine : MachineParts) (history : RecordParts) (reserved : Bool)

@@ -44,6 +44,11 @@ abbrev pub answered : PlainEvent → Reply → Option ℕ → Result (Reply × R
 answered event reply (Some number) = Ok (reply, receipt_for event reply number)
 answered event reply None = Err reply
 
+-- the reply in an answer, whether or not the event was recorded
+abbrev pub reply_in : Result (Reply × Receipt) Reply → Reply
+reply_in (Ok answer) = answer.0
+reply_in (Err reply) = reply
+
 -- the reply that was kept; if there is none, any
 abbrev pub reply_kept : Option Reply → Reply
 reply_kept (Some reply) = reply

@@ -88,6 +88,16 @@ pub fn receipt_for(event: &LentEvent<'_>, reply: &Reply, number: u32) -> Receipt
     }
 }
 
+/// The reply in what a core answered, whether or not the event was recorded.
+pub fn reply_in(answer: &Result<(Reply, Receipt), Reply>) -> Reply
+    ensures { result ≡ Spec.reply_in answer.now }
+{
+    match answer {
+        Ok((reply, _)) => *reply,
+        Err(reply) => *reply,
+    }
+}
+
 /// The receipt of a reload with this reply, if its entry has this number.
 pub(crate) fn reload_receipt(reply: &Reply, number: u32) -> Receipt
     ensures { result ≡ record {

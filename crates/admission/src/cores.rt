@@ -15,12 +15,13 @@ ghost use Rattle.admission.specs.HistoryLaws.{AreAccepted, IsSound};
 ghost use Rattle.std.specs.List.{AllByRecursion};
 
 use crate::answering::reload_receipt;
+use crate::refusing::reload_refused;
 use bandwidth::OpenCalls;
 use compiler::{Routed, Tables};
-use decision_record::{Draft, RELOAD_BYTES, Receipt, Record};
+use decision_record::{EntryDraft, RELOAD_BYTES, Receipt, Record};
 use gk_terms::{Dialled, Name, Units, Version};
 use registry::{Endpoint, Registry};
-use rulings::{Event, KeptReply, Limits, Machine, ReloadRefusal, Reply};
+use rulings::{Event, KeptReply, Lack, Limits, Machine, ReloadRefusal, Reply};
 use std::alloc::Global;
 use std::marker::Model;
 use std::sync::Arc;
@@ -47,7 +48,7 @@ pub struct Core {
     pub(crate) machine: Machine,
     pub(crate) history: Record,
     pub(crate) reserved: bool,
-    pub(crate) draft: Draft,
+    pub(crate) draft: EntryDraft,
 }
 
 impl Model for Core {
@@ -89,7 +90,7 @@ impl Core {
             machine: Machine::new(alloc, limits),
             history: Record::new(alloc, tables),
             reserved: false,
-            draft: Draft::new(alloc),
+            draft: EntryDraft::new(alloc),
         })
     }
 
@@ -218,12 +219,11 @@ impl Core {
         ensures err { IfErr result (λ reply. IsUnrecorded self.old
             (Events.Reloading (arc_value tables.now).commands) reply self.new) }
     {
+        // Only the contract speaks of the tables.
         let _ = tables;
         let ruling = &self.machine.reload();
         if let Some(lack) = self.machine.reload_lack(ruling) {
-            return Err(Reply::ReloadRefused {
-                reason: lack.of_reload(),
-            });
+            return Err(reload_refused(lack));
         }
         if self.reserved {
             return Ok(());
@@ -233,9 +233,7 @@ impl Core {
                 self.reserved = true;
                 Ok(())
             }
-            Err(_) => Err(Reply::ReloadRefused {
-                reason: ReloadRefusal::NoMemory,
-            }),
+            Err(_) => Err(reload_refused(Lack::Memory)),
         }
     }
 

@@ -3,13 +3,13 @@
 
 mod answering;
 pub mod cores;
-mod entering;
 pub mod laws;
+mod refusing;
 mod settling;
 mod snapshots;
 mod stepping;
 
-pub use answering::receipt_for;
+pub use answering::{receipt_for, reply_in};
 pub use call_rows::{
     AdmittedCall, AnsweredCall, AskedCall, CallEvent, CallRow, NumberedAdmission, PushFault,
     Snapshot,

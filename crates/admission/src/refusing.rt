@@ -1,12 +1,11 @@
-//! What is replied to an event that lacks something, and the place that is kept for a reload.
+//! What is replied to an event that lacks something.
 
 ghost use Rattle.std.specs.Prelude.{◌≡◌, IsSome};
 ghost use Rattle.rulings.specs.Events.{event_meant};
-ghost use Rattle.rulings.specs.Lacks.{lacking};
-ghost use Rattle.admission.specs.CoreInvariant.{places_reserved};
+ghost use Rattle.rulings.specs.Lacks.{lacking, reload_reason};
 ghost use Rattle.admission.specs.Stepping.{HasRefusal};
 
-use rulings::{Lack, LentEvent, ReplyTaker};
+use rulings::{Lack, LentEvent, Reply, ReplyTaker};
 
 /// Gives the taker the reply to an event that lacks this.
 pub(crate) fn refuse<S: ReplyTaker>(event: &LentEvent<'_>, lack: Lack, taker: &mut S)
@@ -20,9 +19,11 @@ pub(crate) fn refuse<S: ReplyTaker>(event: &LentEvent<'_>, lack: Lack, taker: &m
     }
 }
 
-/// The places of the record that are kept for a reload.
-pub(crate) fn places_reserved(reserved: bool) -> usize
-    ensures { result ≡ places_reserved reserved }
+/// The reply to a reload that lacks this.
+pub(crate) fn reload_refused(lack: Lack) -> Reply
+    ensures { result ≡ Reply.ReloadRefused (reload_reason lack) }
 {
-    if reserved { 1 } else { 0 }
+    Reply::ReloadRefused {
+        reason: lack.of_reload(),
+    }
 }

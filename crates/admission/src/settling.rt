@@ -7,10 +7,11 @@ ghost use Rattle.rulings.specs.Ruling.{ruling_of};
 ghost use Rattle.rulings.specs.State.{under};
 ghost use Rattle.rulings.specs.Step.{count_refusal, is_recorded, state_after, places_needed};
 ghost use Rattle.decision_record.specs.History.{entry_of, in_force};
+ghost use Rattle.admission.specs.CoreInvariant.{places_reserved};
 ghost use Rattle.admission.specs.HistoryLaws.{IsWithinLimits};
 ghost use Rattle.rulings.specs.Founded.{IsUnder, IsFallible, takes_memory};
 
-use decision_record::{Draft, Record};
+use decision_record::{EntryDraft, Record};
 use rulings::{Effect, LentEvent, Machine};
 use std::alloc::AllocError;
 
@@ -80,7 +81,7 @@ pub(crate) fn prepare(
 pub(crate) fn settle(
     history: &mut Record,
     machine: &mut Machine,
-    draft: &Draft,
+    draft: &EntryDraft,
     written: Result<(), AllocError>,
     event: &LentEvent<'_>,
     effect: &Effect,
@@ -117,4 +118,11 @@ pub(crate) fn settle(
     prepare(history, machine, event, effect, reserved, draft.len())?;
     history.push(draft);
     Ok(())
+}
+
+/// The places of the record that are kept for a reload.
+pub(crate) fn places_reserved(reserved: bool) -> usize
+    ensures { result ≡ places_reserved reserved }
+{
+    if reserved { 1 } else { 0 }
 }

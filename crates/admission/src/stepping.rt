@@ -12,19 +12,20 @@ ghost use Rattle.admission.specs.Answering.{IsRoutedFor};
 ghost use Rattle.admission.specs.Stepping.{StepsInto};
 
 use crate::cores::Core;
-use crate::entering::{places_reserved, refuse};
-use crate::settling::{prepare, settle};
+use crate::refusing::{refuse, reload_refused};
+use crate::settling::{places_reserved, prepare, settle};
 use compiler::{Plan, Routed, Tables};
 use decision_record::RELOAD_BYTES;
-use rulings::{Effect, Lack, LentEvent, ReloadRefusal, Reply, ReplyTaker};
+use rulings::{Effect, Lack, LentEvent, Reply, ReplyTaker};
 use std::sync::Arc;
 
 impl Core {
     /// Answers an event that is lent, and is not a reload, as `answer` does, for whoever answers
     /// many: the reply goes into a taker, and the number of the event's entry is given back if it
-    /// was recorded, from which its receipt can be made. No reply is made but what the taker makes
-    /// of the ruling. An admission is planned by the tables in force, unless its digits were routed
-    /// under their version, and by the technology prefixes that gateways gave.
+    /// was recorded, from which its receipt can be made. Of a ruling that is recorded no reply is
+    /// made but what the taker makes of it. An admission is planned by the tables in force, unless
+    /// its digits were routed under their version, and by the technology prefixes that gateways
+    /// gave.
     ///
     /// The entry is written before the effect is carried out, since the ruling is lent from what
     /// that changes.
@@ -86,6 +87,7 @@ impl Core {
         ensures { IfSome (option_copied result)
             (IsPlanOf (state_of self.now).commands (event_meant event.now)) }
     {
+        // Only the contract speaks of the event.
         let _ = event;
         match routed {
             Some(routed) if routed.version == self.version() => Some(&routed.plan),
@@ -93,7 +95,8 @@ impl Core {
         }
     }
 
-    /// The same of a reload to these tables, which the record takes.
+    /// Answers a reload to these tables, as `reload` does: the record takes them, the reply goes into
+    /// a taker, and the number of the entry is given back if the reload was recorded.
     pub(crate) fn step_reload<S: ReplyTaker>(
         &mut self,
         tables: Arc<Tables>,
@@ -106,9 +109,7 @@ impl Core {
     {
         let ruling = &self.machine.reload();
         if let Some(lack) = self.machine.reload_lack(ruling) {
-            taker.take_reply(&Reply::ReloadRefused {
-                reason: lack.of_reload(),
-            });
+            taker.take_reply(&reload_refused(lack));
             return None;
         }
         let effect = &ruling.effect();
@@ -154,9 +155,7 @@ impl Core {
                 Some(number)
             }
             Err(_) => {
-                taker.take_reply(&Reply::ReloadRefused {
-                    reason: ReloadRefusal::NoMemory,
-                });
+                taker.take_reply(&reload_refused(Lack::Memory));
                 None
             }
         }

@@ -1,4 +1,4 @@
-use Rattle.std.proofs.Common.{◌≡◌, ◌≤◌, length, ◌++◌, ◌∷◌, [], false, refl, sym, ap, ap₂, ◌∙◌, true≢false, arith}
+use Rattle.std.proofs.Common.{◌≡◌, ◌≤◌, length, ◌++◌, ◌∷◌, [], Some, false, refl, sym, ap, ap₂, ◌∙◌, true≢false, arith}
 use Rattle.std.specs.Arc.{arc_value}
 use Rattle.rulings.specs.Events.{Reloading}
 use Rattle.rulings.specs.State.{State}
@@ -110,7 +110,7 @@ returns-in-Err-clause-step g c =
       _,
       c.take_reply-in-Err.ensures.taken,
       lacks_memory _ event _ stands (recorded_unrefused _ _ recorded) _ _
-          (recorded_verdict_of _ _ recorded) refl
+          (recorded_verdict_of _ _ recorded) (ap Some (sym c.reload_refused.ensures))
           (core_still c.self.inside.machine c.prepare.new.machine c.self.inside.history
           c.prepare.new.history c.self.inside.reserved c.in-Err.ensures.err.0
           c.in-Err.ensures.err.1

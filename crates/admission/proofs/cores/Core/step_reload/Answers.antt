@@ -3,7 +3,6 @@ use Rattle.std.specs.Arc.{arc_value}
 use Rattle.rulings.specs.Events.{Reloading}
 use Rattle.rulings.specs.Lent.{ruling_meant}
 use Rattle.rulings.specs.Ruling.{Ruling}
-use Rattle.rulings.specs.declared.replies.Reply.TheVariants.{ReloadRefused}
 use Rattle.decision_record.specs.History.{IsUnrecorded}
 use Rattle.admission.proofs.EventLemmas.{reload_refused, reload_not_recorded, reload_recorded, reload_ruled}
 use Rattle.admission.proofs.cores.Core.step_reload.Goals as goal
@@ -12,8 +11,8 @@ pub returns-in-Some-clause-step : goal.returns-in-Some-clause-step
 returns-in-Some-clause-step g c = (
   _,
   c.take_reply.ensures.taken,
-  subst (λ reason. IsUnrecorded c.args.self.now (Reloading (arc_value c.args.tables).commands)
-      (ReloadRefused reason) c.args.self.now) (sym c.of_reload.ensures)
+  subst (λ reply. IsUnrecorded c.args.self.now (Reloading (arc_value c.args.tables).commands) reply
+      c.args.self.now) (sym c.reload_refused.ensures)
       (reload_refused _ _ _ c.self.invariant.0 _ c.self.view_is _ (ruling_meant c.reload.result) _
       c.reload.ensures (sym c.reload_lack.ensures ∙ c.in-Some.is)),
 )
