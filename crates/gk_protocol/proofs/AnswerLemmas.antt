@@ -12,7 +12,7 @@ use Rattle.gk_protocol.specs.declared.answers.Answer.{Answer}
 use Rattle.gk_protocol.specs.declared.answers.Answer.TheVariants.{Reply}
 use Rattle.gk_protocol.specs.Answering as answering
 use Rattle.gk_protocol.specs.Answers.{answer_text_of}
-use Rattle.gk_protocol.specs.AskedEvents.{asked_event, sequence_of}
+use Rattle.gk_protocol.specs.AskedEvents.{Demand, AnEvent, AReload, ATrial, asked_event, demand_of, event_in, sequence_of}
 use Rattle.gk_protocol.specs.CoreAnswers.{MayAnswer, MayShow, Replies}
 use Rattle.gk_protocol.specs.Hearing.{AnswersInto}
 
@@ -37,17 +37,16 @@ module _ {S : Type 0} (MayReply : S → PlainEvent → CoreReply → S → Type 
   as_asked : (asked : PlainEvent) → Some asked ≡ Some event → MayReply old asked reply new
   as_asked asked asks = subst (λ e. MayReply old e reply new) (same_Some _ _ (sym asks)) may
 
+  meets : (sequence : ℕ) (demand : Demand) → event_in demand ≡ Some event
+      → answering.MayMeet MayReply MayShow old sequence demand (Reply sequence reply) new
+  meets sequence (AnEvent asked) asks = (reply, refl, as_asked asked asks)
+  meets sequence (AReload lines) asks = absurd (none-some _ asks)
+  meets sequence (ATrial workers lines) asks = absurd (none-some _ asks)
+
   -- whoever answers
   pub may_answer : (request : Request) → asked_event request ≡ Some event
       → answering.MayAnswer MayReply MayShow old request (Reply (sequence_of request) reply) new
-  may_answer (Register sequence endpoint) asks = (reply, refl, as_asked _ asks)
-  may_answer (Unregister sequence id) asks = (reply, refl, as_asked _ asks)
-  may_answer (Admit sequence id call digits units) asks = (reply, refl, as_asked _ asks)
-  may_answer (Incoming sequence id call units) asks = (reply, refl, as_asked _ asks)
-  may_answer (Change sequence id call units) asks = (reply, refl, as_asked _ asks)
-  may_answer (Release sequence id call) asks = (reply, refl, as_asked _ asks)
-  may_answer (Reload sequence lines) asks = absurd (none-some _ asks)
-  may_answer (Try sequence workers lines) asks = absurd (none-some _ asks)
+  may_answer request asks = meets (sequence_of request) (demand_of request) asks
 
 -- a step gives a reply that a core may give
 pub step_replies : (old new : CoreParts) (event : PlainEvent) (reply : CoreReply)

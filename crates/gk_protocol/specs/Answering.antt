@@ -1,24 +1,22 @@
 -- What may be answered to requests, whoever answers: by which replies to events are allowed, and by
 -- which rows and endpoints a trial may be of.
 use Rattle.std.specs.Prelude.{◌≡◌, ◌≢◌, ◌⊎◌, ◌&&◌, ℕ, nat_le, Bool, true, false, List, Result, Ok, Err, MatchBool}
-use Rattle.gk_terms.specs.Text.{lines_of}
 use Rattle.command_reader.specs.declared.faults.LineFault.{LineFault}
 use Rattle.command_reader.specs.declared.faults.FaultKind.TheVariants as fault_kind
 use Rattle.command_reader.specs.Configuration.{Configuration}
 use Rattle.command_reader.specs.Reading.{reading_in, MayRead}
-use Rattle.rulings.specs.Events.{PlainEvent, Registering, Unregistering, Admitting, Answering, Changing, Releasing, Reloading}
+use Rattle.rulings.specs.Events.{PlainEvent, Reloading}
 use Rattle.rulings.specs.declared.replies.Reply.{Reply as CoreReply}
-use Rattle.decision_record.specs.declared.entries.Receipt.{Receipt}
 use Rattle.call_rows.specs.Rows.{SnapshotParts}
 use Rattle.trial_run.specs.Report.{report_of}
 use Rattle.trial_run.specs.ReportText.{report_text}
 use Rattle.gk_protocol.specs.declared.requests.Request.{Request}
-use Rattle.gk_protocol.specs.declared.requests.Request.TheVariants.{Register, Unregister, Admit, Incoming, Change, Release, Reload, Try}
 use Rattle.gk_protocol.specs.declared.answers.Answer.{Answer}
 use Rattle.gk_protocol.specs.declared.answers.Answer.TheVariants.{Reply, Misconfigured, Tried, TryRefused}
 use Rattle.gk_protocol.specs.declared.answers.TrialRefusal.{TrialRefusal}
 use Rattle.gk_protocol.specs.declared.answers.TrialRefusal.TheVariants as trial
 use Rattle.gk_protocol.specs.Requests.{reload_without_memory, trial_without_memory}
+use Rattle.gk_protocol.specs.AskedEvents.{Demand, AnEvent, AReload, ATrial, sequence_of, demand_of}
 use Rattle.gk_protocol.specs.declared.owned_tables.NoTables.{NoTables}
 use Rattle.gk_protocol.specs.declared.owned_tables.NoTables.TheVariants as none
 
@@ -41,11 +39,6 @@ IsNoTablesFor fault (none.Faulty other) = (other ≡ fault) × (fault.kind ≢ f
 IsNoTablesFor fault none.NoMemory = fault.kind ≡ fault_kind.NoMemory
 
 -- ---- events, by the replies that are allowed to them
--- the reply in what a core or a seat answered, whether or not the event was recorded
-abbrev pub reply_in : Result (CoreReply × Receipt) CoreReply → CoreReply
-reply_in (Ok answer) = answer.0
-reply_in (Err reply) = reply
-
 module _ {S : Type 0} (MayReply : S → PlainEvent → CoreReply → S → Type 0) where
   -- the answer is a reply that is allowed to the event, and repeats the request's sequence number
   abbrev pub Replies : S → ℕ → PlainEvent → Answer → S → Type 0
@@ -117,22 +110,15 @@ module _ {S : Type 0} (MayShow : S → SnapshotParts → Type 0) where
 -- ---- requests
 module _ {S : Type 0} (MayReply : S → PlainEvent → CoreReply → S → Type 0)
     (MayShow : S → SnapshotParts → Type 0) where
-  -- a request may be answered so in the old state, and the new one is the state after it; a trial
-  -- leaves it as it was
+  -- by what is asked; a trial leaves the answerer as it was
+  abbrev pub MayMeet : S → ℕ → Demand → Answer → S → Type 0
+  MayMeet old sequence (AnEvent event) answer new =
+      Replies MayReply old sequence event answer new
+  MayMeet old sequence (AReload lines) answer new =
+      MayReload MayReply old sequence lines answer new
+  MayMeet old sequence (ATrial workers lines) answer new =
+      MayTry MayShow old sequence workers lines answer × (new ≡ old)
+
+  -- a request may be answered so in the old state, and the new one is the state after it
   abbrev pub MayAnswer : S → Request → Answer → S → Type 0
-  MayAnswer old (Register sequence endpoint) answer new =
-      Replies MayReply old sequence (Registering endpoint) answer new
-  MayAnswer old (Unregister sequence id) answer new =
-      Replies MayReply old sequence (Unregistering id) answer new
-  MayAnswer old (Admit sequence id call digits units) answer new =
-      Replies MayReply old sequence (Admitting id call digits units) answer new
-  MayAnswer old (Incoming sequence id call units) answer new =
-      Replies MayReply old sequence (Answering id call units) answer new
-  MayAnswer old (Change sequence id call units) answer new =
-      Replies MayReply old sequence (Changing id call units) answer new
-  MayAnswer old (Release sequence id call) answer new =
-      Replies MayReply old sequence (Releasing id call) answer new
-  MayAnswer old (Reload sequence lines) answer new =
-      MayReload MayReply old sequence (lines_of lines) answer new
-  MayAnswer old (Try sequence workers lines) answer new =
-      MayTry MayShow old sequence workers (lines_of lines) answer × (new ≡ old)
+  MayAnswer old request answer new = MayMeet old (sequence_of request) (demand_of request) answer new

@@ -30,7 +30,7 @@ pub use endpoint_files::{EndpointsFault, EndpointsFaultKind, read_endpoints};
 pub use line_owners::LineOwner;
 pub use owned_lines::OwnedLines;
 pub use owned_tables::{NoTables, tables_in, tables_of};
-pub use reloads::{reload_without_memory, reply_in};
+pub use reloads::reload_without_memory;
 pub use reply_lines::ReplyLine;
 pub use report_texts::ReportText;
 pub use request_faults::RequestFault;

@@ -4,14 +4,13 @@ ghost use Rattle.std.specs.Prelude.{◌≡◌};
 ghost use Rattle.std.specs.Arc.{arc_value};
 ghost use Rattle.gk_terms.specs.Text.{lines_of};
 ghost use Rattle.rulings.specs.Events.{Reloading};
-ghost use Rattle.gk_protocol.specs.Answering.{reply_in};
 ghost use Rattle.gk_protocol.specs.CoreAnswers.{MayReload, Replies};
 ghost use Rattle.gk_protocol.specs.Requests.{reload_without_memory};
 
 use crate::answers::Answer;
 use crate::owned_lines::OwnedLines;
 use crate::owned_tables::{NoTables, tables_of};
-use admission::{Core, Receipt, ReloadRefusal, Reply};
+use admission::{Core, ReloadRefusal, Reply, reply_in};
 use compiler::Tables;
 use std::alloc::Global;
 use std::sync::Arc;
@@ -42,16 +41,6 @@ fn put_in_force(core: &mut Core, sequence: u32, tables: Arc<Tables>) -> Answer
     let answer = core.reload(tables);
     let reply = reply_in(&answer);
     Answer::Reply { sequence, reply }
-}
-
-/// The reply in what a core or a seat answered, whether or not the event was recorded.
-pub fn reply_in(answer: &Result<(Reply, Receipt), Reply>) -> Reply
-    ensures { result ≡ reply_in answer.now }
-{
-    match answer {
-        Ok((reply, _)) => *reply,
-        Err(reply) => *reply,
-    }
 }
 
 /// The answer to the reload of this number if memory ran out for it.

@@ -5,9 +5,8 @@ use Rattle.std.specs.Prelude.{◌≢◌, ◌⊎◌, Option, Some, None, Result, 
 use Rattle.command_reader.specs.declared.faults.LineFault.{LineFault}
 use Rattle.command_reader.specs.Configuration.{Configuration}
 use Rattle.command_reader.specs.Reading.{reading_in}
-use Rattle.gk_terms.specs.Text.{lines_of}
 use Rattle.rulings.specs.declared.limits.Limits.{Limits}
-use Rattle.rulings.specs.Events.{PlainEvent, Registering, Unregistering, Admitting, Answering, Changing, Releasing, Reloading}
+use Rattle.rulings.specs.Events.{PlainEvent, Reloading}
 use Rattle.rulings.specs.Lacks.{no_memory_reply_of}
 use Rattle.rulings.specs.Step.{step}
 use Rattle.decision_record.specs.History.{CoreParts, MayReply, state_of, with_entry, core_after}
@@ -15,19 +14,19 @@ use Rattle.rulings.specs.declared.replies.Reply.{Reply as CoreReply}
 use Rattle.admission.proofs.CoreLemmas.{answers_as_the_machine}
 use Rattle.gk_protocol.specs.declared.request_faults.RequestFault.{RequestFault}
 use Rattle.gk_protocol.specs.declared.requests.Request.{Request}
-use Rattle.gk_protocol.specs.declared.requests.Request.TheVariants.{Register, Unregister, Admit, Incoming, Change, Release, Reload, Try}
 use Rattle.gk_protocol.specs.declared.answers.Answer.{Answer}
 use Rattle.gk_protocol.specs.declared.answers.Answer.TheVariants.{Reply, Tried, TryRefused}
 use Rattle.gk_protocol.specs.declared.answers.TrialRefusal.TheVariants as trial
 use Rattle.gk_protocol.specs.Answers.{answer_text_of}
 use Rattle.gk_protocol.specs.Requests.{reload_without_memory, trial_without_memory}
 use Rattle.gk_protocol.specs.Answering.{are_workers, MayLackMemory, report_under}
-use Rattle.gk_protocol.specs.CoreAnswers.{Replies, ReloadsBy, shown_by, TriesBy, MayTry, MayAnswer}
+use Rattle.gk_protocol.specs.AskedEvents.{Demand, AnEvent, AReload, ATrial, demand_of, sequence_of}
+use Rattle.gk_protocol.specs.CoreAnswers.{Replies, ReloadsBy, shown_by, TriesBy, MayTry, MayMeet, MayAnswer}
 use Rattle.gk_protocol.specs.Session.{Asked, requests_of, Answered, MayGet, Runs}
 use Rattle.configuration_reader.specs.declared.configuration.Until.TheVariants.{EndLine}
 use Rattle.configuration_reader.specs.Configuration.{configuration_of, rest_of}
 use Rattle.gkd.specs.Run.{opened}
-use Rattle.gkd.specs.Output.{reloading, tried_by, trial_answer, answer_to, core_with, answer_of, core_of, replies_of, output_after, output_of, OutputIsRun, AnsweredInMemory, RunsInMemory, OutputIsRunInMemory, OutputIsOnlyRun}
+use Rattle.gkd.specs.Output.{reloading, tried_by, trial_answer, answer_to, core_with, event_to_meet, unmet_without_memory, answer_of, core_of, replies_of, output_after, output_of, OutputIsRun, AnsweredInMemory, RunsInMemory, OutputIsRunInMemory, OutputIsOnlyRun}
 use Rattle.gkd.proofs.MemoryLemmas.{lasts}
 
 replied : (core : CoreParts) (sequence : ℕ) (event : PlainEvent) → Replies core sequence event
@@ -72,20 +71,17 @@ tries : (core : CoreParts) (sequence workers : ℕ) (lines : List (List ℕ)) �
     workers lines (trial_answer core sequence workers lines)
 tries core sequence workers lines = tries_if core sequence lines (are_workers workers)
 
+-- what is asked is met
+met : (core : CoreParts) (sequence : ℕ) (demand : Demand)
+    → MayMeet core sequence demand (answer_to core sequence (event_to_meet core sequence demand))
+    (core_with core (event_to_meet core sequence demand))
+met core sequence (AnEvent event) = replied core sequence event
+met core sequence (AReload lines) = inl (reloaded core sequence (reading_in lines))
+met core sequence (ATrial workers lines) = (tries core sequence workers lines, refl)
+
 answered : (core : CoreParts) (request : Result Request RequestFault) → Answered MayAnswer core
     request (answer_of core request) (core_of core request)
-answered core (Ok (Register sequence endpoint)) = replied core sequence (Registering endpoint)
-answered core (Ok (Unregister sequence id)) = replied core sequence (Unregistering id)
-answered core (Ok (Admit sequence id call digits units)) = replied core sequence
-    (Admitting id call digits units)
-answered core (Ok (Incoming sequence id call units)) = replied core sequence
-    (Answering id call units)
-answered core (Ok (Change sequence id call units)) = replied core sequence (Changing id call units)
-answered core (Ok (Release sequence id call)) = replied core sequence (Releasing id call)
-answered core (Ok (Reload sequence lines)) = inl (reloaded core sequence
-    (reading_in (lines_of lines)))
-answered core (Ok (Try sequence workers lines)) =
-    (tries core sequence workers (lines_of lines), refl)
+answered core (Ok request) = met core (sequence_of request) (demand_of request)
 answered core (Err fault) = (refl, refl)
 
 may_get : (core : CoreParts) (asked : Asked) → MayGet MayAnswer core asked
@@ -195,31 +191,30 @@ tried_in_memory_if core sequence lines answer true (inr lacking) lasts threads =
     absurd (lasts (ap Some (sym lacking.0)))
 tried_in_memory_if core sequence lines answer false refused lasts threads = refused
 
+only_met : (old new : CoreParts) (sequence : ℕ) (demand : Demand) (answer : Answer)
+    → MayMeet old sequence demand answer new
+    → unmet_without_memory sequence demand ≢ Some answer
+    → TryRefused sequence trial.NoThread ≢ answer
+    → (answer ≡ answer_to old sequence (event_to_meet old sequence demand))
+    × (new ≡ core_with old (event_to_meet old sequence demand))
+only_met old new sequence (AnEvent event) answer may lasts threads =
+    reply_in_memory old new sequence event answer may lasts
+only_met old new sequence (AReload lines) answer may lasts threads =
+    ⊎_elim
+    (λ (r : ReloadsBy old sequence (reading_in lines) answer new).
+    reload_in_memory old new sequence (reading_in lines) answer r lasts)
+    (λ (r : (answer ≡ reload_without_memory sequence) × (new ≡ old) × MayLackMemory lines).
+    absurd (lasts (ap Some (sym r.0)))) may
+only_met old new sequence (ATrial workers lines) answer may lasts threads = (
+  tried_in_memory_if old sequence lines answer (are_workers workers) may.0 lasts threads,
+  may.1,
+)
+
 only_answer : (old new : CoreParts) (request : Result Request RequestFault) (answer : Answer) →
     AnsweredInMemory old request answer new → (answer ≡ answer_of old request) ×
     (new ≡ core_of old request)
-only_answer old new (Ok (Register sequence endpoint)) answer a = reply_in_memory old new sequence
-    (Registering endpoint) answer a.0 a.1
-only_answer old new (Ok (Unregister sequence id)) answer a = reply_in_memory old new sequence
-    (Unregistering id) answer a.0 a.1
-only_answer old new (Ok (Admit sequence id call digits units)) answer a = reply_in_memory old new
-    sequence (Admitting id call digits units) answer a.0 a.1
-only_answer old new (Ok (Incoming sequence id call units)) answer a = reply_in_memory old new
-    sequence (Answering id call units) answer a.0 a.1
-only_answer old new (Ok (Change sequence id call units)) answer a = reply_in_memory old new sequence
-    (Changing id call units) answer a.0 a.1
-only_answer old new (Ok (Release sequence id call)) answer a = reply_in_memory old new sequence
-    (Releasing id call) answer a.0 a.1
-only_answer old new (Ok (Reload sequence lines)) answer a =
-    ⊎_elim
-    (λ (r : ReloadsBy old sequence (reading_in (lines_of lines)) answer new). reload_in_memory old
-    new sequence (reading_in (lines_of lines)) answer r a.1)
-    (λ (r : (answer ≡ reload_without_memory sequence) × (new ≡ old) × MayLackMemory
-    (lines_of lines)). absurd (a.1 (ap Some (sym r.0)))) a.0
-only_answer old new (Ok (Try sequence workers lines)) answer a = (
-  tried_in_memory_if old sequence (lines_of lines) answer (are_workers workers) a.0.0 a.1 a.2,
-  a.0.1,
-)
+only_answer old new (Ok request) answer a =
+    only_met old new (sequence_of request) (demand_of request) answer a.0 a.1 a.2
 only_answer old new (Err fault) answer a = a
 
 only_text : (core : CoreParts) (asked : List Asked) (text : List ℕ) (last : CoreParts) →
@@ -311,30 +306,29 @@ event_in_memory core sequence event = (
   reply_apart sequence sequence (step (state_of core) event).reply,
 )
 
+met_in_memory : (core : CoreParts) (sequence : ℕ) (demand : Demand)
+    → MayMeet core sequence demand (answer_to core sequence (event_to_meet core sequence demand))
+    (core_with core (event_to_meet core sequence demand))
+    × (unmet_without_memory sequence demand
+    ≢ Some (answer_to core sequence (event_to_meet core sequence demand)))
+    × (TryRefused sequence trial.NoThread
+    ≢ answer_to core sequence (event_to_meet core sequence demand))
+met_in_memory core sequence (AnEvent event) = event_in_memory core sequence event
+met_in_memory core sequence (AReload lines) = (
+  inl (reloaded core sequence (reading_in lines)),
+  reload_lasts core sequence (reading_in lines),
+  reload_apart core sequence (reading_in lines),
+)
+met_in_memory core sequence (ATrial workers lines) = (
+  (tries core sequence workers lines, refl),
+  trial_lasts core sequence lines (are_workers workers),
+  trial_apart core sequence lines (are_workers workers),
+)
+
 answered_in_memory : (core : CoreParts) (request : Result Request RequestFault) → AnsweredInMemory
     core request (answer_of core request) (core_of core request)
-answered_in_memory core (Ok (Register sequence endpoint)) =
-    event_in_memory core sequence (Registering endpoint)
-answered_in_memory core (Ok (Unregister sequence id)) =
-    event_in_memory core sequence (Unregistering id)
-answered_in_memory core (Ok (Admit sequence id call digits units)) =
-    event_in_memory core sequence (Admitting id call digits units)
-answered_in_memory core (Ok (Incoming sequence id call units)) =
-    event_in_memory core sequence (Answering id call units)
-answered_in_memory core (Ok (Change sequence id call units)) =
-    event_in_memory core sequence (Changing id call units)
-answered_in_memory core (Ok (Release sequence id call)) =
-    event_in_memory core sequence (Releasing id call)
-answered_in_memory core (Ok (Reload sequence lines)) = (
-  inl (reloaded core sequence (reading_in (lines_of lines))),
-  reload_lasts core sequence (reading_in (lines_of lines)),
-  reload_apart core sequence (reading_in (lines_of lines)),
-)
-answered_in_memory core (Ok (Try sequence workers lines)) = (
-  (tries core sequence workers (lines_of lines), refl),
-  trial_lasts core sequence (lines_of lines) (are_workers workers),
-  trial_apart core sequence (lines_of lines) (are_workers workers),
-)
+answered_in_memory core (Ok request) =
+    met_in_memory core (sequence_of request) (demand_of request)
 answered_in_memory core (Err fault) = (refl, refl)
 
 runs_in_memory : (core : CoreParts) (asked : List Asked) → RunsInMemory core asked

@@ -3,21 +3,19 @@ use Rattle.std.specs.Prelude.{◌≡◌, ◌≢◌, ℕ, List, [], ◌∷◌, �
 use Rattle.command_reader.specs.declared.faults.LineFault.{LineFault}
 use Rattle.command_reader.specs.Configuration.{Configuration}
 use Rattle.command_reader.specs.Reading.{reading_in}
-use Rattle.gk_terms.specs.Text.{lines_of}
 use Rattle.rulings.specs.declared.limits.Limits.{Limits}
-use Rattle.rulings.specs.Events.{PlainEvent, Registering, Unregistering, Admitting, Answering, Changing, Releasing, Reloading}
+use Rattle.rulings.specs.Events.{PlainEvent, Reloading}
 use Rattle.rulings.specs.Lacks.{no_memory_reply_of}
 use Rattle.rulings.specs.Step.{step}
 use Rattle.decision_record.specs.History.{CoreParts, state_of, core_after}
 use Rattle.gk_protocol.specs.declared.request_faults.RequestFault.{RequestFault}
 use Rattle.gk_protocol.specs.declared.requests.Request.{Request}
-use Rattle.gk_protocol.specs.declared.requests.Request.TheVariants.{Register, Unregister, Admit, Incoming, Change, Release, Reload, Try}
 use Rattle.gk_protocol.specs.declared.answers.Answer.{Answer}
 use Rattle.gk_protocol.specs.declared.answers.Answer.TheVariants.{Reply, Misconfigured, Tried, TryRefused, Malformed}
 use Rattle.gk_protocol.specs.declared.answers.TrialRefusal.TheVariants as trial
 use Rattle.gk_protocol.specs.Answers.{answer_text_of}
 use Rattle.gk_protocol.specs.Requests.{reload_without_memory, trial_without_memory}
-use Rattle.gk_protocol.specs.AskedEvents.{sequence_of}
+use Rattle.gk_protocol.specs.AskedEvents.{Demand, AnEvent, AReload, ATrial, demand_of, sequence_of}
 use Rattle.gk_protocol.specs.Answering.{are_workers}
 use Rattle.gk_protocol.specs.CoreAnswers.{report_under, MayAnswer}
 use Rattle.gk_protocol.specs.Session.{Asked, requests_of, Runs}
@@ -41,18 +39,12 @@ trial_answer core sequence workers lines =
     if are_workers workers then tried_by core sequence (reading_in lines)
     else TryRefused sequence trial.BadWorkers
 
--- the event that a request asks for; or the answer that leaves the core, to a trial, and to a
--- reload whose lines have a fault
-abbrev pub event_of : CoreParts → Request → Result PlainEvent Answer
-event_of core (Register sequence endpoint) = Ok (Registering endpoint)
-event_of core (Unregister sequence id) = Ok (Unregistering id)
-event_of core (Admit sequence id call digits units) = Ok (Admitting id call digits units)
-event_of core (Incoming sequence id call units) = Ok (Answering id call units)
-event_of core (Change sequence id call units) = Ok (Changing id call units)
-event_of core (Release sequence id call) = Ok (Releasing id call)
-event_of core (Reload sequence lines) = reloading sequence (reading_in (lines_of lines))
-event_of core (Try sequence workers lines) =
-    Err (trial_answer core sequence workers (lines_of lines))
+-- the event that is asked for; or the answer that leaves the core, to a trial, and to a reload whose
+-- lines have a fault
+abbrev pub event_to_meet : CoreParts → ℕ → Demand → Result PlainEvent Answer
+event_to_meet core sequence (AnEvent event) = Ok event
+event_to_meet core sequence (AReload lines) = reloading sequence (reading_in lines)
+event_to_meet core sequence (ATrial workers lines) = Err (trial_answer core sequence workers lines)
 
 -- the machine's answer to an event, and the core after it; or the answer that leaves the core
 abbrev pub answer_to : CoreParts → ℕ → Result PlainEvent Answer → Answer
@@ -64,6 +56,9 @@ core_with core (Ok event) = core_after core event
 core_with core (Err answer) = core
 
 -- the same of what was asked
+abbrev pub event_of : CoreParts → Request → Result PlainEvent Answer
+event_of core request = event_to_meet core (sequence_of request) (demand_of request)
+
 abbrev pub answer_of : CoreParts → Result Request RequestFault → Answer
 answer_of core (Ok request) = answer_to core (sequence_of request) (event_of core request)
 answer_of core (Err fault) = Malformed fault
@@ -100,22 +95,15 @@ OutputIsRun =
     (requests_of (rest_of EndLine bytes)) text last)
 
 -- ---- if memory lasts and threads are started
--- the answer to a request that says that memory ran out for it, if there is one
+-- the answer that says that memory ran out for what is asked, if there is one
+abbrev pub unmet_without_memory : ℕ → Demand → Option Answer
+unmet_without_memory sequence (AnEvent event) =
+    option_map (Reply sequence) (no_memory_reply_of event)
+unmet_without_memory sequence (AReload lines) = Some (reload_without_memory sequence)
+unmet_without_memory sequence (ATrial workers lines) = Some (trial_without_memory sequence)
+
 abbrev pub without_memory : Request → Option Answer
-without_memory (Register sequence endpoint) =
-    option_map (Reply sequence) (no_memory_reply_of (Registering endpoint))
-without_memory (Unregister sequence id) =
-    option_map (Reply sequence) (no_memory_reply_of (Unregistering id))
-without_memory (Admit sequence id call digits units) =
-    option_map (Reply sequence) (no_memory_reply_of (Admitting id call digits units))
-without_memory (Incoming sequence id call units) =
-    option_map (Reply sequence) (no_memory_reply_of (Answering id call units))
-without_memory (Change sequence id call units) =
-    option_map (Reply sequence) (no_memory_reply_of (Changing id call units))
-without_memory (Release sequence id call) =
-    option_map (Reply sequence) (no_memory_reply_of (Releasing id call))
-without_memory (Reload sequence lines) = Some (reload_without_memory sequence)
-without_memory (Try sequence workers lines) = Some (trial_without_memory sequence)
+without_memory request = unmet_without_memory (sequence_of request) (demand_of request)
 
 -- the answer to a request that says that a thread could not be started for it
 abbrev pub without_thread : Request → Answer

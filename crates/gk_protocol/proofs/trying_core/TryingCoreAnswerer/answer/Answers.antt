@@ -1,4 +1,4 @@
-use Rattle.std.proofs.Common.{sym, ap, subst, ◌∙◌}
+use Rattle.std.proofs.Common.{sym, ap, ◌∙◌}
 use Rattle.std.specs.Option.{option_map}
 use Rattle.rulings.specs.Events.{event_meant}
 use Rattle.gk_protocol.proofs.AnswerLemmas.{answered_to, asks_no_reload}
