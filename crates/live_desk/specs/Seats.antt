@@ -1,5 +1,5 @@
 -- What is seen of a seat and of what lies under the lock, and what a seat's calls say.
-use Rattle.std.specs.Prelude.{◌≡◌, ◌==◌, ◌-◌, ⊤, Ok, Err, if◌then◌else◌, [], ◌∷◌, ℕ, ◌+◌, ◌≤◌, ◌<◌, ◌⊎◌, ◌↔◌, List, length, Bool, false, Option, Some, None, IfSome, Result, All, slice_get}
+use Rattle.std.specs.Prelude.{◌≡◌, ◌==◌, ◌-◌, ⊤, Ok, Err, if◌then◌else◌, [], ◌∷◌, ℕ, ◌+◌, ◌≤◌, ◌<◌, ◌⊎◌, ◌↔◌, List, length, Bool, false, Option, Some, IfSome, Result, All, slice_get}
 use Rattle.std.specs.Option.{IsSomeAnd}
 use Rattle.std.specs.List.{sum_by}
 use mathlib.Core.List.{IsPrefix}

@@ -1,6 +1,6 @@
 //! The desk: a core under a lock, its seats, and its record at the end.
 
-ghost use Rattle.std.specs.Prelude.{◌≡◌, ◌<◌, ◌↔◌, true, false, vec_len, None, IfSome, IfOk, IfErr, OnOk};
+ghost use Rattle.std.specs.Prelude.{◌≡◌, ◌<◌, ◌↔◌, true, false, vec_len, None, IfOk, IfErr, OnOk};
 ghost use Rattle.std.specs.Arc.{arc_value};
 ghost use Rattle.rulings.specs.State.{opening_of};
 ghost use Rattle.rulings.specs.Limits.{are_limits};

@@ -1,6 +1,6 @@
 //! What lies under a desk's lock.
 
-ghost use Rattle.std.specs.Prelude.{◌≡◌, ◌<◌, ◌≤◌, ◌+◌, ◌↔◌, [], true, false, length, vec_len, Some, None, IfSome, IfNone, IfOk, IfErr, IsSome, OnErr, MatchResult, All};
+ghost use Rattle.std.specs.Prelude.{◌≡◌, ◌<◌, ◌≤◌, ◌+◌, ◌↔◌, [], true, false, length, vec_len, Some, None, IfSome, IfNone, IfOk, IfErr, IsSome, MatchResult, All};
 ghost use Rattle.std.specs.Arc.{arc_value};
 ghost use Rattle.std.specs.Option.{option_copied};
 ghost use mathlib.Core.List.{IsPrefix};

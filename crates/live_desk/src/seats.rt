@@ -1,6 +1,6 @@
 //! Seats: who asks the events of a desk, one after another.
 
-ghost use Rattle.std.specs.Prelude.{◌≡◌, ◌<◌, ◌≤◌, ◌+◌, ◌-◌, ◌↔◌, ℕ, slice_get, true, false, length, vec_len, Some, None, IfSome, IfNone, IfOk, IsSome, MatchResult, All};
+ghost use Rattle.std.specs.Prelude.{◌≡◌, ◌<◌, ◌≤◌, ◌+◌, ◌-◌, ◌↔◌, ℕ, slice_get, true, false, vec_len, Some, None, IfSome, IfNone, IfOk, IsSome, MatchResult, All};
 ghost use Rattle.std.specs.Arc.{arc_value};
 ghost use mathlib.Core.List.{IsPrefix};
 ghost use Rattle.rulings.specs.Events.{event_meant, plain, put_in_force, Reloading};

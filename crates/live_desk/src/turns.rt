@@ -6,7 +6,7 @@ ghost use Rattle.std.specs.Arc.{arc_value};
 ghost use Rattle.std.specs.Option.{option_copied};
 ghost use mathlib.Core.List.{IsPrefix};
 ghost use Rattle.rulings.specs.Events.{event_meant, put_in_force, Reloading};
-ghost use Rattle.decision_record.specs.History.{generations, Stands, Steps};
+ghost use Rattle.decision_record.specs.History.{generations, Steps};
 ghost use Rattle.admission.specs.Answering.{answered, reply_kept};
 ghost use Rattle.live_desk.specs.Seats.{IsPlanFor, IsPut, IsReceiptOf, LastStands};
 

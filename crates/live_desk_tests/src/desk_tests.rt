@@ -3,10 +3,12 @@
 ghost use Rattle.std.specs.Prelude.{◌≡◌};
 ghost use Rattle.std.specs.Arc.{arc_value};
 
-use crate::given::{TEXT, blank_of, tables_of, two_seats};
+use crate::given::{
+    TEXT, blank_of, name_led_to, refusal_of_reload, tables_of, terminal, two_seats,
+};
 use admission::{Event, Limits, STATED_LIMITS};
 use compiler::Tables;
-use gk_terms::{Gate, Name};
+use gk_terms::{Gate, Name, Units};
 use live_desk::{Blank, Desk, FinishFault, FinishKind, House, OpenFault, Seat, SeatFault};
 use std::alloc::Global;
 use std::marker::Brand;
@@ -183,12 +185,32 @@ fn seats_left<J: House, R: Wait>(
     let id = Name::read(b"nobody").ok()?;
     let mut seat = desk.seat(rt).ok()?;
     seat.ask(rt, desk, Event::Unregister { id }).ok()?;
+    ask_of_calls(rt, alloc, desk, &mut seat)?;
+    let _refusal = refusal_of_reload(rt, alloc, desk, &mut seat);
     seat.put_in_force(rt, desk, others).ok()?;
     let _snapshot = desk.snapshot(rt, alloc).ok()?;
     desk.hold(rt, &OpenGate);
     let second = desk.seat(rt).is_ok();
     let third = desk.seat(rt).is_ok();
     Some((second, third))
+}
+
+/// Registers a terminal at this seat, and asks each kind of event of a call.
+fn ask_of_calls<J: House, R: Wait>(
+    rt: &R,
+    alloc: Global,
+    desk: &Desk<J>,
+    seat: &mut Seat<J>,
+) -> Option<()> {
+    let id = Name::read(b"ta").ok()?;
+    let units = Units::new(640);
+    let registration = terminal(alloc)?;
+    let _registered = seat.ask(rt, desk, registration);
+    let _led = name_led_to(rt, desk, seat, 1, b"40855512345");
+    let _changed = seat.ask(rt, desk, Event::Change { id, call: 1, units });
+    let _released = seat.ask(rt, desk, Event::Release { id, call: 1 });
+    let _answered = seat.ask(rt, desk, Event::Incoming { id, call: 2, units });
+    Some(())
 }
 
 /// A gate that lets everybody through.

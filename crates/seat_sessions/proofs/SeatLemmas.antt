@@ -7,13 +7,13 @@ use Rattle.rulings.specs.Events.{PlainEvent}
 use Rattle.rulings.specs.declared.replies.Reply.{Reply}
 use Rattle.decision_record.specs.declared.entries.Receipt.{Receipt}
 use Rattle.live_desk.specs.Seats.{Asked, SeatParts}
-use Rattle.admission.specs.Answering.{answered, receipt_for}
+use Rattle.admission.specs.Answering.{answered, receipt_for, reply_in}
 use Rattle.gk_protocol.specs.declared.requests.Request.{Request}
 use Rattle.gk_protocol.specs.declared.answers.Answer.{Answer}
 use Rattle.gk_protocol.specs.declared.answers.Answer.TheVariants as answers
 use Rattle.gk_protocol.specs.Hearing.{AnswersInto}
 use Rattle.gk_protocol.specs.Answers.{answer_text_of}
-use Rattle.gk_protocol.specs.Answering.{are_workers, reply_in}
+use Rattle.gk_protocol.specs.Answering.{are_workers}
 use Rattle.gk_protocol.specs.AskedEvents.{asked_event, sequence_of}
 use Rattle.gk_protocol.proofs.AnswerLemmas.{may_answer}
 use Rattle.gk_protocol.proofs.TrialLemmas.{tried_on, lacking_trial}

@@ -1,8 +1,10 @@
 //! A server: a desk, and as many sessions as it has seats.
 
-ghost use Rattle.std.specs.Prelude.{◌≡◌, ◌+◌, ◌^◌, ◌<◌, ◌≤◌, IfOk, IfErr};
+ghost use Rattle.std.specs.Prelude.{◌≡◌, ◌+◌, ◌^◌, ◌<◌, ◌≤◌, List, length, IfOk, IfErr};
 ghost use Rattle.std.specs.Arc.{arc_value};
 ghost use Rattle.rulings.specs.State.{opening_of};
+ghost use Rattle.entry_bytes.specs.Entry.{PlainEntry};
+ghost use Rattle.live_desk.specs.Seats.{IsTheirs};
 ghost use Rattle.seat_sessions.specs.Served.{IsServed, stated_limits};
 
 use crate::peers::{Peer, PeerReader, PeerWriter};
@@ -216,7 +218,7 @@ fn whole_session<R: Source, W: Sink, A: Answerer>(
     session(alloc, reader, writer, answerer, MOST_TURNS)
 }
 
-/// Takes all seats back, and counts the record.
+/// Takes all seats back, and counts the record. If the desk gives none, that is a fault.
 fn finish<J: House, R: Wait>(
     rt: &R,
     desk: Desk<J>,
@@ -224,7 +226,10 @@ fn finish<J: House, R: Wait>(
     sessions: u32,
 ) -> Result<Served, ServeFault>
     requires { J.all ≡ J.parts }
-    ensures { IfOk result (IsServed (opening_of J.begun J.limits) sessions) }
+    ensures served { IfOk result (IsServed (opening_of J.begun J.limits) sessions) }
+    ensures theirs { IfOk result (λ served. (history : List PlainEntry)
+        × IsTheirs (opening_of J.begun J.limits) given.items history
+        × (length history ≡ served.records)) }
 {
     match desk.finish(rt, given) {
         Ok(record) => Ok(Served {

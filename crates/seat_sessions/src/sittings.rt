@@ -9,11 +9,11 @@ ghost use Rattle.gk_protocol.specs.Answering.{are_workers};
 ghost use Rattle.gk_protocol.specs.AskedEvents.{asked_event};
 ghost use Rattle.seat_sessions.specs.SeatAnswers as Spec;
 
-use admission::{KeptReply, LentEvent, ReplyTaker};
+use admission::{KeptReply, LentEvent, ReplyTaker, reply_in};
 use compiler::Tables;
 use gk_protocol::{
-    Answer, Answerer, NoTables, OwnedLines, ReplyLine, Request, reload_without_memory, reply_in,
-    tables_of, trial_answer, trial_tables, trial_without_memory,
+    Answer, Answerer, NoTables, OwnedLines, ReplyLine, Request, reload_without_memory, tables_of,
+    trial_answer, trial_tables, trial_without_memory,
 };
 use live_desk::{Desk, House, Seat};
 use std::alloc::Global;
@@ -105,8 +105,8 @@ impl<J: House, R: Threads + Wait> Sitting<'_, J, R> {
     }
 
     /// Answers `TRY`: reads the lines, compiles them, and tries the desk's record on them, by so
-    /// many workers. The lock is held while the rows and endpoints are copied, and not before or
-    /// after.
+    /// many workers. The lock is held while the endpoints are copied and the entries shared, and not
+    /// before or after.
     fn tried(&self, alloc: Global, sequence: u32, workers: u32, lines: &mut OwnedLines) -> Answer
         ensures { Spec.MayTry (opening_of J.begun J.limits) self.now sequence workers
             (lines_of lines.old) result }

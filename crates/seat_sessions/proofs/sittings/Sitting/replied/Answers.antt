@@ -1,4 +1,4 @@
-use Rattle.std.proofs.Common.{ap, refl, subst, ◌∙◌, sym}
+use Rattle.std.proofs.Common.{ap, refl, subst}
 use Rattle.rulings.specs.Events.{event_meant}
 use Rattle.rulings.specs.State.{opening_of}
 use Rattle.admission.specs.Answering.{reply_kept}
