@@ -7,8 +7,8 @@ use Rattle.rulings.specs.Lacks.{lacking}
 use Rattle.decision_record.specs.History.{CoreParts, Steps}
 use Rattle.admission.specs.Answering.{answered}
 
--- the taker has a reply with which, and with the number of its entry if it has one, a core answers
--- the event
+-- the taker has a reply; with it, and with the number of the event's entry if it has one, the core
+-- answers the event
 abbrev pub StepsInto
     : {S : Type 0} → (S → Reply → Type 0) → CoreParts → PlainEvent → S → Option ℕ → CoreParts
     → Type 0

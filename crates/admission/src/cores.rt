@@ -1,4 +1,4 @@
-//! The core: one event after another, each recorded with its reply.
+//! The core: one event after another, and those that are recorded with their replies.
 
 ghost use Rattle.std.specs.Prelude.{◌≡◌, ◌≤◌, ◌↔◌, ◌++◌, ◌∷◌, [], length, Some, true, false, IfOk, IfErr, OnOk, OnErr, IsErrOf, IsSome, MatchResult};
 ghost use Rattle.std.specs.Arc.{arc_value};
@@ -41,8 +41,8 @@ pub enum OpeningFault {
 /// A gatekeeper's core: the configuration in force, the registered endpoints, the open calls, and
 /// the record from which all of it can be rebuilt. A contract sees it as `CoreParts`: its opening
 /// state, the entries of its record, and whether a place is reserved for the entry of a reload; the
-/// current state is the replay of the entries. While a call is open, `draft` has room for the entry
-/// of its release.
+/// current state is the replay of the entries. `history` is the record. While a call is open,
+/// `draft` has room for the entry of its release.
 #[derive(Drop)]
 pub struct Core {
     pub(crate) machine: Machine,

@@ -1,4 +1,4 @@
-//! The core of a gatekeeper: events in, replies and receipts out, each recorded.
+//! The core of a gatekeeper: events in, replies out, and a record of events with their receipts.
 #![tactic(auto)]
 
 mod answering;

@@ -95,8 +95,8 @@ impl Core {
         }
     }
 
-    /// Answers a reload to these tables, as `reload` does: the record takes them, the reply goes into
-    /// a taker, and the number of the entry is given back if the reload was recorded.
+    /// Steps by a reload to these tables: the reply goes into a taker. If it was recorded, the record
+    /// has the tables, and the number of the entry is given back.
     pub(crate) fn step_reload<S: ReplyTaker>(
         &mut self,
         tables: Arc<Tables>,

@@ -12,7 +12,7 @@ use Rattle.gk_protocol.specs.declared.answers.Answer.{Answer}
 use Rattle.gk_protocol.specs.declared.answers.Answer.TheVariants.{Reply}
 use Rattle.gk_protocol.specs.Answering as answering
 use Rattle.gk_protocol.specs.Answers.{answer_text_of}
-use Rattle.gk_protocol.specs.AskedEvents.{Demand, AnEvent, AReload, ATrial, asked_event, demand_of, event_in, sequence_of}
+use Rattle.gk_protocol.specs.Demands.{Demand, AnEvent, AReload, ATrial, asked_event, demand_of, event_in, sequence_of}
 use Rattle.gk_protocol.specs.CoreAnswers.{MayAnswer, MayShow, Replies}
 use Rattle.gk_protocol.specs.Hearing.{AnswersInto}
 

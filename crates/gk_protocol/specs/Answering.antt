@@ -16,7 +16,7 @@ use Rattle.gk_protocol.specs.declared.answers.Answer.TheVariants.{Reply, Misconf
 use Rattle.gk_protocol.specs.declared.answers.TrialRefusal.{TrialRefusal}
 use Rattle.gk_protocol.specs.declared.answers.TrialRefusal.TheVariants as trial
 use Rattle.gk_protocol.specs.Requests.{reload_without_memory, trial_without_memory}
-use Rattle.gk_protocol.specs.AskedEvents.{Demand, AnEvent, AReload, ATrial, sequence_of, demand_of}
+use Rattle.gk_protocol.specs.Demands.{Demand, AnEvent, AReload, ATrial, sequence_of, demand_of}
 use Rattle.gk_protocol.specs.declared.owned_tables.NoTables.{NoTables}
 use Rattle.gk_protocol.specs.declared.owned_tables.NoTables.TheVariants as none
 
@@ -110,7 +110,7 @@ module _ {S : Type 0} (MayShow : S → SnapshotParts → Type 0) where
 -- ---- requests
 module _ {S : Type 0} (MayReply : S → PlainEvent → CoreReply → S → Type 0)
     (MayShow : S → SnapshotParts → Type 0) where
-  -- by what is asked; a trial leaves the answerer as it was
+  -- what may be answered, by what is asked; a trial leaves the answerer as it was
   abbrev pub MayMeet : S → ℕ → Demand → Answer → S → Type 0
   MayMeet old sequence (AnEvent event) answer new =
       Replies MayReply old sequence event answer new

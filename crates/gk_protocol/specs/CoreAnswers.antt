@@ -8,7 +8,7 @@ use Rattle.decision_record.specs.History.{CoreParts, MayReply, state_of}
 use Rattle.decision_record.specs.Rows.{rows_of}
 use Rattle.gk_protocol.specs.declared.requests.Request.{Request}
 use Rattle.gk_protocol.specs.declared.answers.Answer.{Answer}
-use Rattle.gk_protocol.specs.AskedEvents.{Demand}
+use Rattle.gk_protocol.specs.Demands.{Demand}
 use Rattle.gk_protocol.specs.Answering as answering
 
 -- the answer is the core's reply to an event, and repeats the request's sequence number
@@ -55,7 +55,7 @@ MayTry core sequence workers lines answer =
     answering.MayTry MayShow core sequence workers lines answer
 
 -- ---- requests
--- by what is asked; a trial leaves the core as it was
+-- what may be answered, by what is asked; a trial leaves the core as it was
 abbrev pub MayMeet : CoreParts → ℕ → Demand → Answer → CoreParts → Type 0
 MayMeet old sequence demand answer new =
     answering.MayMeet MayReply MayShow old sequence demand answer new

@@ -1,9 +1,9 @@
 pub mod Answering
 pub mod Answers
 pub mod AnswersLine
-pub mod AskedEvents
 pub mod Asking
 pub mod CoreAnswers
+pub mod Demands
 pub mod EndpointFiles
 pub mod Hearing
 pub mod LineOwners

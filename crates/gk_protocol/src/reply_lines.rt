@@ -1,4 +1,4 @@
-//! A reply, as a core makes it.
+//! The line of an answer, and the lines after it, as a session writes them.
 
 ghost use Rattle.std.specs.Prelude.{◌≡◌, ◌<◌, ◌++◌, []};
 ghost use Rattle.gk_terms.specs.Text.{line_text};

@@ -3,7 +3,7 @@
 ghost use Rattle.std.specs.Prelude.{◌≡◌};
 ghost use Rattle.std.specs.Option.{option_map};
 ghost use Rattle.rulings.specs.Events.{event_meant};
-ghost use Rattle.gk_protocol.specs.AskedEvents as Spec;
+ghost use Rattle.gk_protocol.specs.Demands as Spec;
 
 use crate::owned_lines::OwnedLines;
 use admission::LentEvent;

@@ -131,7 +131,8 @@ enum Progress {
     CutShort,
 }
 
-/// Answers a line, with the lines that belong to it, which are taken off the input.
+/// Answers a line, with the lines that belong to it, which are taken off the input: the reply is the
+/// line of an answer that this line may get.
 fn progress_with<R: Source, A: Answerer>(
     alloc: Global,
     lines: &mut LineReader,
@@ -206,7 +207,7 @@ fn show_fault(fault: RequestFault, reply: &mut ReplyLine)
 }
 
 /// Writes a reply: its first line in one call of the writer if it takes the whole, and so the lines
-/// after it, if there are any.
+/// after it, if there are any (`write_both`).
 fn send<W: Sink>(reply: &ReplyLine, writer: &mut W) -> Result<(), WriteFault>
     ensures whole { OnOk result
         (Appends (W.contents writer.old) (W.contents writer.new) reply.now.text) }

@@ -2,7 +2,7 @@
 
 ghost use Rattle.std.specs.Prelude.{◌≡◌, None};
 ghost use Rattle.rulings.specs.Events.{event_meant, put_in_force};
-ghost use Rattle.gk_protocol.specs.AskedEvents.{asked_event};
+ghost use Rattle.gk_protocol.specs.Demands.{asked_event};
 ghost use Rattle.gk_protocol.specs.CoreAnswers.{MayAnswer, Replies};
 
 use crate::answerer::Answerer;

@@ -122,7 +122,7 @@ step_apart s event no_memory counts ruled h =
     outcome_apart s event (ruling_of s event) no_memory (count_refusal s event (ruling_of s event))
     counts ruled same
 
--- what is lacking by a count is not what is lacking here
+-- a reply that is neither refusal by a count is not the one that comes
 counts_apart : (event : PlainEvent) (refusal : Reply) (at_limit short : Bool)
     → Some refusal ≢ lacking event Limit → Some refusal ≢ lacking event Record
     → Some refusal ≢ option_and_then (lacking event) (lack_if at_limit short)

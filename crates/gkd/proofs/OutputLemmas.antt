@@ -20,7 +20,7 @@ use Rattle.gk_protocol.specs.declared.answers.TrialRefusal.TheVariants as trial
 use Rattle.gk_protocol.specs.Answers.{answer_text_of}
 use Rattle.gk_protocol.specs.Requests.{reload_without_memory, trial_without_memory}
 use Rattle.gk_protocol.specs.Answering.{are_workers, MayLackMemory, report_under}
-use Rattle.gk_protocol.specs.AskedEvents.{Demand, AnEvent, AReload, ATrial, demand_of, sequence_of}
+use Rattle.gk_protocol.specs.Demands.{Demand, AnEvent, AReload, ATrial, demand_of, sequence_of}
 use Rattle.gk_protocol.specs.CoreAnswers.{Replies, ReloadsBy, shown_by, TriesBy, MayTry, MayMeet, MayAnswer}
 use Rattle.gk_protocol.specs.Session.{Asked, requests_of, Answered, MayGet, Runs}
 use Rattle.configuration_reader.specs.declared.configuration.Until.TheVariants.{EndLine}

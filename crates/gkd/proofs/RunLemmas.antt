@@ -16,7 +16,7 @@ use Rattle.configuration_reader.specs.declared.configuration.Until.TheVariants.{
 use Rattle.configuration_reader.specs.declared.configuration.ConfigurationFault.{ConfigurationFault}
 use Rattle.configuration_reader.specs.declared.configuration.ConfigurationFault.TheVariants.{Line, Read}
 use Rattle.gkd.specs.declared.run.RunFault.{RunFault}
-use Rattle.gkd.specs.declared.run.RunFault.TheVariants.{BadLimits, Session, NoMemory}
+use Rattle.gkd.specs.declared.run.RunFault.TheVariants.{Session, NoMemory}
 use Rattle.configuration_reader.specs.Configuration.{IsUnended, MayGive, IfRead}
 use Rattle.gkd.specs.Run.{Serves, RunEnds, ServesUnder, run_fault_of}
 
@@ -129,12 +129,6 @@ module _ {S : Type 0} (MayAnswer : S → Request → Answer → S → Type 0)
       (λ (b : List ℕ). MayGive EndLine b (lines.pending ++ rest) (Ok configuration)) bare c in
       ([], unopened fault configuration bytes lines.pending rest lack given, appends_nothing before)
 
-  -- the limits are bad
-  pub run_bad : (known before : Option (List ℕ)) → KnownStep known known
-      (Wrote before before (Err BadLimits))
-  run_bad None before = tt
-  run_bad (Some bytes) before = ([], (refl, refl), appends_nothing before)
-
 module _ {S : Type 0} (MayAnswer : S → Request → Answer → S → Type 0) where
   -- a session under a configuration that was read before; what it began with and what it left are
   -- told by others
@@ -170,8 +164,3 @@ turns_within a b c s t u most is first second small =
     let same : c + u ≡ a + s =
     turns_then a b c s t u first second (subst (λ (n : ℕ). a + n < 2 ^ 64) (sym is) small) in
     omega (arith, same, is)
-
--- runs that end with the same fault of a session
-pub same_session : (f g : SessionFault) (r : Result ℕ RunFault) → r ≡ Err (Session f)
-    → r ≡ Err (Session g) → f ≡ g
-same_session f g r h i = cc

@@ -15,7 +15,7 @@ use Rattle.gk_protocol.specs.declared.answers.Answer.TheVariants.{Reply, Misconf
 use Rattle.gk_protocol.specs.declared.answers.TrialRefusal.TheVariants as trial
 use Rattle.gk_protocol.specs.Answers.{answer_text_of}
 use Rattle.gk_protocol.specs.Requests.{reload_without_memory, trial_without_memory}
-use Rattle.gk_protocol.specs.AskedEvents.{Demand, AnEvent, AReload, ATrial, demand_of, sequence_of}
+use Rattle.gk_protocol.specs.Demands.{Demand, AnEvent, AReload, ATrial, demand_of, sequence_of}
 use Rattle.gk_protocol.specs.Answering.{are_workers}
 use Rattle.gk_protocol.specs.CoreAnswers.{report_under, MayAnswer}
 use Rattle.gk_protocol.specs.Session.{Asked, requests_of, Runs}
@@ -55,10 +55,11 @@ abbrev pub core_with : CoreParts → Result PlainEvent Answer → CoreParts
 core_with core (Ok event) = core_after core event
 core_with core (Err answer) = core
 
--- the same of what was asked
+-- the event that a request asks for, or the answer that leaves the core
 abbrev pub event_of : CoreParts → Request → Result PlainEvent Answer
 event_of core request = event_to_meet core (sequence_of request) (demand_of request)
 
+-- the answer to what was asked, and the core after it
 abbrev pub answer_of : CoreParts → Result Request RequestFault → Answer
 answer_of core (Ok request) = answer_to core (sequence_of request) (event_of core request)
 answer_of core (Err fault) = Malformed fault
