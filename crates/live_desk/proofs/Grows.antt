@@ -16,13 +16,13 @@ use Rattle.std.proofs.lemmas.Option.{none-some}
 use Rattle.rulings.specs.declared.replies.Reply.{Reply}
 use Rattle.decision_record.specs.declared.entries.Receipt.{Receipt}
 use Rattle.entry_bytes.specs.Entry.{PlainEntry}
-use Rattle.decision_record.specs.History.{CoreParts, generations, IsLegal, state_of, Steps, IsUnrecorded}
+use Rattle.decision_record.specs.History.{CoreParts, generations, state_of, Steps, IsUnrecorded}
 use Rattle.admission.proofs.VersionLemmas.{generations_more}
 use Rattle.admission.specs.Answering.{answered, reply_kept}
 use Rattle.call_rows.specs.Rows.{SnapshotParts}
 use Rattle.decision_record.specs.Rows.{rows_of}
 use Rattle.rulings.specs.State.{State}
-use Rattle.live_desk.specs.Seats.{Asked, IsFound, IsReloadAnswer, IsReloadOf, SeatParts, unreserved, IsPut, IsReceiptOf, IsSnapshotOfSome, LastStands}
+use Rattle.live_desk.specs.Seats.{Asked, IsFound, IsLawful, IsReloadAnswer, IsReloadOf, SeatParts, unreserved, IsPut, IsReceiptOf, IsSnapshotOfSome, LastStands}
 use Rattle.live_desk.specs.Seats as seats
 use Rattle.live_desk.proofs.Counts.{number_within}
 use Rattle.admission.proofs.StepLemmas.{step_reply}
@@ -77,7 +77,7 @@ put_as old new commands (Ok answer) grown version refused =
     )
 put_as old new commands (Err reply) same version refused = refused
 
--- an event that puts nothing in force says nothing of it
+-- that what was answered puts the event's commands in force is said of no event that has none
 pub puts_nothing : (event : PlainEvent) (result : Result (Reply × Receipt) Reply)
     (list : List (List Command)) → put_in_force event ≡ None → IsPut event result list
 puts_nothing (Registering endpoint) result list none = tt
@@ -206,18 +206,18 @@ grown_alike before kept after commands (Err reply) old new is same recorded take
     ∙ taken (ap (λ (c : CoreParts). c.reserved) same)))
 
 -- ---- snapshots
--- a snapshot of a core as it was after a legal history
+-- a snapshot of a core as it was after a lawful history
 pub snapshot_of_some : {E : Type 0} (opening : State) (entries : List PlainEntry)
-    (past : CoreParts) (result : Result SnapshotParts E) → IsLegal opening entries
+    (past : CoreParts) (result : Result SnapshotParts E) → IsLawful opening entries
     → unreserved past ≡ seats.held opening entries
     → IfOk result (λ snapshot. snapshot ≡ record {
       rows = rows_of past.opening past.entries;
       endpoints = (state_of past).endpoints;
     }) → IfOk result (IsSnapshotOfSome opening)
 unfolding state_of
-snapshot_of_some opening entries past (Ok snapshot) legal same is = record {
+snapshot_of_some opening entries past (Ok snapshot) lawful same is = record {
   history = entries;
-  legal = legal;
+  lawful = lawful;
   shown =
       is
       ∙ ap (λ (c : CoreParts). record {
@@ -225,7 +225,7 @@ snapshot_of_some opening entries past (Ok snapshot) legal same is = record {
         endpoints = (state_of c).endpoints;
       }) same;
 }
-snapshot_of_some opening entries past (Err error) legal same is = tt
+snapshot_of_some opening entries past (Err error) lawful same is = tt
 
 -- ---- under the lock
 is_held : (core : CoreParts) (opening : State) → core.opening ≡ opening → core.reserved ≡ false
@@ -245,22 +245,22 @@ stays_held old new opening event (Err reply) same free h =
     is_held new opening (ap (λ (c : CoreParts). c.opening) h.unchanged ∙ same)
     (ap (λ (c : CoreParts). c.reserved) h.unchanged ∙ free)
 
--- what is answered under the lock is an answer of some legal history
+-- what is answered under the lock is an answer of some lawful history
 pub asked_by : (opening : State) (live new : CoreParts) (entries : List PlainEntry)
     (before after : SeatParts) (astray : Bool) (event : PlainEvent)
     (answer : Result (Reply × Receipt) Reply) → live.opening ≡ opening → live.reserved ≡ false
-    → live.entries ≡ entries → IsLegal opening entries → before.share ≤ length entries
+    → live.entries ≡ entries → IsLawful opening entries → before.share ≤ length entries
     → (astray ≡ false ↔ IsFound entries before) → astray ≡ after.astray
     → Steps live event answer new → (after.lost ≡ false → after.seen ≡ generations new)
     → Asked opening before event answer after
-asked_by opening live new entries before after astray event answer same free is legal long found
+asked_by opening live new entries before after astray event answer same free is lawful long found
     stays steps seen =
     let old_held : live ≡ seats.held opening entries =
     is_held live opening same free ∙ ap (λ es. seats.held opening es) is in
     let new_held = stays_held live new opening event answer same free steps in record {
       history = entries;
       next = new.entries;
-      legal = legal;
+      lawful = lawful;
       long = long;
       found = subst (λ (b : Bool). b ≡ false ↔ IsFound entries before) stays found;
       answers = subst (λ (c : CoreParts). Steps c event answer (seats.held opening new.entries))
@@ -280,7 +280,7 @@ asked_kept opening before asking event replied answer after kept last share befo
     (record {
       history = asked.history;
       next = asked.next;
-      legal = asked.legal;
+      lawful = asked.lawful;
       long = subst (λ (n : ℕ). n ≤ length asked.history) share asked.long;
       found = subst (λ (l : Option Receipt).
           after.astray ≡ false ↔ (before.astray ≡ false) × LastStands asked.history l) before_last

@@ -1,7 +1,7 @@
 -- What is seen of a seat and of what lies under the lock, and what a seat's calls say.
 use Rattle.std.specs.Prelude.{◌≡◌, ◌==◌, ◌-◌, ⊤, Ok, Err, if◌then◌else◌, [], ◌∷◌, ℕ, ◌+◌, ◌≤◌, ◌<◌, ◌⊎◌, ◌↔◌, List, length, Bool, false, Option, Some, IfSome, Result, All, slice_get}
 use Rattle.std.specs.Option.{IsSomeAnd}
-use Rattle.std.specs.List.{sum_by}
+use Rattle.std.specs.List.{AllByRecursion, sum_by}
 use mathlib.Core.List.{IsPrefix}
 use Rattle.command_reader.specs.declared.commands.Command.{Command}
 use Rattle.compiler.specs.declared.plans.Routed.{Routed}
@@ -19,6 +19,7 @@ use Rattle.decision_record.specs.History.{CoreParts, IsLegal, Stands, state_of, 
 use Rattle.decision_record.specs.Rows.{rows_of}
 use Rattle.publisher.specs.Generations.{commands_of}
 use Rattle.admission.specs.Answering.{digits_asked}
+use Rattle.admission.specs.HistoryLaws.{AreAccepted}
 
 -- ---- a core
 -- a core with this history, and no place reserved for a reload
@@ -28,6 +29,12 @@ held opening entries = record { opening = opening; entries = entries; reserved =
 -- a core, whether or not a place is reserved
 abbrev pub unreserved : CoreParts → CoreParts
 unreserved core = held core.opening core.entries
+
+-- ---- histories
+-- it is legal, and each configuration that was put in force, the opening one too, was accepted
+pub record IsLawful (opening : State) (history : List PlainEntry) : Type 0 where
+  pub legal : IsLegal opening history
+  pub accepted : AllByRecursion AreAccepted (generations (held opening history))
 
 -- ---- seats
 -- a seat: how many of its events were recorded, the receipt of the last, whether that was once not
@@ -83,7 +90,7 @@ IsReceiptOf event reply r =
     (r.kind ≡ kind_of event) × (r.id ≡ id_of event) × (r.call ≡ call_number_of event)
     × (r.reply ≡ reply)
 
--- some legal history, not shorter than the seat's share, in which its last receipt stands unless it
+-- some lawful history, not shorter than the seat's share, in which its last receipt stands unless it
 -- is astray, is led on by the event with this answer; unless the seat is lost, it has seen just the
 -- generations that are in force then
 pub record Asked
@@ -92,7 +99,7 @@ pub record Asked
     : Type 0 where
   pub history : List PlainEntry
   pub next : List PlainEntry
-  pub legal : IsLegal opening history
+  pub lawful : IsLawful opening history
   pub long : before.share ≤ length history
   pub found : after.astray ≡ false ↔ IsFound history before
   pub answers : Steps (held opening history) event answer (held opening next)
@@ -106,10 +113,10 @@ snapshot_of opening history = record {
   endpoints = (state_of (held opening history)).endpoints;
 }
 
--- the snapshot is that of some legal history
+-- the snapshot is that of some lawful history
 pub record IsSnapshotOfSome (opening : State) (snapshot : SnapshotParts) : Type 0 where
   pub history : List PlainEntry
-  pub legal : IsLegal opening history
+  pub lawful : IsLawful opening history
   pub shown : snapshot ≡ snapshot_of opening history
 
 -- ---- reloads
@@ -142,7 +149,7 @@ abbrev pub as_replied : Result (ℕ × Receipt) ReloadRefusal → Result (Reply 
 as_replied (Ok told) = Ok (Reloaded told.0, told.1)
 as_replied (Err reason) = Err (ReloadRefused reason)
 
--- some legal history was led on by a reload of these commands with this answer; or memory ran out
+-- some lawful history was led on by a reload of these commands with this answer; or memory ran out
 -- for their tables, and then nothing was asked, and the seat is as it was
 abbrev pub IsReloadOf
     : State → SeatParts → List Command → Result (ℕ × Receipt) ReloadRefusal → SeatParts → Type 0
@@ -154,10 +161,10 @@ IsReloadOf opening before commands answer after =
 abbrev pub all_shares : List SeatParts → ℕ
 all_shares seats = sum_by (λ s. s.share) seats
 
--- the record is legal, as long as all shares together, and each seat's last receipt stands in it
+-- the record is lawful, as long as all shares together, and each seat's last receipt stands in it
 pub record IsTheirs (opening : State) (seats : List SeatParts) (entries : List PlainEntry)
     : Type 0 where
-  pub legal : IsLegal opening entries
+  pub lawful : IsLawful opening entries
   pub long : length entries ≡ all_shares seats
   pub found : All (IsFound entries) seats
 
@@ -166,10 +173,10 @@ abbrev pub IsAstrayIn : List PlainEntry → List SeatParts → Type 0
 IsAstrayIn entries seats =
     (place : ℕ) × IsSomeAnd (slice_get seats place) (λ s. IsFound entries s → ⊥)
 
--- in some legal history some seat is not found
+-- in some lawful history some seat is not found
 pub record SomeAstray (opening : State) (seats : List SeatParts) : Type 0 where
   pub history : List PlainEntry
-  pub legal : IsLegal opening history
+  pub lawful : IsLawful opening history
   pub astray : IsAstrayIn history seats
 
 abbrev pub IsBadCount : ℕ → Type 0

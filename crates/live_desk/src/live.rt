@@ -10,10 +10,10 @@ ghost use Rattle.rulings.specs.Events as Events;
 ghost use Rattle.rulings.specs.Events.{event_meant, put_in_force};
 ghost use Rattle.rulings.specs.State.{opening_of};
 ghost use Rattle.rulings.specs.Limits.{are_limits};
-ghost use Rattle.decision_record.specs.History.{generations, IsLegal, state_of, Steps};
+ghost use Rattle.decision_record.specs.History.{generations, state_of, Steps};
 ghost use Rattle.decision_record.specs.Rows.{rows_of};
 ghost use Rattle.admission.specs.Answering.{answered, reply_kept};
-ghost use Rattle.live_desk.specs.Seats.{held, unreserved, IsBadCount, IsPlanBehind, IsPut};
+ghost use Rattle.live_desk.specs.Seats.{held, unreserved, IsBadCount, IsLawful, IsPlanBehind, IsPut};
 
 use admission::{
     Core, Event, KeptReply, LentEvent, Limits, PastCore, Receipt, Record, ReloadRefusal, Reply,
@@ -114,7 +114,7 @@ impl<J: Imprint> Live<J> {
     pub fn record(&self) -> &Record
         ensures entries { result.now.entries ≡ self.now.entries }
         ensures begun { result.now.opening ≡ self.now.opening.commands }
-        ensures legal { IsLegal self.now.opening self.now.entries }
+        ensures lawful { IsLawful self.now.opening self.now.entries }
     {
         self.core.record()
     }
@@ -280,8 +280,9 @@ impl<J: Imprint> Live<J> {
     }
 
     #[tactic(auto, using(crate::proofs::Grows::steps_shown, crate::proofs::Grows::stays))]
-    /// Answers an event that is lent, and is not a reload, as `Core::step`. An admission goes by a
-    /// plan that was made outside if that was done under the version in force.
+    /// Answers an event that is lent, and is not a reload: the step of the core with a reply that is
+    /// kept, as the clauses of `Live` see it. An admission goes by a plan that was made outside if
+    /// that was done under the version in force.
     pub(crate) fn step(
         &mut self,
         routed: Option<&Routed>,
@@ -327,6 +328,7 @@ impl<J: Imprint> Live<J> {
             Ok(copy) => copy,
             Err(_) => return Err(no_memory),
         };
+        // So it is known that the next version fits.
         let _few = self.core.version();
         match self.publisher.publish(rt, copy) {
             Ok(_) => self.core.reload(tables),

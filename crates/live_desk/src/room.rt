@@ -6,9 +6,9 @@ ghost use Rattle.std.specs.Option.{option_copied};
 ghost use mathlib.Core.List.{IsPrefix};
 ghost use Rattle.rulings.specs.Events.{event_meant, put_in_force, Reloading};
 ghost use Rattle.rulings.specs.State.{opening_of};
-ghost use Rattle.decision_record.specs.History.{generations, IsLegal, Steps};
+ghost use Rattle.decision_record.specs.History.{generations, Steps};
 ghost use Rattle.admission.specs.Answering.{answered, reply_kept};
-ghost use Rattle.live_desk.specs.Seats.{Asked, held, IsAstrayIn, IsFound, IsPlanFor, IsPut, IsReceiptOf, IsTheirs, unreserved};
+ghost use Rattle.live_desk.specs.Seats.{Asked, held, IsAstrayIn, IsFound, IsLawful, IsPlanFor, IsPut, IsReceiptOf, IsTheirs, unreserved};
 
 use crate::house::House;
 use crate::live::Live;
@@ -87,7 +87,7 @@ impl<J: House> Room<J> {
     /// What holds whenever the lock is taken.
     pub fn look(&self) -> (&Record, Version)
         ensures entries { result.0.now.entries ≡ self.now.entries }
-        ensures legal { IsLegal (opening_of J.begun J.limits) self.now.entries }
+        ensures lawful { IsLawful (opening_of J.begun J.limits) self.now.entries }
         ensures booked { self.now.booked ≡ length self.now.entries }
         ensures version { result.1
             ≡ length (generations (held (opening_of J.begun J.limits) self.now.entries)) }
@@ -103,9 +103,9 @@ impl<J: House> Room<J> {
     pub fn past(&self) -> Result<PastCore, AllocError>
         ensures past { IfOk result (λ past. unreserved past
             ≡ held (opening_of J.begun J.limits) self.now.entries) }
-        ensures legal { IsLegal (opening_of J.begun J.limits) self.now.entries }
+        ensures lawful { IsLawful (opening_of J.begun J.limits) self.now.entries }
     {
-        // So it is known that the record is a legal history.
+        // So it is known that the record is a lawful history.
         let _record = self.live.record();
         self.live.past()
     }
@@ -147,9 +147,10 @@ impl<J: House> Room<J> {
         ensures astray { seat.new.astray ≡ false ↔ IsFound self.old.entries seat.old }
         ensures seat { seat.new ≡ record seat.old { astray = seat.new.astray } }
         ensures long { seat.old.share ≤ length self.old.entries }
-        ensures legal { IsLegal (opening_of J.begun J.limits) self.old.entries }
+        ensures lawful { IsLawful (opening_of J.begun J.limits) self.old.entries }
     {
         seat.confirm_last(self.live.record());
+        // So it is known that the share is no more than the entries.
         self.book.audit(&mut seat.share);
     }
 
@@ -267,9 +268,10 @@ impl<J: House> Room<J> {
             f.0 ≡ FinishKind.SeatsMissing ↔ vec_len seats < self.given) }
         ensures astray { IfErr result (λ f.
             f.0 ≡ FinishKind.Astray → IsAstrayIn self.entries seats.items) }
-        ensures legal { IsLegal (opening_of J.begun J.limits) self.entries }
+        ensures lawful { IsLawful (opening_of J.begun J.limits) self.entries }
         ensures back { IfErr result (λ f. (f.1 ≡ self) × (f.2.items ≡ seats.items)) }
     {
+        // So it is known that the record is a lawful history.
         let _log = self.live.record();
         if let Some(kind) = self.fault_in(&seats) {
             return Err((kind, self, seats));

@@ -19,7 +19,7 @@ use std::thread::{Threads, join, yield_now};
 /// that these are seconds at the least, however busy the machine is.
 const PATIENCE: u32 = 10_000_000;
 
-/// How often one looks for what may not come.
+/// How often one looks for what must not come.
 const GLANCES: u32 = 100_000;
 
 /// No worker's number.

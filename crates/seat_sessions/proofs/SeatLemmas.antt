@@ -14,7 +14,7 @@ use Rattle.gk_protocol.specs.declared.answers.Answer.TheVariants as answers
 use Rattle.gk_protocol.specs.Hearing.{AnswersInto}
 use Rattle.gk_protocol.specs.Answers.{answer_text_of}
 use Rattle.gk_protocol.specs.Answering.{are_workers}
-use Rattle.gk_protocol.specs.AskedEvents.{asked_event, sequence_of}
+use Rattle.gk_protocol.specs.Demands.{asked_event, sequence_of}
 use Rattle.gk_protocol.proofs.AnswerLemmas.{may_answer}
 use Rattle.gk_protocol.proofs.TrialLemmas.{tried_on, lacking_trial}
 use Rattle.seat_sessions.specs.SeatAnswers.{MayAnswer, MaySay, MayShow, MayTry, Replies, RepliesInto, TriesOnSome}

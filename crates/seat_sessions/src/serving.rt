@@ -202,7 +202,7 @@ fn serve_peer<J: House, R: Threads + Wait>(
     let _ = peer.shut_down();
 }
 
-/// A session whose reader may be called `MOST_TURNS` times.
+/// A session whose reader may be called `MOST_TURNS` times: by itself, so that a contract says so.
 fn whole_session<R: Source, W: Sink, A: Answerer>(
     alloc: Global,
     reader: &mut R,

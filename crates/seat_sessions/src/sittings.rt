@@ -6,7 +6,7 @@ ghost use Rattle.gk_terms.specs.Text.{lines_of};
 ghost use Rattle.rulings.specs.Events.{event_meant, put_in_force, Reloading};
 ghost use Rattle.rulings.specs.State.{opening_of};
 ghost use Rattle.gk_protocol.specs.Answering.{are_workers};
-ghost use Rattle.gk_protocol.specs.AskedEvents.{asked_event};
+ghost use Rattle.gk_protocol.specs.Demands.{asked_event};
 ghost use Rattle.seat_sessions.specs.SeatAnswers as Spec;
 
 use admission::{KeptReply, LentEvent, ReplyTaker, reply_in};

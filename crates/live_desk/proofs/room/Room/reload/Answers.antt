@@ -23,7 +23,7 @@ returns-in-Ok-clause-asked g c =
     asked_by _ c.self.inside.live c.reload_turn-answer.new.live c.args.self.now.entries _ _
     c.begin.new.seat.astray _ _ c.self.invariant.0 c.self.invariant.1
     (ap (λ (r : RoomParts). r.entries) (c.self.view_is ∙ c.begin.ensures.same))
-    c.begin.ensures.legal c.begin.ensures.long c.begin.ensures.astray (sym stays)
+    c.begin.ensures.lawful c.begin.ensures.long c.begin.ensures.astray (sym stays)
     c.reload_turn-answer.ensures.step
     (λ kept. ap (λ (s : SeatParts). s.seen) (c.enter.ensures.entered)
     ∙ ap (λ (s : SeatParts). s.seen) c.see.ensures.same
@@ -37,13 +37,20 @@ returns-in_default-clause-asked g c =
     asked_by _ c.self.inside.live c.reload_turn-answer.new.live c.args.self.now.entries _ _
     c.begin.new.seat.astray _ _ c.self.invariant.0 c.self.invariant.1
     (ap (λ (r : RoomParts). r.entries) (c.self.view_is ∙ c.begin.ensures.same))
-    c.begin.ensures.legal c.begin.ensures.long c.begin.ensures.astray (sym stays)
+    c.begin.ensures.lawful c.begin.ensures.long c.begin.ensures.astray (sym stays)
     c.reload_turn-answer.ensures.step
     (λ kept. ap (λ (s : SeatParts). s.seen) c.see.ensures.same
     ∙ c.reload_turn-answer.ensures.met (c.see.ensures.met kept))
 
 pub returns-in-Ok-clause-step : goal.returns-in-Ok-clause-step
 returns-in-Ok-clause-step g c =
+    step_held _ c.self.inside.live c.reload_turn-answer.new.live c.args.self.now.entries _ _ _
+    c.self.invariant.0 c.self.invariant.1
+    (ap (λ (r : RoomParts). r.entries) (c.self.view_is ∙ c.begin.ensures.same)) refl
+    c.reload_turn-answer.ensures.step
+
+pub returns-in_default-clause-step : goal.returns-in_default-clause-step
+returns-in_default-clause-step g c =
     step_held _ c.self.inside.live c.reload_turn-answer.new.live c.args.self.now.entries _ _ _
     c.self.invariant.0 c.self.invariant.1
     (ap (λ (r : RoomParts). r.entries) (c.self.view_is ∙ c.begin.ensures.same)) refl
