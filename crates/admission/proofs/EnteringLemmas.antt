@@ -5,7 +5,7 @@ use Rattle.std.specs.Option.{option_and_then}
 use Rattle.rulings.specs.State.{State, MachineParts, bare}
 use Rattle.rulings.specs.Events.{PlainEvent, Registering, Unregistering, Admitting, Answering, Changing, Releasing, Reloading}
 use Rattle.rulings.specs.Founded.{IsUnder}
-use Rattle.rulings.specs.Lacks.{lacking}
+use Rattle.rulings.specs.Lacks.{reply_without}
 use Rattle.rulings.specs.Ruling.{Ruling, ruling_of}
 use Rattle.rulings.specs.declared.lacks.Lack.{Lack}
 use Rattle.rulings.specs.declared.lacks.Lack.TheVariants.{Limit, Record, Memory}
@@ -42,11 +42,11 @@ module _ (m : MachineParts) (s : State) (is : IsUnder m s) (event : PlainEvent) 
     (given : ruling ≡ ruling_of s event) where
   -- what the machine lacks refuses the event
   pub refused_for : (found : Option Lack) → lack_of (bare m) event ruling ≡ found
-      → count_refusal s event (ruling_of s event) ≡ option_and_then (lacking event) found
+      → count_refusal s event (ruling_of s event) ≡ option_and_then (reply_without event) found
   unfolding count_refusal
   refused_for found lacks =
-      ap (λ (r : Ruling). option_and_then (lacking event) (lack_of s event r)) (sym given)
-      ∙ ap (option_and_then (lacking event))
+      ap (λ (r : Ruling). option_and_then (reply_without event) (lack_of s event r)) (sym given)
+      ∙ ap (option_and_then (reply_without event))
       (ap (λ t. lack_of t event ruling) (sym is) ∙ sym (lacks_alike s.commands m event ruling)
       ∙ lacks)
 
@@ -57,7 +57,7 @@ no_limit false h = cc
 
 -- what an event lacks has a reply
 pub has_refusal : (s : State) (event : PlainEvent) (ruling : Ruling) (lack : Lack)
-    → lack_of s event ruling ≡ Some lack → IsSome (lacking event lack)
+    → lack_of s event ruling ≡ Some lack → IsSome (reply_without event lack)
 has_refusal s (Registering e) ruling lack h = refl
 has_refusal s (Unregistering id) ruling Limit h = absurd (no_limit _ h)
 has_refusal s (Unregistering id) ruling Record h = refl

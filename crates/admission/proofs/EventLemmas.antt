@@ -13,8 +13,8 @@ use Rattle.rulings.specs.declared.replies.Reply.TheVariants.{ReloadRefused}
 use Rattle.rulings.specs.declared.replies.ReloadRefusal.TheVariants.{NoMemory}
 use Rattle.std.specs.Option.{option_and_then}
 use Rattle.rulings.specs.declared.lacks.Lack.{Lack}
-use Rattle.rulings.specs.Lacks.{lacking, reload_reason, no_memory_reply_of}
-use Rattle.rulings.specs.Step.{is_recorded, are_reloads_spent, is_short, lack_if, count_refusal, state_after, Outcome, outcome_of, step}
+use Rattle.rulings.specs.Lacks.{reply_without, reload_reason, no_memory_reply_of}
+use Rattle.rulings.specs.Step.{is_recorded, are_reloads_spent, lacks_places, lack_if, count_refusal, state_after, Outcome, outcome_of, step}
 use Rattle.decision_record.specs.History.{entry_of, reload_entry, IsLegal, replay, CoreParts, RecordParts, in_force, in_force_of, generations_of, state_of, receipt_of, unrecorded_reply, IsRecorded, IsUnrecorded}
 use Rattle.rulings.specs.Ruling.{Ruling}
 use Rattle.rulings.specs.declared.replies.Reply.{Reply}
@@ -251,16 +251,16 @@ module _ (machine : MachineParts) (history : RecordParts) (reserved : Bool)
     (ruling : Ruling) where
   -- what the machine lacks for a reload, the state lacks
   counted : (found : Option Lack) → ruling ≡ reload_ruling (bare machine)
-      → lack_if (are_reloads_spent (bare machine)) (is_short (bare machine) ruling.effect)
+      → lack_if (are_reloads_spent (bare machine)) (lacks_places (bare machine) ruling.effect)
       ≡ found
       → count_refusal (state_for machine history) (Reloading commands)
       (ruling_of (state_for machine history) (Reloading commands))
-      ≡ option_and_then (lacking (Reloading commands)) found
+      ≡ option_and_then (reply_without (Reloading commands)) found
   unfolding ruling_of count_refusal
   counted found given is =
-      ap (λ (r : Ruling). option_and_then (lacking (Reloading commands))
-      (lack_if (are_reloads_spent (bare machine)) (is_short (bare machine) r.effect))) (sym given)
-      ∙ ap (option_and_then (lacking (Reloading commands))) is
+      ap (λ (r : Ruling). option_and_then (reply_without (Reloading commands))
+      (lack_if (are_reloads_spent (bare machine)) (lacks_places (bare machine) r.effect))) (sym given)
+      ∙ ap (option_and_then (reply_without (Reloading commands))) is
 
   -- what is ruled by the machine is ruled by the state
   pub reload_ruled : ruling ≡ reload_ruling (bare machine)
@@ -277,7 +277,7 @@ module _ (machine : MachineParts) (history : RecordParts) (reserved : Bool)
   recorded_verdict = refl
 
   pub reload_refused : (lack : Lack) → ruling ≡ reload_ruling (bare machine)
-      → lack_if (are_reloads_spent (bare machine)) (is_short (bare machine) ruling.effect)
+      → lack_if (are_reloads_spent (bare machine)) (lacks_places (bare machine) ruling.effect)
       ≡ Some lack
       → IsUnrecorded core (Reloading commands) (ReloadRefused (reload_reason lack)) core
   reload_refused lack given is =
@@ -286,7 +286,7 @@ module _ (machine : MachineParts) (history : RecordParts) (reserved : Bool)
       (counted (Some lack) given is)
 
   pub reload_not_recorded : (lack : Lack) → ruling ≡ reload_ruling (bare machine)
-      → lack_if (are_reloads_spent (bare machine)) (is_short (bare machine) ruling.effect)
+      → lack_if (are_reloads_spent (bare machine)) (lacks_places (bare machine) ruling.effect)
       ≡ Some lack
       → (step (state_of core) (Reloading commands)).recorded ≡ false
   reload_not_recorded lack given is =
@@ -295,7 +295,7 @@ module _ (machine : MachineParts) (history : RecordParts) (reserved : Bool)
       (counted (Some lack) given is)
 
   pub reload_recorded : ruling ≡ reload_ruling (bare machine)
-      → lack_if (are_reloads_spent (bare machine)) (is_short (bare machine) ruling.effect)
+      → lack_if (are_reloads_spent (bare machine)) (lacks_places (bare machine) ruling.effect)
       ≡ None
       → (step (state_of core) (Reloading commands)).recorded ≡ true
   reload_recorded given is =
@@ -306,7 +306,7 @@ module _ (machine : MachineParts) (history : RecordParts) (reserved : Bool)
       recorded_verdict)
 
   pub reload_lacks_memory : ruling ≡ reload_ruling (bare machine)
-      → lack_if (are_reloads_spent (bare machine)) (is_short (bare machine) ruling.effect)
+      → lack_if (are_reloads_spent (bare machine)) (lacks_places (bare machine) ruling.effect)
       ≡ None → (new : CoreParts) → new ≡ core
       → IsUnrecorded core (Reloading commands) (ReloadRefused NoMemory) new
   reload_lacks_memory given is new unchanged =

@@ -30,7 +30,7 @@ use Rattle.rulings.specs.Routing.{target_for, destination_of, route_of}
 use Rattle.rulings.specs.Ruling.{unrouted, register_refusal, registration_unless, unregistration_ruling, admitted_call, admission_unless, admission_to, call_open_ruling, admission_ruling, answered_call, is_that, repeated_answer, answering_to, answering_ruling, change_unless, change_ruling, release_refused, release_ruling, ruling_of}
 use Rattle.std.specs.Option.{option_and_then}
 use Rattle.rulings.specs.declared.lacks.Lack.TheVariants.{Limit, Record}
-use Rattle.rulings.specs.Lacks.{lacking, no_memory_reply_of}
+use Rattle.rulings.specs.Lacks.{reply_without, no_memory_reply_of}
 use Rattle.rulings.specs.Step.{is_recorded, places_needed, lack_if, are_endpoints_full, are_calls_full, count_refusal, with_registered, with_commands, with_effect}
 use Rattle.admission.specs.HistoryLaws.{IsWithinLimits}
 use Rattle.admission.proofs.CallsLemmas.{length-with_call, length-with_changed, length-without_call}
@@ -39,15 +39,15 @@ use Rattle.rulings.specs.Founded.{is_owned, IsFounded}
 -- ---- what lacks nothing
 -- it meets no limit
 not_full : (event : PlainEvent) (refusal : Reply) (full short : Bool)
-    → lacking event Limit ≡ Some refusal
-    → option_and_then (lacking event) (lack_if full short) ≡ None → full ≡ false
+    → reply_without event Limit ≡ Some refusal
+    → option_and_then (reply_without event) (lack_if full short) ≡ None → full ≡ false
 not_full event refusal true short replied h = absurd (none-some refusal (sym h ∙ replied))
 not_full event refusal false short replied h = refl
 
 -- and the record has the places
 not_short : (event : PlainEvent) (refusal : Reply) (full short : Bool) → full ≡ false
-    → lacking event Record ≡ Some refusal
-    → option_and_then (lacking event) (lack_if full short) ≡ None → short ≡ false
+    → reply_without event Record ≡ Some refusal
+    → option_and_then (reply_without event) (lack_if full short) ≡ None → short ≡ false
 not_short event refusal true short free replied h = absurd (true≢false free)
 not_short event refusal false true free replied h = absurd (none-some refusal (sym h ∙ replied))
 not_short event refusal false false free replied h = refl

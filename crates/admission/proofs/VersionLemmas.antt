@@ -16,8 +16,8 @@ use Rattle.rulings.specs.declared.replies.ReloadRefusal.{ReloadRefusal}
 use Rattle.rulings.specs.declared.replies.ReloadRefusal.TheVariants.{ReloadsSpent, RecordFull, NoMemory}
 use Rattle.rulings.specs.Events.{PlainEvent, Reloading, put_in_force}
 use Rattle.rulings.specs.Ruling.{reload_ruling, ruling_of, verdict_of}
-use Rattle.rulings.specs.Step.{are_reloads_spent, is_short, lack_if, count_refusal, outcome_of, step}
-use Rattle.rulings.specs.Lacks.{lacking}
+use Rattle.rulings.specs.Step.{are_reloads_spent, lacks_places, lack_if, count_refusal, outcome_of, step}
+use Rattle.rulings.specs.Lacks.{reply_without}
 use Rattle.std.specs.Option.{option_and_then}
 use Rattle.entry_bytes.specs.Entry.{PlainEntry}
 use Rattle.decision_record.specs.History.{CoreParts, entry_of, generations_of, generations, state_of, with_entry, Steps}
@@ -88,10 +88,10 @@ all_accepted (g ∷ gs) all = (unfolded g all.0, all_accepted gs all.1)
 -- a reload that is not recorded is refused by a count
 refused_by : (s : State) (commands : List Command) (spent full : Bool)
     → (outcome_of s (Reloading commands) (reload_ruling s)
-    (option_and_then (lacking (Reloading commands)) (lack_if spent full))).recorded ≡ false
+    (option_and_then (reply_without (Reloading commands)) (lack_if spent full))).recorded ≡ false
     → (reason : ReloadRefusal)
     × ((outcome_of s (Reloading commands) (reload_ruling s)
-    (option_and_then (lacking (Reloading commands)) (lack_if spent full))).reply
+    (option_and_then (reply_without (Reloading commands)) (lack_if spent full))).reply
     ≡ ReloadRefused reason)
 refused_by s commands true full h = (ReloadsSpent, refl)
 refused_by s commands false true h = (RecordFull, refl)
@@ -103,7 +103,7 @@ not_recorded_as : (s : State) (commands : List Command)
 unfolding step count_refusal ruling_of
 not_recorded_as s commands h =
     refused_by s commands (are_reloads_spent s)
-    (is_short s PutInForce) h
+    (lacks_places s PutInForce) h
 
 reloaded_as : (s : State) (commands : List Command)
     → verdict_of s (Reloading commands) ≡ Reloaded (s.version + 1)

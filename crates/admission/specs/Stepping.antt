@@ -3,7 +3,7 @@ use Rattle.std.specs.Prelude.{◌≡◌, ℕ, Option, Some}
 use Rattle.rulings.specs.declared.lacks.Lack.{Lack}
 use Rattle.rulings.specs.declared.replies.Reply.{Reply}
 use Rattle.rulings.specs.Events.{PlainEvent}
-use Rattle.rulings.specs.Lacks.{lacking}
+use Rattle.rulings.specs.Lacks.{reply_without}
 use Rattle.decision_record.specs.History.{CoreParts, Steps}
 use Rattle.admission.specs.Answering.{answered}
 
@@ -18,4 +18,4 @@ StepsInto has old event taker number new =
 -- the taker has the reply to an event that lacks this
 abbrev pub HasRefusal : {S : Type 0} → (S → Reply → Type 0) → PlainEvent → Lack → S → Type 0
 HasRefusal has event lack taker =
-    (refusal : Reply) × (lacking event lack ≡ Some refusal) × has taker refusal
+    (refusal : Reply) × (reply_without event lack ≡ Some refusal) × has taker refusal

@@ -2,18 +2,18 @@
 
 ghost use Rattle.std.specs.Prelude.{◌≡◌, IsSome};
 ghost use Rattle.rulings.specs.Events.{event_meant};
-ghost use Rattle.rulings.specs.Lacks.{lacking, reload_reason};
+ghost use Rattle.rulings.specs.Lacks.{reply_without, reload_reason};
 ghost use Rattle.admission.specs.Stepping.{HasRefusal};
 
 use rulings::{Lack, LentEvent, Reply, ReplyTaker};
 
 /// Gives the taker the reply to an event that lacks this.
 pub(crate) fn refuse<S: ReplyTaker>(event: &LentEvent<'_>, lack: Lack, taker: &mut S)
-    requires { IsSome (lacking (event_meant event.now) lack) }
+    requires { IsSome (reply_without (event_meant event.now) lack) }
     ensures reply { HasRefusal S.has (event_meant event.now) lack taker.new }
     ensures same { S.sequence taker.new ≡ S.sequence taker.old }
 {
-    match &event.lacking(lack) {
+    match &event.reply_without(lack) {
         Some(refusal) => taker.take_reply(refusal),
         None => unreachable!(),
     }

@@ -17,10 +17,11 @@ use std::alloc::AllocError;
 
 #[tactic(auto, unfolding(rulings::specs::Step::state_after))]
 /// Makes room in the record for the entry of an event that no count refuses, of so many bytes (at
-/// most 1,396: `size_of_entry` of entry_bytes), and carries out the effect of the ruling. If memory runs out, nothing changes, but for some room in
-/// the record that may have been made. It never does, if the entry is short, for an effect that
-/// takes none and has a place, as that of a release and of a reload whose place is `reserved`; nor
-/// for one that takes none as long as the record has room.
+/// most 1,396: `size_of_entry` of entry_bytes), and carries out the effect of the ruling. If memory
+/// runs out, nothing changes, but for some room in the record that may have been made. It never
+/// does, if the entry is short, for an effect that takes none and has a place, as that of a release
+/// and of a reload whose place is `reserved`; nor for one that takes none as long as the record has
+/// room.
 pub(crate) fn prepare(
     history: &mut Record,
     machine: &mut Machine,

@@ -76,7 +76,7 @@ impl Core {
     }
 
     #[tactic(auto, using(crate::proofs::SteppingLemmas::planned_for))]
-    /// The plan that was made of an admission's digits, if that was done under the version in force.
+    /// The plan that was made of an admission's digits, if that was under the version in force.
     fn plan_in_force<'r>(
         &self,
         routed: Option<&'r Routed>,
@@ -95,8 +95,8 @@ impl Core {
         }
     }
 
-    /// Steps by a reload to these tables: the reply goes into a taker. If it was recorded, the record
-    /// has the tables, and the number of the entry is given back.
+    /// Steps by a reload to these tables: the reply goes into a taker. If it was recorded, the
+    /// record has the tables, and the number of the entry is given back.
     pub(crate) fn step_reload<S: ReplyTaker>(
         &mut self,
         tables: Arc<Tables>,

@@ -44,7 +44,8 @@ impl Model for AdmissionList {
 impl AdmissionList {
     /// No admissions. Takes no memory.
     pub fn new(alloc: Global) -> AdmissionList
-        ensures { result.items ≡ [] }
+        ensures items { result.items ≡ [] }
+        ensures whole { result.whole ≡ 0 }
     {
         AdmissionList {
             kept: Vec::new(alloc),

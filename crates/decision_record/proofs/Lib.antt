@@ -3,6 +3,7 @@ pub mod PastLemmas
 pub mod RecordLemmas
 pub mod ReloadLemmas
 pub mod RowLemmas
+pub mod RowlessLemmas
 pub mod StoredLemmas
 pub mod ToldLemmas
 pub mod EntryLemmas

@@ -42,7 +42,7 @@ row_made number event o some none =
 
 -- ---- entries that were read
 -- what is told of an event says what the event says with it
-said_of_told : (event : PlainEvent) (v : Verdict)
+pub said_of_told : (event : PlainEvent) (v : Verdict)
     → event_said event (entry_told event v).reply (entry_told event v).zone
     (entry_told event v).route (entry_told event v).opened
     ≡ call_event (entry_told event v)

@@ -14,6 +14,8 @@ use Rattle.rulings.specs.State.{State}
 use Rattle.rulings.specs.Events.{PlainEvent, Registering, Unregistering, Admitting, Answering, Changing, Releasing, Reloading}
 use Rattle.rulings.specs.Step.{is_granted, step}
 use Rattle.entry_bytes.specs.Entry.{PlainEntry}
+use Rattle.entry_bytes.specs.declared.verdict_kinds.VerdictKind.{VerdictKind}
+use Rattle.entry_bytes.specs.declared.verdict_kinds.VerdictKind.TheVariants as kind
 
 -- ---- admissions
 -- whether a routed admission was granted: one that was refused for its route or for a limit was
@@ -139,6 +141,26 @@ row_of number event = if_row (record { number = number; event = event })
 -- to.
 abbrev pub entry_row : ℕ → PlainEntry → Option RowParts
 entry_row number e = option_and_then (row_of number) (call_event e)
+
+-- whether no entry whose verdict is of this kind has a row: one of what was refused for another
+-- cause than its route or a limit
+abbrev pub is_rowless : VerdictKind → Bool
+is_rowless kind.Registered = false
+is_rowless kind.RegisterRefused = true
+is_rowless kind.Unregistered = false
+is_rowless kind.UnregisterRefused = true
+is_rowless kind.Admitted = false
+is_rowless kind.Answering = false
+is_rowless kind.Repeated = false
+is_rowless kind.CallerNotRegistered = true
+is_rowless kind.CallOpen = true
+is_rowless kind.NoRoute = false
+is_rowless kind.OverLimit = false
+is_rowless kind.Changed = false
+is_rowless kind.ChangeRefused = true
+is_rowless kind.Released = false
+is_rowless kind.ReleaseRefused = true
+is_rowless kind.Reloaded = false
 
 -- ---- rows
 -- the row of an entry that was recorded in this state

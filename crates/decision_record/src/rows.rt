@@ -8,7 +8,7 @@ ghost use Rattle.entry_bytes.specs.Entry.{entry_told};
 ghost use Rattle.entry_bytes.specs.EntryBytes.{entry_after, entry_in};
 ghost use Rattle.entry_bytes.specs.ReadEntry.{entry_read};
 ghost use Rattle.entry_bytes.specs.ReadEvent.{event_read};
-ghost use Rattle.entry_bytes.specs.VerdictBytes.{admitted_in};
+ghost use Rattle.entry_bytes.specs.VerdictBytes.{admitted_in, registered_in};
 ghost use Rattle.entry_bytes.specs.declared.verdicts.Verdict.TheVariants as VerdictMeant;
 ghost use Rattle.decision_record.specs.Items.{MeansEntry};
 ghost use Rattle.decision_record.specs.Past.{IsRightItem, item_row, numbered_row};
@@ -58,11 +58,11 @@ fn row_of_item(number: u32, item: &[u8]) -> Option<CallRow>
     }
 }
 
-#[tactic(auto, unfolding(entry_bytes::specs::VerdictBytes::verdict_in, entry_bytes::specs::VerdictBytes::verdict_at))]
+#[tactic(auto, unfolding(entry_bytes::specs::VerdictBytes::verdict_in, entry_bytes::specs::VerdictBytes::verdict_at), using(crate::proofs::RowlessLemmas::no_row_of_kind))]
 /// The row of this number by the entry that these bytes are: that an admission was routed, that an
 /// answer opened a call or was refused for a limit, that a bandwidth change was granted, or that a
 /// call was released. Most entries are admissions and releases that were granted: of these, a text
-/// is tried but once, as it is copied.
+/// is tried but once, as it is copied. An entry that has no row is not read whole.
 fn row_of_bytes(number: u32, item: &[u8]) -> Option<CallRow>
     requires { MeansEntry (entry_in item.now) }
     ensures { result ≡ option_and_then (Spec.entry_row number) (entry_in item.now) }
@@ -74,8 +74,25 @@ fn row_of_bytes(number: u32, item: &[u8]) -> Option<CallRow>
     match verdict_kind_of(code) {
         Some(VerdictKind::Admitted) => row_of_admitted(number, item, &mut fields),
         Some(VerdictKind::Released) => row_of_released(number, item, &mut fields),
+        Some(VerdictKind::Registered) => row_of_registered(number, item, &mut fields),
+        Some(kind) if is_rowless(kind) => None,
         _ => row_of_any(number, item),
     }
+}
+
+/// Whether no entry whose verdict is of this kind has a row.
+fn is_rowless(kind: VerdictKind) -> bool
+    ensures { result ≡ Spec.is_rowless kind }
+{
+    matches!(
+        kind,
+        VerdictKind::RegisterRefused
+            | VerdictKind::UnregisterRefused
+            | VerdictKind::CallerNotRegistered
+            | VerdictKind::CallOpen
+            | VerdictKind::ChangeRefused
+            | VerdictKind::ReleaseRefused
+    )
 }
 
 #[tactic(auto, using(crate::proofs::EntryLemmas::verdict_known, crate::proofs::EntryLemmas::event_after, crate::proofs::RowLemmas::admission_known, crate::proofs::RowLemmas::admitted_row))]
@@ -132,6 +149,20 @@ fn row_of_released(number: u32, item: &[u8], fields: &mut Fields<'_>) -> Option<
     let asked = &BriefEvent::read(fields);
     match asked.kind {
         EventKind::Release => row_of_release(number, asked.number()),
+        _ => row_of_any(number, item),
+    }
+}
+
+#[tactic(auto, using(crate::proofs::EntryLemmas::verdict_known, crate::proofs::EntryLemmas::zone_known, crate::proofs::EntryLemmas::event_after, crate::proofs::RowlessLemmas::no_row_of_registration))]
+/// The same of an endpoint that was registered, after the kind of its verdict.
+fn row_of_registered(number: u32, item: &[u8], fields: &mut Fields<'_>) -> Option<CallRow>
+    requires known { MeansEntry (entry_in item.now) }
+    requires same { entry_in item.now ≡ entry_after (registered_in fields.old) }
+    ensures { result ≡ option_and_then (Spec.entry_row number) (entry_in item.now) }
+{
+    let _zone = fields.known_name();
+    match BriefEvent::read(fields).kind {
+        EventKind::Registration => None,
         _ => row_of_any(number, item),
     }
 }

@@ -1,6 +1,6 @@
 //! The tables of the lines that belong to a request.
 
-ghost use Rattle.std.specs.Prelude.{◌≡◌, Ok, MatchResult};
+ghost use Rattle.std.specs.Prelude.{◌≡◌, [], Ok, OnOk, MatchResult};
 ghost use Rattle.std.specs.Arc.{arc_value};
 ghost use Rattle.gk_terms.specs.Text.{lines_of};
 ghost use Rattle.command_reader.specs.Reading.{reading_in};
@@ -37,8 +37,9 @@ pub fn tables_of(alloc: Global, lines: &mut OwnedLines) -> Result<Arc<Tables>, N
 /// Reads the lines and compiles them, with the errors of `tables_of`. Once they are read they are
 /// let go, so that their memory is free for the tables.
 pub fn tables_in(alloc: Global, lines: &mut OwnedLines) -> Result<Tables, NoTables>
-    ensures { MatchResult result (λ tables. reading_in (lines_of lines.old) ≡ Ok tables)
+    ensures read { MatchResult result (λ tables. reading_in (lines_of lines.old) ≡ Ok tables)
         (IsNoConfiguration (lines_of lines.old)) }
+    ensures cleared { OnOk result (lines.new ≡ []) }
 {
     let commands = read(alloc, lines.as_bytes())?;
     lines.clear();

@@ -27,8 +27,8 @@ use Rattle.rulings.specs.Routing.{destination_of, target_for, route_of}
 use Rattle.rulings.specs.Ruling.{Ruling, register_refusal, registration_unless, admitted_call, admission_unless, admission_to, admission_ruling, answered_call, answering_ruling, answering_to, call_open_ruling, repeated_answer, change_unless, change_ruling, unrouted, ruling_of}
 use Rattle.std.specs.Option.{option_and_then}
 use Rattle.rulings.specs.declared.lacks.Lack.TheVariants.{Limit, Record}
-use Rattle.rulings.specs.Lacks.{lacking, no_memory_reply_of}
-use Rattle.rulings.specs.Step.{count_refusal, is_short, lack_if, outcome_of, step}
+use Rattle.rulings.specs.Lacks.{reply_without, no_memory_reply_of}
+use Rattle.rulings.specs.Step.{count_refusal, lacks_places, lack_if, outcome_of, step}
 
 -- what holds of both
 either : {X : Type 0} (P : X → Type 0) (t : Bool) (x y : X) → P x → P y → P (cond t x y)
@@ -124,8 +124,8 @@ step_apart s event no_memory counts ruled h =
 
 -- a reply that is neither refusal by a count is not the one that comes
 counts_apart : (event : PlainEvent) (refusal : Reply) (at_limit short : Bool)
-    → Some refusal ≢ lacking event Limit → Some refusal ≢ lacking event Record
-    → Some refusal ≢ option_and_then (lacking event) (lack_if at_limit short)
+    → Some refusal ≢ reply_without event Limit → Some refusal ≢ reply_without event Record
+    → Some refusal ≢ option_and_then (reply_without event) (lack_if at_limit short)
 counts_apart event refusal true short limit places h = limit h
 counts_apart event refusal false true limit places h = places h
 counts_apart event refusal false false limit places h = cc
@@ -151,7 +151,7 @@ lasts s (Unregistering id) =
     let unknown : Q (unrouted (UnregisterRefused id unregister.NotRegistered) Nothing) = λ h. cc in
     step_apart s (Unregistering id) (UnregisterRefused id unregister.NoMemory)
     (counts_apart (Unregistering id) _ false
-    (is_short s (ruling_of s (Unregistering id)).effect) none records)
+    (lacks_places s (ruling_of s (Unregistering id)).effect) none records)
     (either Q _ _ _ (either Q _ _ _ calls left) unknown)
 lasts s (Admitting id call digits units) =
     let P : Option Reply → Type 0 = λ refusal. Some (AdmitRefused call admit.NoMemory) ≢ refusal in
@@ -174,7 +174,7 @@ lasts s (Changing id call units) =
     let none : P None = λ h. cc in
     step_apart s (Changing id call units) (ChangeRefused call change.NoMemory)
     (counts_apart (Changing id call units) _ false
-    (is_short s (ruling_of s (Changing id call units)).effect) none records)
+    (lacks_places s (ruling_of s (Changing id call units)).effect) none records)
     (change_apart s id call units (call_of s.calls call))
 lasts s (Releasing id call) = λ h. cc
 lasts s (Reloading commands) =

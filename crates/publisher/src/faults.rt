@@ -32,8 +32,8 @@ pub enum TablesFault {
     #[error("the reader is lost")]
     Lost,
     /// The tables have as many owners as can be counted.
-    #[error("out of memory")]
-    NoMemory,
+    #[error("the tables have too many owners")]
+    TooManyOwners,
 }
 
 /// The reader was not let in: the publisher was closed, or what is shown doesn't have all that the

@@ -110,7 +110,7 @@ fn tables_in<J: Imprint>(
     }
     match Arc::try_clone(&shown.tables) {
         Ok(tables) => Ok((shown.version(), tables)),
-        Err(_) => Err(TablesFault::NoMemory),
+        Err(_) => Err(TablesFault::TooManyOwners),
     }
 }
 

@@ -56,8 +56,8 @@ impl<J: Imprint> Reader<J> {
     }
 
     /// The version in force and its tables, which stay as they are for as long as they are held.
-    /// It takes no block of memory. `Lost` if the reader isn't let in, `NoMemory` if the tables
-    /// have as many owners as can be counted.
+    /// It takes no memory. `Lost` if the reader isn't let in, `TooManyOwners` if the tables have as
+    /// many owners as can be counted.
     pub fn read(&mut self) -> Result<(Version, Arc<Tables, Global>), TablesFault>
         ensures grows { IsPrefix self.old.list self.new.list }
         ensures told { IfOk result (λ _. IsPrefix self.old.told self.new.list) }

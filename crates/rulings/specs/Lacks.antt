@@ -1,4 +1,4 @@
--- What an event may lack, so that it is refused whatever was ruled of it: the reply then.
+-- What an event may lack for what was ruled of it to be recorded, and the reply then.
 use Rattle.std.specs.Prelude.{Option, Some, None}
 use Rattle.std.specs.Option.{option_map}
 use Rattle.rulings.specs.declared.lacks.Lack.{Lack}
@@ -45,16 +45,17 @@ reload_reason Limit = reload.ReloadsSpent
 reload_reason Record = reload.RecordFull
 reload_reason Memory = reload.NoMemory
 
--- ---- the reply to an event that lacks this; a release lacks nothing
-abbrev pub lacking : PlainEvent → Lack → Option Reply
-lacking (Registering e) lack = Some (RegisterRefused e.id (register_reason lack))
-lacking (Unregistering id) lack = option_map (UnregisterRefused id) (unregister_reason lack)
-lacking (Admitting id call digits units) lack = Some (AdmitRefused call (admit_reason lack))
-lacking (Answering id call units) lack = Some (AdmitRefused call (admit_reason lack))
-lacking (Changing id call units) lack = option_map (ChangeRefused call) (change_reason lack)
-lacking (Releasing id call) lack = None
-lacking (Reloading commands) lack = Some (ReloadRefused (reload_reason lack))
+-- ---- the reply to an event that lacks this; none to a release, which lacks nothing, and none if
+-- there is no limit that the event could meet
+abbrev pub reply_without : PlainEvent → Lack → Option Reply
+reply_without (Registering e) lack = Some (RegisterRefused e.id (register_reason lack))
+reply_without (Unregistering id) lack = option_map (UnregisterRefused id) (unregister_reason lack)
+reply_without (Admitting id call digits units) lack = Some (AdmitRefused call (admit_reason lack))
+reply_without (Answering id call units) lack = Some (AdmitRefused call (admit_reason lack))
+reply_without (Changing id call units) lack = option_map (ChangeRefused call) (change_reason lack)
+reply_without (Releasing id call) lack = None
+reply_without (Reloading commands) lack = Some (ReloadRefused (reload_reason lack))
 
 -- the reply if memory runs out for an event that would be recorded; a release takes none
 abbrev pub no_memory_reply_of : PlainEvent → Option Reply
-no_memory_reply_of event = lacking event Memory
+no_memory_reply_of event = reply_without event Memory

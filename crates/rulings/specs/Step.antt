@@ -12,7 +12,7 @@ use Rattle.rulings.specs.declared.rulings.Effect.TheVariants.{Nothing, Put, Remo
 use Rattle.rulings.specs.Ruling.{Ruling}
 use Rattle.rulings.specs.declared.lacks.Lack.{Lack}
 use Rattle.rulings.specs.declared.lacks.Lack.TheVariants.{Limit, Record}
-use Rattle.rulings.specs.Lacks.{lacking}
+use Rattle.rulings.specs.Lacks.{reply_without}
 use Rattle.rulings.specs.State.{State, free_places}
 use Rattle.rulings.specs.Events.{PlainEvent, Registering, Unregistering, Admitting, Answering, Changing, Releasing, Reloading, endpoint_asking, put_in_force}
 use Rattle.rulings.specs.Ruling.{ruling_of}
@@ -84,8 +84,8 @@ abbrev pub are_reloads_spent : State → Bool
 are_reloads_spent s = nat_lt s.limits.reloads s.version
 
 -- the record lacks the free places that the entry needs
-abbrev pub is_short : State → Effect → Bool
-is_short s effect = nat_lt (free_places s) (places_needed effect)
+abbrev pub lacks_places : State → Effect → Bool
+lacks_places s effect = nat_lt (free_places s) (places_needed effect)
 
 -- what is lacking, by whether a limit is met and whether the record lacks places
 abbrev pub lack_if : Bool → Bool → Option Lack
@@ -96,20 +96,20 @@ lack_if false false = None
 -- what the event lacks, memory aside; a release lacks nothing
 abbrev pub lack_of : State → PlainEvent → Ruling → Option Lack
 lack_of s (Registering e) ruling =
-    lack_if (are_endpoints_full s e ruling.verdict) (is_short s ruling.effect)
-lack_of s (Unregistering id) ruling = lack_if false (is_short s ruling.effect)
+    lack_if (are_endpoints_full s e ruling.verdict) (lacks_places s ruling.effect)
+lack_of s (Unregistering id) ruling = lack_if false (lacks_places s ruling.effect)
 lack_of s (Admitting id call digits units) ruling =
-    lack_if (are_calls_full s ruling.effect) (is_short s ruling.effect)
+    lack_if (are_calls_full s ruling.effect) (lacks_places s ruling.effect)
 lack_of s (Answering id call units) ruling =
-    lack_if (are_calls_full s ruling.effect) (is_short s ruling.effect)
-lack_of s (Changing id call units) ruling = lack_if false (is_short s ruling.effect)
+    lack_if (are_calls_full s ruling.effect) (lacks_places s ruling.effect)
+lack_of s (Changing id call units) ruling = lack_if false (lacks_places s ruling.effect)
 lack_of s (Releasing id call) ruling = None
 lack_of s (Reloading commands) ruling =
-    lack_if (are_reloads_spent s) (is_short s ruling.effect)
+    lack_if (are_reloads_spent s) (lacks_places s ruling.effect)
 
 -- the refusal by a count: endpoints-full, calls-full or reloads-spent, and else record-full
 unfoldable pub count_refusal : State → PlainEvent → Ruling → Option Reply
-count_refusal s event ruling = option_and_then (lacking event) (lack_of s event ruling)
+count_refusal s event ruling = option_and_then (reply_without event) (lack_of s event ruling)
 
 -- ---- what a ruling changes
 -- the endpoint registered in the zone

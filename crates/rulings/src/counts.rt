@@ -56,10 +56,10 @@ impl Machine {
         }
     }
 
-    /// The same of a reload.
+    /// What a reload on which this was ruled lacks, as `lack` says it.
     pub fn reload_lack(&self, ruling: &LentRuling<'_>) -> Option<Lack>
         ensures { result ≡ Spec.lack_if (Spec.are_reloads_spent (States.bare self.now))
-            (Spec.is_short (States.bare self.now) (ruling_meant ruling.now).effect) }
+            (Spec.lacks_places (States.bare self.now) (ruling_meant ruling.now).effect) }
     {
         self.lack_if(self.are_reloads_spent(), ruling)
     }
@@ -67,7 +67,7 @@ impl Machine {
     /// What is lacking, by whether a limit is met.
     fn lack_if(&self, at_limit: bool, ruling: &LentRuling<'_>) -> Option<Lack>
         ensures { result ≡ Spec.lack_if at_limit
-            (Spec.is_short (States.bare self.now) (ruling_meant ruling.now).effect) }
+            (Spec.lacks_places (States.bare self.now) (ruling_meant ruling.now).effect) }
     {
         if at_limit {
             return Some(Lack::Limit);
@@ -106,7 +106,7 @@ impl Machine {
     /// Whether the record lacks the free places that the entry needs.
     fn lacks_places(&self, ruling: &LentRuling<'_>) -> bool
         ensures { result
-            ≡ Spec.is_short (States.bare self.now) (ruling_meant ruling.now).effect }
+            ≡ Spec.lacks_places (States.bare self.now) (ruling_meant ruling.now).effect }
     {
         self.free_places() < ruling.places_needed()
     }

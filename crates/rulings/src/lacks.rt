@@ -1,4 +1,4 @@
-//! What an event may lack, so that it is refused whatever was ruled of it, and the reply then.
+//! What an event may lack for what was ruled of it to be recorded, and the reply then.
 
 ghost use Rattle.std.specs.Prelude.{◌≡◌};
 ghost use Rattle.rulings.specs.Events.{event_meant};
@@ -78,10 +78,10 @@ impl Lack {
 }
 
 impl LentEvent<'_> {
-    /// The reply if the event lacks this; nothing for a release, which lacks nothing, and if there
-    /// is no limit that it could meet.
-    pub fn lacking(&self, lack: Lack) -> Option<Reply>
-        ensures { result ≡ Spec.lacking (event_meant self.now) lack }
+    /// The reply if the event lacks this; none to a release, which lacks nothing, and none if there
+    /// is no limit that the event could meet.
+    pub fn reply_without(&self, lack: Lack) -> Option<Reply>
+        ensures { result ≡ Spec.reply_without (event_meant self.now) lack }
     {
         match self {
             LentEvent::Register(endpoint) => Some(Reply::RegisterRefused {

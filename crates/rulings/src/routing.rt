@@ -95,7 +95,7 @@ fn zone_of_plan(tables: &Tables, plan: &Plan) -> Option<ZoneNo>
 }
 
 #[tactic(auto, unfolding(crate::specs::Routing::route_of))]
-/// The same by a plan that was made of the digits.
+/// Where digits that are dialled from this zone lead, by a plan that was made of them.
 pub fn route_of_plan<'a>(
     tables: &'a Tables,
     registry: &'a Registry,
