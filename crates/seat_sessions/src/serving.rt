@@ -1,10 +1,11 @@
 //! A server: a desk, and as many sessions as it has seats.
 
-ghost use Rattle.std.specs.Prelude.{◌≡◌, ◌+◌, ◌^◌, ◌<◌, ◌≤◌, List, length, IfOk, IfErr};
+ghost use Rattle.std.specs.Prelude.{◌≡◌, ◌+◌, ◌^◌, ◌<◌, ◌≤◌, List, length, true, Err, IfOk, IfErr};
 ghost use Rattle.std.specs.Arc.{arc_value};
 ghost use Rattle.rulings.specs.State.{opening_of};
+ghost use Rattle.rulings.specs.Limits.{are_limits};
 ghost use Rattle.entry_bytes.specs.Entry.{PlainEntry};
-ghost use Rattle.live_desk.specs.Seats.{IsTheirs};
+ghost use Rattle.live_desk.specs.Seats.{IsBadCount, IsTheirs};
 ghost use Rattle.seat_sessions.specs.Served.{IsServed, stated_limits};
 
 use crate::peers::{Peer, PeerReader, PeerWriter};
@@ -52,10 +53,10 @@ pub enum ServeFault {
 }
 
 /// Serves so many sessions, 1 to 32, each with a seat of its own, on a port of this machine, under
-/// these tables. Each has a thread of its own, as far as threads can be started; else some begin
-/// after others have ended. A session that ends, for whatever reason, leaves its calls open; an
-/// accept that fails counts as a session that ended. The faults of memory and seats come before
-/// that of the port.
+/// these tables; for another number it serves nobody and answers `NoSeat`. Each has a thread of its
+/// own, as far as threads can be started; else some begin after others have ended. A session that
+/// ends, for whatever reason, leaves its calls open; an accept that fails counts as a session that
+/// ended. The faults of memory and seats come before that of the port.
 pub fn serve_tables<R: Net<Listener = TcpListener, Stream = TcpStream> + Threads + Wait + Sync>(
     rt: &R,
     alloc: Global,
@@ -63,8 +64,9 @@ pub fn serve_tables<R: Net<Listener = TcpListener, Stream = TcpStream> + Threads
     port: u16,
     seats: u32,
 ) -> Result<Served, ServeFault>
-    ensures { IfOk result
+    ensures served { IfOk result
         (IsServed (opening_of (arc_value tables).commands stated_limits) seats) }
+    ensures seats { IsBadCount seats → result ≡ Err ServeFault.NoSeat }
 {
     let blank = Blank {
         ledger: std::sync::ledger::Blank::new(seats as u64),
@@ -90,7 +92,8 @@ pub fn serve<
     requires parts { (J.all ≡ J.parts) × (seats ≡ J.all) }
     requires publisher { blank.publisher ≡ J.book }
     requires opening { (J.begun ≡ (arc_value tables).commands) × (J.limits ≡ limits) }
-    ensures { IfOk result (IsServed (opening_of J.begun J.limits) seats) }
+    ensures served { IfOk result (IsServed (opening_of J.begun J.limits) seats) }
+    ensures seats { are_limits limits ≡ true → IsBadCount seats → result ≡ Err ServeFault.NoSeat }
 {
     let desk = match Desk::<J>::open(alloc, blank, tables, limits, seats) {
         Ok(desk) => desk,
