@@ -1,5 +1,5 @@
-//! Theorems on how calls are routed, and on what every record keeps and says. Each is the contract of a
-//! function that does nothing.
+//! Theorems on how calls are routed, and on what every record keeps and says. Each is the contract
+//! of a function that does nothing.
 
 ghost use Rattle.admission.specs.AnswerLaws.{AnswersLeadToTheEndpoint, AnswersOfStrangersAreRefused, AnswersToOthersCallsAreRefused, RecordedAnswersLeadToTheEndpoint, RecordedAnswersOpenTheirCalls, RecordedRepeatsChangeNothing};
 ghost use Rattle.admission.specs.HistoryLaws.{RecordedAdmissionsAreRouted, RecordedRefusalsAreUnrouted, RecordedGrantsAreWithin, RecordedRaisesWereWithin, RecordedLimitsAreAbove, EndpointsAreLocal, RecordsAreSound};

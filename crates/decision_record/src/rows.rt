@@ -62,7 +62,8 @@ fn row_of_item(number: u32, item: &[u8]) -> Option<CallRow>
 /// The row of this number by the entry that these bytes are: that an admission was routed, that an
 /// answer opened a call or was refused for a limit, that a bandwidth change was granted, or that a
 /// call was released. Most entries are admissions and releases that were granted: of these, a text
-/// is tried but once, as it is copied. An entry that has no row is not read whole.
+/// is tried but once, as it is copied. A refusal that has no row, or a registration, is not read
+/// whole.
 fn row_of_bytes(number: u32, item: &[u8]) -> Option<CallRow>
     requires { MeansEntry (entry_in item.now) }
     ensures { result ≡ option_and_then (Spec.entry_row number) (entry_in item.now) }
