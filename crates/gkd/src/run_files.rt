@@ -1,14 +1,13 @@
 //! `gkd` and `gkd run`: a run over standard input and output, and its calls in a file.
 
 use crate::files::configuration_in;
-use crate::recorded_rows::write_record;
-use crate::run::{Ended, RunFault, run_over, run_under};
 use crate::saying::{cannot_read, cannot_write, fail, refuse_configuration};
 use admission::{Core, STATED_LIMITS};
 use call_files::WriteRowsFault;
 use configuration_reader::configuration::ConfigurationFault;
 use gk_lines::Noted;
 use gk_protocol::SessionFault;
+use runs::{Ended, RunFault, run_over, run_under, write_record};
 use std::alloc::AllocGlobal;
 use std::process::ExitCode;
 use std::rt::Runtime;

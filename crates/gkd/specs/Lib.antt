@@ -1,4 +1,0 @@
-pub mod Figures
-pub mod Output
-pub mod Rows
-pub mod Run

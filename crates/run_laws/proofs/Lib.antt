@@ -1,0 +1,3 @@
+pub mod MemoryLemmas
+pub mod OutputLemmas
+pub mod Rows

@@ -1,0 +1,2 @@
+pub mod RecordedLemmas
+pub mod RunLemmas
