@@ -234,81 +234,79 @@ fn commands<'a>(alloc: Global) -> Result<Command<'a>, AllocError> {
 
 /// `run FILE [--record CSV]`.
 fn run_command<'a>(alloc: Global) -> Result<Command<'a>, AllocError> {
-    let record = named(alloc, "record", "CSV").help(
-        "Writes the calls of the run to this file at its end, for `gkd trial`",
-    );
     Command::new(alloc, "run")
         .about(
             "Reads the configuration from a file and then requests from standard input, and \
             writes a reply to each request on standard output",
         )
         .arg(file(alloc))?
-        .arg(record)
-}
-
-/// An option with a value.
-fn named<'a>(alloc: Global, name: &'a str, value: &'a str) -> Arg<'a> {
-    Arg::new(alloc, name)
-        .long(name)
-        .value_name(value)
-        .action(ArgAction::Set)
+        .arg(named(
+            alloc,
+            "record",
+            "CSV",
+            "Writes the calls of the run to this file at its end, for `gkd trial`",
+        ))
 }
 
 /// `serve FILE --port N --seats N`.
 fn serve_command<'a>(alloc: Global) -> Result<Command<'a>, AllocError> {
-    let port = named(alloc, "port", "N")
-        .help("The TCP port on 127.0.0.1 that sessions come to, 1 to 65535")
-        .required(true);
-    let seats = named(alloc, "seats", "N")
-        .help("How many sessions are served, each in a thread of its own, 1 to 32")
-        .required(true);
     Command::new(alloc, "serve")
         .about(
             "Serves sessions over TCP under the configuration in a file, many at a time, and ends \
             when all have ended",
         )
         .arg(file(alloc))?
-        .arg(port)?
-        .arg(seats)
+        .arg(needed(
+            alloc,
+            "port",
+            "N",
+            "The TCP port on 127.0.0.1 that sessions come to, 1 to 65535",
+        ))?
+        .arg(needed(
+            alloc,
+            "seats",
+            "N",
+            "How many sessions are served, each in a thread of its own, 1 to 32",
+        ))
 }
 
 /// `trial FILE --calls CSV --endpoints FILE --workers N`.
 fn trial_command<'a>(alloc: Global) -> Result<Command<'a>, AllocError> {
-    let calls = named(alloc, "calls", "CSV")
-        .help("The calls, as `gkd run --record` wrote them")
-        .required(true);
-    let endpoints = named(alloc, "endpoints", "FILE")
-        .help("The endpoints that are registered: one RRQ line for each")
-        .required(true);
-    let workers = named(alloc, "workers", "N")
-        .help("How many threads share the work, 1 to 64; the report is the same for any number")
-        .required(true);
     Command::new(alloc, "trial")
         .about(
             "Reports what the configuration in a file would have answered to recorded calls, and \
             how much bandwidth would have been in use in each zone",
         )
         .arg(file(alloc))?
-        .arg(calls)?
-        .arg(endpoints)?
-        .arg(workers)
+        .arg(needed(
+            alloc,
+            "calls",
+            "CSV",
+            "The calls, as `gkd run --record` wrote them",
+        ))?
+        .arg(needed(
+            alloc,
+            "endpoints",
+            "FILE",
+            "The endpoints that are registered: one RRQ line for each",
+        ))?
+        .arg(needed(
+            alloc,
+            "workers",
+            "N",
+            "How many threads share the work, 1 to 64; the report is the same for any number",
+        ))
 }
 
 /// `diff OLD NEW [--all] [--csv]`.
 fn diff_command<'a>(alloc: Global) -> Result<Command<'a>, AllocError> {
-    let old = Arg::new(alloc, "OLD")
-        .help("The configuration that is in force")
-        .required(true);
-    let new = Arg::new(alloc, "NEW")
-        .help("The one that is to come")
-        .required(true);
     Command::new(alloc, "diff")
         .about(
             "Prints which digits two configurations plan otherwise. The status is 0 if there are \
             none, 1 if there are some, and 2 in case of trouble",
         )
-        .arg(old)?
-        .arg(new)?
+        .arg(operand(alloc, "OLD", "The configuration that is in force"))?
+        .arg(operand(alloc, "NEW", "The one that is to come"))?
         .arg(flag(alloc, "all", "Lists the digits too that both plan alike"))?
         .arg(flag(
             alloc,
@@ -319,21 +317,56 @@ fn diff_command<'a>(alloc: Global) -> Result<Command<'a>, AllocError> {
 
 /// `explain FILE DIGITS [--zone NAME] [--endpoints FILE]`.
 fn explain_command<'a>(alloc: Global) -> Result<Command<'a>, AllocError> {
-    let digits = Arg::new(alloc, "DIGITS")
-        .help("What is dialled: 1 to 32 of 0 to 9, # and *")
-        .required(true);
-    let zone = named(alloc, "zone", "NAME").help(
-        "The zone of the caller; `-` or without it the first local zone",
-    );
-    let endpoints = named(alloc, "endpoints", "FILE").help(
-        "The endpoints that are registered: one RRQ line for each",
-    );
     Command::new(alloc, "explain")
         .about("Says step by step why a call to these digits goes where it goes")
         .arg(file(alloc))?
-        .arg(digits)?
-        .arg(zone)?
-        .arg(endpoints)
+        .arg(operand(
+            alloc,
+            "DIGITS",
+            "What is dialled: 1 to 32 of 0 to 9, # and *",
+        ))?
+        .arg(named(
+            alloc,
+            "zone",
+            "NAME",
+            "The zone of the caller; `-` or without it the first local zone",
+        ))?
+        .arg(named(
+            alloc,
+            "endpoints",
+            "FILE",
+            "The endpoints that are registered: one RRQ line for each",
+        ))
+}
+
+/// `check FILE [--print]`.
+fn check_command<'a>(alloc: Global) -> Result<Command<'a>, AllocError> {
+    Command::new(alloc, "check")
+        .about(
+            "Says whether a configuration is accepted, or names its first fault by line and kind",
+        )
+        .arg(file(alloc))?
+        .arg(flag(
+            alloc,
+            "print",
+            "Prints the canonical form of each command first",
+        ))
+}
+
+// An argument is made where it is added: one that is made before has to be let go at each exit.
+
+/// The file of a configuration.
+fn file<'a>(alloc: Global) -> Arg<'a> {
+    operand(
+        alloc,
+        "FILE",
+        "The configuration: Cisco IOS gatekeeper command lines",
+    )
+}
+
+/// A word that has to be given, without the name of an option.
+fn operand<'a>(alloc: Global, name: &'a str, help: &'a str) -> Arg<'a> {
+    Arg::new(alloc, name).help(help).required(true)
 }
 
 /// An option without a value.
@@ -344,24 +377,16 @@ fn flag<'a>(alloc: Global, name: &'a str, help: &'a str) -> Arg<'a> {
         .action(ArgAction::SetTrue)
 }
 
-/// The file of a configuration.
-fn file<'a>(alloc: Global) -> Arg<'a> {
-    Arg::new(alloc, "FILE")
-        .help("The configuration: Cisco IOS gatekeeper command lines")
-        .required(true)
+/// An option with a value.
+fn named<'a>(alloc: Global, name: &'a str, value: &'a str, help: &'a str) -> Arg<'a> {
+    Arg::new(alloc, name)
+        .long(name)
+        .value_name(value)
+        .help(help)
+        .action(ArgAction::Set)
 }
 
-/// `check FILE [--print]`.
-fn check_command<'a>(alloc: Global) -> Result<Command<'a>, AllocError> {
-    let prints = flag(
-        alloc,
-        "print",
-        "Prints the canonical form of each command first",
-    );
-    Command::new(alloc, "check")
-        .about(
-            "Says whether a configuration is accepted, or names its first fault by line and kind",
-        )
-        .arg(file(alloc))?
-        .arg(prints)
+/// An option with a value that has to be given.
+fn needed<'a>(alloc: Global, name: &'a str, value: &'a str, help: &'a str) -> Arg<'a> {
+    named(alloc, name, value, help).required(true)
 }

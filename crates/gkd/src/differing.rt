@@ -39,28 +39,58 @@ pub fn diff_files<R: Runtime + AllocGlobal>(
     listing: Listing,
     form: Form,
 ) -> io::Result<ExitCode> {
-    let old_tables = match tables_in(rt, old)? {
-        Some(tables) => tables,
-        None => return Ok(ExitCode::from(TROUBLE)),
-    };
-    let new_tables = match tables_in(rt, new)? {
-        Some(tables) => tables,
-        None => return Ok(ExitCode::from(TROUBLE)),
-    };
-    print_difference(rt, &old_tables, &new_tables, listing, form)
+    match tables_in(rt, old) {
+        Ok(old) => diff_from(rt, &old, new, listing, form),
+        Err(fault) => refuse_tables(rt, old, fault),
+    }
 }
 
-/// The tables of the configuration in a file; none, once its fault is said on standard error.
-fn tables_in<R: Runtime + AllocGlobal>(rt: &R, file: &str) -> io::Result<Option<Tables>> {
+/// The same, once the old one is compiled.
+fn diff_from<R: Runtime + AllocGlobal>(
+    rt: &R,
+    old: &Tables,
+    new: &str,
+    listing: Listing,
+    form: Form,
+) -> io::Result<ExitCode> {
+    match tables_in(rt, new) {
+        Ok(new) => print_difference(rt, old, &new, listing, form),
+        Err(fault) => refuse_tables(rt, new, fault),
+    }
+}
+
+/// Why a file gives no tables.
+#[derive(Clone, Copy, Debug, PartialEq, Eq)]
+enum Uncompiled {
+    /// Its configuration is refused, or cannot be read.
+    Config(ConfigurationFault),
+    /// Memory ran out for them.
+    NoMemory,
+}
+
+/// The tables of the configuration in a file.
+fn tables_in<R: Runtime + AllocGlobal>(rt: &R, file: &str) -> Result<Tables, Uncompiled> {
     match configuration_in(rt, file) {
         Ok(commands) => match Tables::compile(rt.alloc(), commands) {
-            Ok(tables) => return Ok(Some(tables)),
-            Err(_) => eprintln!(rt; "gkd: no memory")?,
+            Ok(tables) => Ok(tables),
+            Err(_) => Err(Uncompiled::NoMemory),
         },
-        Err(ConfigurationFault::Line(fault)) => eprintln!(rt; "gkd: {file}: {fault}")?,
-        Err(ConfigurationFault::Read(_)) => eprintln!(rt; "gkd: cannot read {file}")?,
+        Err(fault) => Err(Uncompiled::Config(fault)),
     }
-    Ok(None)
+}
+
+/// Says on standard error why a file gives no tables.
+fn refuse_tables<R: Eprint>(rt: &R, file: &str, fault: Uncompiled) -> io::Result<ExitCode> {
+    match fault {
+        Uncompiled::Config(ConfigurationFault::Line(fault)) => {
+            eprintln!(rt; "gkd: {file}: {fault}")?;
+        }
+        Uncompiled::Config(ConfigurationFault::Read(_)) => {
+            eprintln!(rt; "gkd: cannot read {file}")?;
+        }
+        Uncompiled::NoMemory => eprintln!(rt; "gkd: no memory")?,
+    }
+    Ok(ExitCode::from(TROUBLE))
 }
 
 /// Prints the difference of these tables to standard output.

@@ -57,15 +57,23 @@ fn explain_under<R: Runtime + AllocGlobal>(
     let Some(file) = question.endpoints else {
         return print_explanation(rt, tables, None, &caller, &question.digits);
     };
-    let endpoints = match text_of(rt, file) {
-        Ok(text) => read_endpoints(rt.alloc(), text.as_slice(), tables),
-        Err(Unread::NoMemory) => return fail(rt, "no memory"),
-        Err(Unread::Failed) => return cannot_read(rt, file),
-    };
-    match endpoints {
-        Ok(endpoints) => {
-            print_explanation(rt, tables, Some(&endpoints), &caller, &question.digits)
-        }
+    match text_of(rt, file) {
+        Ok(text) => explain_with(rt, tables, text.as_slice(), &caller, &question.digits),
+        Err(Unread::NoMemory) => fail(rt, "no memory"),
+        Err(Unread::Failed) => cannot_read(rt, file),
+    }
+}
+
+/// The same with the endpoints in this text.
+fn explain_with<R: Runtime + AllocGlobal>(
+    rt: &R,
+    tables: &Tables,
+    text: &[u8],
+    caller: &Name,
+    digits: &Dialled,
+) -> io::Result<ExitCode> {
+    match read_endpoints(rt.alloc(), text, tables) {
+        Ok(endpoints) => print_explanation(rt, tables, Some(&endpoints), caller, digits),
         Err(fault) => refuse_file(rt, "endpoints", &fault),
     }
 }

@@ -38,15 +38,31 @@ pub fn text_of<R: Runtime + AllocGlobal>(rt: &R, file: &str) -> Result<Vec<u8>, 
     let Ok(opened) = fs::open(rt, file) else {
         return Err(Unread::Failed);
     };
+    let mut text = Vec::new(rt.alloc());
+    match read_whole(opened, &mut text) {
+        Ok(()) => Ok(text),
+        Err(why) => Err(why),
+    }
+}
+
+/// Adds to the text what the reader gives to its end.
+fn read_whole<F: Read + Drop>(reader: F, text: &mut Vec<u8>) -> Result<(), Unread> {
     let mut limited = Limited {
-        reader: opened,
+        reader,
         left: MOST_READS,
     };
-    let mut text = Vec::new(rt.alloc());
-    match limited.read_to_end(&mut text) {
-        Ok(_) => Ok(text),
-        Err(error) if error.kind() == io::ErrorKind::OutOfMemory => Err(Unread::NoMemory),
-        Err(_) => Err(Unread::Failed),
+    match limited.read_to_end(text) {
+        Ok(_) => Ok(()),
+        Err(error) => Err(unread_for(&error)),
+    }
+}
+
+/// Why a file was not read, by the fault of a read.
+fn unread_for(error: &io::Error) -> Unread {
+    if error.kind() == io::ErrorKind::OutOfMemory {
+        Unread::NoMemory
+    } else {
+        Unread::Failed
     }
 }
 

@@ -45,10 +45,21 @@ pub fn run_file<R: Runtime + AllocGlobal + Threads + Wait>(
         &mut reader,
         &mut writer,
     );
-    match (ended, record) {
-        (Ok(ended), Some(calls)) => end_recorded(rt, &ended, calls),
-        (Ok(ended), None) => end_run(rt, replies_of(&ended)),
-        (Err(fault), _) => end_run(rt, Err(fault)),
+    match ended {
+        Ok(ended) => end_session(rt, &ended, record),
+        Err(fault) => end_run(rt, Err(fault)),
+    }
+}
+
+/// Writes the calls of a session that has ended, if a file is named for them, and says its fault.
+fn end_session<R: Runtime + AllocGlobal>(
+    rt: &R,
+    ended: &Ended,
+    record: Option<&str>,
+) -> io::Result<ExitCode> {
+    match record {
+        Some(calls) => end_recorded(rt, ended, calls),
+        None => end_run(rt, replies_of(ended)),
     }
 }
 

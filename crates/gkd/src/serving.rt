@@ -2,10 +2,11 @@
 
 use crate::files::configuration_in;
 use crate::saying::{UNWRITTEN, cannot_read, fail, refuse_configuration};
+use command_reader::Commands;
 use compiler::Tables;
 use configuration_reader::configuration::ConfigurationFault;
 use seat_sessions::{ServeFault, Served, serve_tables};
-use std::alloc::AllocGlobal;
+use std::alloc::{AllocGlobal, Global};
 use std::io;
 use std::net::{Net, TcpListener, TcpStream};
 use std::process::ExitCode;
@@ -29,15 +30,20 @@ pub fn serve_file<
         Err(ConfigurationFault::Line(fault)) => return refuse_configuration(rt, fault),
         Err(ConfigurationFault::Read(_)) => return cannot_read(rt, file),
     };
-    let Ok(tables) = Tables::compile(rt.alloc(), commands) else {
-        return fail(rt, "no memory");
-    };
-    let Ok(tables) = Arc::new(rt.alloc(), tables) else {
+    let Some(tables) = shared_tables(rt.alloc(), commands) else {
         return fail(rt, "no memory");
     };
     match serve_tables(rt, rt.alloc(), tables, port, seats) {
         Ok(served) => print_served(rt, &served),
         Err(fault) => refuse_server(rt, fault),
+    }
+}
+
+/// The tables of a configuration, as a server shares them; none if memory runs out.
+fn shared_tables(alloc: Global, commands: Commands) -> Option<Arc<Tables>> {
+    match Tables::compile(alloc, commands) {
+        Ok(tables) => Arc::new(alloc, tables).ok(),
+        Err(_) => None,
     }
 }
 
