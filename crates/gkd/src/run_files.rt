@@ -4,6 +4,7 @@ use crate::files::configuration_in;
 use crate::saying::{cannot_read, cannot_write, fail, refuse_configuration};
 use admission::{Core, STATED_LIMITS};
 use call_files::WriteRowsFault;
+use command_reader::Commands;
 use configuration_reader::configuration::ConfigurationFault;
 use gk_lines::Noted;
 use gk_protocol::SessionFault;
@@ -30,11 +31,19 @@ pub fn run_file<R: Runtime + AllocGlobal + Threads + Wait>(
     file: &str,
     record: Option<&str>,
 ) -> io::Result<ExitCode> {
-    let commands = match configuration_in(rt, file) {
-        Ok(commands) => commands,
-        Err(ConfigurationFault::Line(fault)) => return refuse_configuration(rt, fault),
-        Err(ConfigurationFault::Read(_)) => return cannot_read(rt, file),
-    };
+    match configuration_in(rt, file) {
+        Ok(commands) => run_commands(rt, commands, record),
+        Err(ConfigurationFault::Line(fault)) => refuse_configuration(rt, fault),
+        Err(ConfigurationFault::Read(_)) => cannot_read(rt, file),
+    }
+}
+
+/// The same under these commands.
+fn run_commands<R: Runtime + AllocGlobal + Threads + Wait>(
+    rt: &R,
+    commands: Commands,
+    record: Option<&str>,
+) -> io::Result<ExitCode> {
     let mut reader = Noted::new(rt.reader());
     let mut writer = Noted::new(io::writer(rt));
     let ended = run_under(
