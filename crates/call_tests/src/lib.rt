@@ -1,9 +1,13 @@
 //! The tests of what a call goes through, over public calls: of the registry, open calls and their
-//! bandwidth, entries as bytes, call files and trials.
+//! bandwidth, entries as bytes, call files, trials, and requests and replies.
 #![tactic(auto)]
 
 #[cfg(test)]
+mod endpoint_file_tests;
+#[cfg(test)]
 mod endpoint_tests;
+#[cfg(test)]
+mod fault_tests;
 #[cfg(test)]
 mod field_tests;
 #[cfg(test)]
@@ -15,6 +19,10 @@ pub mod laws;
 mod open_call_tests;
 #[cfg(test)]
 mod registry_tests;
+#[cfg(test)]
+mod reply_tests;
+#[cfg(test)]
+mod session_tests;
 #[cfg(test)]
 mod test_trials;
 #[cfg(test)]
