@@ -216,20 +216,31 @@ fn number_in<'a>(
 
 /// The command line that `gkd` takes.
 fn commands<'a>(alloc: Global) -> Result<Command<'a>, AllocError> {
-    Command::new(alloc, "gkd")
+    let command = Command::new(alloc, "gkd")
         .about(
             "Routes and admits calls as an H.323 gatekeeper. Without words it reads a \
             configuration and then requests from standard input, and writes a reply to each \
             request on standard output.",
         )
         .version(VERSION)
-        .disable_help_subcommand(true)
-        .subcommand(check_command(alloc)?)?
-        .subcommand(diff_command(alloc)?)?
-        .subcommand(explain_command(alloc)?)?
-        .subcommand(run_command(alloc)?)?
-        .subcommand(serve_command(alloc)?)?
-        .subcommand(trial_command(alloc)?)
+        .disable_help_subcommand(true);
+    let command = with_form(command, check_command(alloc))?;
+    let command = with_form(command, diff_command(alloc))?;
+    let command = with_form(command, explain_command(alloc))?;
+    let command = with_form(command, run_command(alloc))?;
+    let command = with_form(command, serve_command(alloc))?;
+    with_form(command, trial_command(alloc))
+}
+
+/// The command line with one form more, if there was memory for it.
+fn with_form<'a>(
+    command: Command<'a>,
+    form: Result<Command<'a>, AllocError>,
+) -> Result<Command<'a>, AllocError> {
+    match form {
+        Ok(form) => command.subcommand(form),
+        Err(refused) => Err(refused),
+    }
 }
 
 /// `run FILE [--record CSV]`.
