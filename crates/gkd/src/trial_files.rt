@@ -45,12 +45,32 @@ pub fn try_files<R: Runtime + AllocGlobal + Threads + Wait>(
     let Ok(tables) = Tables::compile(rt.alloc(), commands) else {
         return fail(rt, "no memory");
     };
-    let endpoints = match text_of(rt, files.endpoints) {
-        Ok(text) => read_endpoints(rt.alloc(), text.as_slice(), &tables),
-        Err(why) => return refuse_unread(rt, files.endpoints, why),
-    };
-    match endpoints {
-        Ok(endpoints) => try_calls(rt, files.calls, &tables, endpoints, workers),
+    try_under(rt, files, &tables, workers)
+}
+
+/// The same under these tables.
+fn try_under<R: Runtime + AllocGlobal + Threads + Wait>(
+    rt: &R,
+    files: &TrialFiles<'_>,
+    tables: &Tables,
+    workers: u32,
+) -> io::Result<ExitCode> {
+    match text_of(rt, files.endpoints) {
+        Ok(text) => try_with(rt, files.calls, tables, text.as_slice(), workers),
+        Err(why) => refuse_unread(rt, files.endpoints, why),
+    }
+}
+
+/// The same with the endpoints in this text.
+fn try_with<R: Runtime + AllocGlobal + Threads + Wait>(
+    rt: &R,
+    file: &str,
+    tables: &Tables,
+    text: &[u8],
+    workers: u32,
+) -> io::Result<ExitCode> {
+    match read_endpoints(rt.alloc(), text, tables) {
+        Ok(endpoints) => try_calls(rt, file, tables, endpoints, workers),
         Err(fault) => refuse_file(rt, "endpoints", &fault),
     }
 }
@@ -63,11 +83,21 @@ fn try_calls<R: Runtime + AllocGlobal + Threads + Wait>(
     endpoints: Registry,
     workers: u32,
 ) -> io::Result<ExitCode> {
-    let calls = match text_of(rt, file) {
-        Ok(text) => read_calls(rt.alloc(), text.as_slice()),
-        Err(why) => return refuse_unread(rt, file, why),
-    };
-    match calls {
+    match text_of(rt, file) {
+        Ok(text) => try_rows(rt, text.as_slice(), tables, endpoints, workers),
+        Err(why) => refuse_unread(rt, file, why),
+    }
+}
+
+/// The same of the calls in this text.
+fn try_rows<R: Runtime + AllocGlobal + Threads + Wait>(
+    rt: &R,
+    text: &[u8],
+    tables: &Tables,
+    endpoints: Registry,
+    workers: u32,
+) -> io::Result<ExitCode> {
+    match read_calls(rt.alloc(), text) {
         Ok(calls) => report(rt, &calls.with_endpoints(endpoints), tables, workers),
         Err(fault) => refuse_file(rt, "calls", &fault),
     }
