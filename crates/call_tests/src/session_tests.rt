@@ -4,6 +4,7 @@ use gk_lines::fakes::Piecewise;
 use gk_lines::{Noted, Sink, Source};
 use gk_protocol::answerer::Answerer;
 use gk_protocol::answers::Answer;
+use gk_protocol::reply_lines::ReplyLine;
 use gk_protocol::request_faults::RequestFault;
 use gk_protocol::requests::Request;
 use gk_protocol::session_faults::SessionFault;
@@ -21,9 +22,9 @@ impl Answerer for Counter {
 
     ghost may_answer = { λ _ _ _ _. ⊤ };
 
-    fn answer(&mut self, _alloc: Global, _request: Request) -> Answer {
+    fn answer_into(&mut self, _alloc: Global, _request: Request, reply: &mut ReplyLine) {
         self.asked = self.asked.saturating_add(1);
-        Answer::Malformed(RequestFault::CutShort)
+        reply.show(Answer::Malformed(RequestFault::CutShort));
     }
 }
 

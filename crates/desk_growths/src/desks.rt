@@ -153,7 +153,7 @@ fn ask_all<J: House, R: Wait>(
     for step in [Step::Release(1001), Step::Release(1002), Step::Unregister] {
         take_step(rt, alloc, desk, seat, terms, step, log);
     }
-    count_snapshot(rt, alloc, desk, log);
+    count_snapshot(rt, alloc, desk, seat, log);
 }
 
 /// Asks one event, and says the reply with the number of its entry.
@@ -271,10 +271,16 @@ fn other(alloc: Global, log: &mut Log) -> Option<Commands> {
 }
 
 /// Says how many rows a snapshot has.
-fn count_snapshot<J: House, R: Wait>(rt: &R, alloc: Global, desk: &Desk<J>, log: &mut Log) {
-    match snapshot_of(rt, alloc, desk, log) {
-        Some(snapshot) => log.count(b"Desk::snapshot", snapshot.len()),
-        None => log.fault(b"Desk::snapshot"),
+fn count_snapshot<J: House, R: Wait>(
+    rt: &R,
+    alloc: Global,
+    desk: &Desk<J>,
+    seat: &mut Seat<J>,
+    log: &mut Log,
+) {
+    match snapshot_of(rt, alloc, desk, seat, log) {
+        Some(snapshot) => log.count(b"Seat::snapshot", snapshot.len()),
+        None => log.fault(b"Seat::snapshot"),
     }
 }
 
@@ -283,11 +289,12 @@ fn snapshot_of<J: House, R: Wait>(
     rt: &R,
     alloc: Global,
     desk: &Desk<J>,
+    seat: &mut Seat<J>,
     log: &mut Log,
 ) -> Option<Snapshot> {
-    if let Ok(snapshot) = desk.snapshot(rt, alloc) {
+    if let Ok(snapshot) = seat.snapshot(rt, alloc, desk) {
         return Some(snapshot);
     }
-    log.lacked(b"Desk::snapshot");
-    desk.snapshot(rt, alloc).ok()
+    log.lacked(b"Seat::snapshot");
+    seat.snapshot(rt, alloc, desk).ok()
 }

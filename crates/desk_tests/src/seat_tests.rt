@@ -188,7 +188,7 @@ fn seats_left<J: House, R: Wait>(
     ask_of_calls(rt, alloc, desk, &mut seat)?;
     let _refusal = refusal_of_reload(rt, alloc, desk, &mut seat);
     seat.put_in_force(rt, desk, others).ok()?;
-    let _snapshot = desk.snapshot(rt, alloc).ok()?;
+    let _snapshot = seat.snapshot(rt, alloc, desk).ok()?;
     desk.hold(rt, &OpenGate);
     let second = desk.seat(rt).is_ok();
     let third = desk.seat(rt).is_ok();

@@ -8,12 +8,11 @@ use Rattle.call_rows.specs.Rows.{SnapshotParts}
 use Rattle.admission.specs.Answering.{answered, receipt_for}
 use Rattle.gk_protocol.specs.declared.requests.Request.{Request}
 use Rattle.gk_protocol.specs.declared.requests.Request.TheVariants.{Register, Unregister, Admit, Incoming, Change, Release, Reload, Try}
-use Rattle.gk_protocol.specs.declared.answers.Answer.{Answer}
 use Rattle.gk_protocol.specs.declared.answers.Answer.TheVariants.{Reply}
 use Rattle.gk_protocol.specs.Answering as answering
 use Rattle.gk_protocol.specs.Answers.{answer_text_of}
 use Rattle.gk_protocol.specs.Demands.{Demand, AnEvent, AReload, ATrial, asked_event, demand_of, event_in, sequence_of}
-use Rattle.gk_protocol.specs.CoreAnswers.{MayAnswer, MayShow, Replies}
+use Rattle.gk_protocol.specs.CoreAnswers.{MayAnswer, MayShow}
 use Rattle.gk_protocol.specs.Hearing.{AnswersInto}
 
 -- no request asks for a reload as an event
@@ -70,12 +69,3 @@ answered_into old asked_of new request repeated event line number same asks told
       (step_replies old new event told.0 number told.2) request asks),
   told.1 ∙ ap (λ n. answer_text_of (Reply n told.0)) counted,
 )
-
--- and by the reply
-pub answered_to : (old new : CoreParts) (request : Request) (sequence : ℕ) (event : PlainEvent)
-    (answer : Answer) → asked_event request ≡ Some event → sequence ≡ sequence_of request
-    → Replies old sequence event answer new → MayAnswer old request answer new
-answered_to old new request sequence event answer asks same told =
-    subst (λ a. MayAnswer old request a new)
-    (ap (λ n. Reply n told.0) (sym same) ∙ sym told.1)
-    (may_answer MayReply MayShow old new event told.0 told.2 request asks)

@@ -44,7 +44,7 @@ pub(crate) struct OptionsLeft {
     pub technologies: usize,
 }
 
-/// Why the options of a registration could not be read.
+/// Why a registration could not be read.
 #[derive(Clone, Copy)]
 pub(crate) enum NoRequest {
     /// The first fault of the line.
@@ -110,7 +110,7 @@ pub(crate) fn register<A: Answerer>(
 }
 
 /// Answers a registration that lacks the memory for its options, or gives back the first fault of
-/// them.
+/// the line.
 fn lack_options(none: NoRequest, reply: &mut ReplyLine) -> Result<Heard, RequestFault>
     ensures { LacksOptions none result reply.new.text }
 {

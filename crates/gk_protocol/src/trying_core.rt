@@ -1,9 +1,8 @@
 //! A core with the threads to try other configurations with.
 
 ghost use Rattle.std.specs.Prelude.{◌≡◌, None};
-ghost use Rattle.rulings.specs.Events.{event_meant, put_in_force};
 ghost use Rattle.gk_protocol.specs.Demands.{asked_event};
-ghost use Rattle.gk_protocol.specs.CoreAnswers.{MayAnswer, Replies};
+ghost use Rattle.gk_protocol.specs.CoreAnswers.{MayAnswer};
 
 use crate::answerer::Answerer;
 use crate::answers::Answer;
@@ -11,7 +10,7 @@ use crate::reloads::reload;
 use crate::reply_lines::ReplyLine;
 use crate::requests::Request;
 use crate::trials::tried;
-use admission::{Core, KeptReply, LentEvent};
+use admission::Core;
 use std::alloc::Global;
 use std::marker::Model;
 use std::sync::Wait;
@@ -49,18 +48,6 @@ impl<'r, R> TryingCore<'r, R> {
 }
 
 impl<R: Threads + Wait> TryingCore<'_, R> {
-    /// The core's reply to an event that is lent, and is not a reload, as the answer to the request
-    /// of this number.
-    fn replied(&mut self, sequence: u32, event: &LentEvent<'_>) -> Answer
-        requires { put_in_force (event_meant event.now) ≡ None }
-        ensures { Replies self.old sequence (event_meant event.now) result self.new }
-    {
-        let mut kept = KeptReply::none();
-        let _number = self.core.step(None, event, &mut kept);
-        let reply = kept.reply();
-        Answer::Reply { sequence, reply }
-    }
-
     /// Answers a request whose lines say what it asks for.
     fn answer_lines(&mut self, alloc: Global, request: &mut Request) -> Answer
         requires { asked_event request.old ≡ None }
@@ -82,13 +69,6 @@ impl<R: Threads + Wait> TryingCore<'_, R> {
 
 impl<R: Threads + Wait> Answerer for TryingCore<'_, R> {
     ghost may_answer = { MayAnswer };
-
-    fn answer(&mut self, alloc: Global, mut request: Request) -> Answer {
-        if let Some(event) = &request.event() {
-            return self.replied(request.sequence(), event);
-        }
-        self.answer_lines(alloc, &mut request)
-    }
 
     fn answer_into(&mut self, alloc: Global, mut request: Request, reply: &mut ReplyLine) {
         if let Some(event) = &request.event() {

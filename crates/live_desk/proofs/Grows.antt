@@ -22,7 +22,7 @@ use Rattle.admission.specs.Answering.{answered, reply_kept}
 use Rattle.call_rows.specs.Rows.{SnapshotParts}
 use Rattle.decision_record.specs.Rows.{rows_of}
 use Rattle.rulings.specs.State.{State}
-use Rattle.live_desk.specs.Seats.{Asked, IsFound, IsLawful, IsReloadAnswer, IsReloadOf, SeatParts, unreserved, IsPut, IsReceiptOf, IsSnapshotOfSome, LastStands}
+use Rattle.live_desk.specs.Seats.{Asked, IsFound, IsLawful, IsReloadAnswer, IsReloadOf, SeatParts, unreserved, IsPut, IsReceiptOf, IsSnapshotFor, LastStands}
 use Rattle.live_desk.specs.Seats as seats
 use Rattle.live_desk.proofs.Counts.{number_within}
 use Rattle.admission.proofs.StepLemmas.{step_reply}
@@ -206,18 +206,19 @@ grown_alike before kept after commands (Err reply) old new is same recorded take
     ∙ taken (ap (λ (c : CoreParts). c.reserved) same)))
 
 -- ---- snapshots
--- a snapshot of a core as it was after a lawful history
-pub snapshot_of_some : {E : Type 0} (opening : State) (entries : List PlainEntry)
+-- a snapshot of a core as it was after a lawful history, for a seat with no more events than that
+pub snapshot_for : {E : Type 0} (opening : State) (seat : SeatParts) (entries : List PlainEntry)
     (past : CoreParts) (result : Result SnapshotParts E) → IsLawful opening entries
-    → unreserved past ≡ seats.held opening entries
+    → seat.share ≤ length entries → unreserved past ≡ seats.held opening entries
     → IfOk result (λ snapshot. snapshot ≡ record {
       rows = rows_of past.opening past.entries;
       endpoints = (state_of past).endpoints;
-    }) → IfOk result (IsSnapshotOfSome opening)
+    }) → IfOk result (IsSnapshotFor opening seat)
 unfolding state_of
-snapshot_of_some opening entries past (Ok snapshot) lawful same is = record {
+snapshot_for opening seat entries past (Ok snapshot) lawful long same is = record {
   history = entries;
   lawful = lawful;
+  long = long;
   shown =
       is
       ∙ ap (λ (c : CoreParts). record {
@@ -225,7 +226,7 @@ snapshot_of_some opening entries past (Ok snapshot) lawful same is = record {
         endpoints = (state_of c).endpoints;
       }) same;
 }
-snapshot_of_some opening entries past (Err error) lawful same is = tt
+snapshot_for opening seat entries past (Err error) lawful long same is = tt
 
 -- ---- under the lock
 is_held : (core : CoreParts) (opening : State) → core.opening ≡ opening → core.reserved ≡ false

@@ -113,10 +113,12 @@ snapshot_of opening history = record {
   endpoints = (state_of (held opening history)).endpoints;
 }
 
--- the snapshot is that of some lawful history
-pub record IsSnapshotOfSome (opening : State) (snapshot : SnapshotParts) : Type 0 where
+-- the snapshot is that of some lawful history, not shorter than the seat's share
+pub record IsSnapshotFor (opening : State) (seat : SeatParts) (snapshot : SnapshotParts)
+    : Type 0 where
   pub history : List PlainEntry
   pub lawful : IsLawful opening history
+  pub long : seat.share ≤ length history
   pub shown : snapshot ≡ snapshot_of opening history
 
 -- ---- reloads

@@ -4,16 +4,16 @@ ghost use Rattle.std.specs.Prelude.{◌≡◌, ◌<◌, ◌↔◌, true, false, 
 ghost use Rattle.std.specs.Arc.{arc_value};
 ghost use Rattle.rulings.specs.State.{opening_of};
 ghost use Rattle.rulings.specs.Limits.{are_limits};
-ghost use Rattle.live_desk.specs.Seats.{IsBadCount, IsSnapshotOfSome, IsTheirs, SomeAstray};
+ghost use Rattle.live_desk.specs.Seats.{IsBadCount, IsTheirs, SomeAstray};
 
 use crate::house::House;
 use crate::live::{Live, OpenFault};
 use crate::room::{FinishKind, Room};
 use crate::seats::Seat;
-use admission::{Limits, Record, Snapshot};
+use admission::{Limits, Record};
 use compiler::Tables;
 use gk_terms::Gate;
-use std::alloc::{AllocError, Global};
+use std::alloc::Global;
 use std::sync::{Arc, Mutex, MutexGuard, Wait};
 use thiserror::Error;
 
@@ -96,21 +96,6 @@ impl<J: House> Desk<J> {
         }
     }
 
-    /// The rows and endpoints of what was recorded so far, by whichever seat. While the lock is
-    /// held, the endpoints are copied and the entries shared; the rows and the registry are made
-    /// afterwards. `AllocError` if memory runs out.
-    pub fn snapshot<R: Wait>(&self, rt: &R, alloc: Global) -> Result<Snapshot, AllocError>
-        ensures { IfOk result (IsSnapshotOfSome (opening_of J.begun J.limits)) }
-    {
-        let room = self.room.lock(rt);
-        let past = room.past();
-        let _room = MutexGuard::unlock(room);
-        match past {
-            Ok(past) => past.snapshot(alloc),
-            Err(error) => Err(error),
-        }
-    }
-
     /// Takes the lock, calls `begin(0)` of the gate, and lets the lock go.
     pub fn hold<R: Wait>(&self, rt: &R, gate: &impl Gate) {
         let held = self.room.lock(rt);
@@ -125,6 +110,7 @@ impl<J: House> Desk<J> {
         requires { J.all ≡ J.parts }
         ensures ok { IfOk result (λ ended.
             IsTheirs (opening_of J.begun J.limits) seats.items ended.entries) }
+        ensures begun { IfOk result (λ ended. ended.opening ≡ J.begun) }
         ensures missing { IfErr result (λ f.
             f.kind ≡ FinishKind.SeatsMissing → vec_len seats < J.all) }
         ensures astray { IfErr result (λ f.

@@ -98,15 +98,18 @@ impl<J: House> Room<J> {
         (self.live.record(), self.live.version())
     }
 
-    /// The core as it is now, of which a snapshot is made once the lock was let go. `AllocError` if
-    /// memory runs out.
-    pub fn past(&self) -> Result<PastCore, AllocError>
+    /// The core as it is now, for a seat, of which a snapshot is made once the lock was let go.
+    /// `AllocError` if memory runs out.
+    pub fn past(&mut self, seat: &mut Seat<J>) -> Result<PastCore, AllocError>
         ensures past { IfOk result (λ past. unreserved past
-            ≡ held (opening_of J.begun J.limits) self.now.entries) }
-        ensures lawful { IsLawful (opening_of J.begun J.limits) self.now.entries }
+            ≡ held (opening_of J.begun J.limits) self.old.entries) }
+        ensures lawful { IsLawful (opening_of J.begun J.limits) self.old.entries }
+        ensures long { seat.old.share ≤ length self.old.entries }
+        ensures same { (self.new ≡ self.old) × (seat.new ≡ seat.old) }
     {
         // So it is known that the record is a lawful history.
         let _record = self.live.record();
+        self.audit(seat);
         self.live.past()
     }
 
@@ -150,7 +153,14 @@ impl<J: House> Room<J> {
         ensures lawful { IsLawful (opening_of J.begun J.limits) self.old.entries }
     {
         seat.confirm_last(self.live.record());
-        // So it is known that the share is no more than the entries.
+        self.audit(seat);
+    }
+
+    /// So it is known that the share of a seat is no more than the entries. It changes nothing.
+    fn audit(&mut self, seat: &mut Seat<J>)
+        ensures same { (self.new ≡ self.old) × (seat.new ≡ seat.old) }
+        ensures long { seat.old.share ≤ length self.old.entries }
+    {
         self.book.audit(&mut seat.share);
     }
 
@@ -264,6 +274,7 @@ impl<J: House> Room<J> {
         ensures ok { IfOk result (λ ended. (ended.entries ≡ self.entries)
             × (vec_len seats ≡ self.given)
             × IsTheirs (opening_of J.begun J.limits) seats.items ended.entries) }
+        ensures begun { IfOk result (λ ended. ended.opening ≡ J.begun) }
         ensures missing { IfErr result (λ f.
             f.0 ≡ FinishKind.SeatsMissing ↔ vec_len seats < self.given) }
         ensures astray { IfErr result (λ f.

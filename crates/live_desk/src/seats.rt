@@ -6,19 +6,20 @@ ghost use mathlib.Core.List.{IsPrefix};
 ghost use Rattle.rulings.specs.Events.{event_meant, plain, put_in_force, Reloading};
 ghost use Rattle.rulings.specs.State.{opening_of};
 ghost use Rattle.admission.specs.Answering.{answered, receipt_for, reply_kept};
-ghost use Rattle.live_desk.specs.Seats.{all_shares, Asked, IsAstrayIn, IsFound, IsPlanFor, IsPut, IsReceiptOf, IsReloadAnswer, IsReloadOf, IsRouted};
+ghost use Rattle.live_desk.specs.Seats.{all_shares, Asked, IsAstrayIn, IsFound, IsPlanFor, IsPut, IsReceiptOf, IsReloadAnswer, IsReloadOf, IsRouted, IsSnapshotFor};
 
 use crate::desk::Desk;
 use crate::house::House;
 use crate::turns::last_stands;
 use admission::{
-    Event, EventKind, KeptReply, LentEvent, Receipt, Record, ReloadRefusal, Reply, receipt_for,
+    Event, EventKind, KeptReply, LentEvent, Receipt, Record, ReloadRefusal, Reply, Snapshot,
+    receipt_for,
 };
 use command_reader::Commands;
 use compiler::{Routed, Tables};
 use gk_terms::{Dialled, Version};
 use publisher::{Lost, Reader};
-use std::alloc::Global;
+use std::alloc::{AllocError, Global};
 use std::marker::Model;
 use std::sync::ledger::{Book, Share};
 use std::sync::{Arc, MutexGuard, Wait};
@@ -313,6 +314,28 @@ impl<J: House> Seat<J> {
         match self.put_in_force(rt, desk, tables) {
             Ok((reply, receipt)) => Ok((version_in(&reply), receipt)),
             Err(reply) => Err(refusal_in(&reply)),
+        }
+    }
+
+    /// The rows and endpoints of what was recorded so far, by whichever seat; the events of this
+    /// seat are no more than that is made of. While the lock is held, the endpoints are copied and
+    /// the entries shared; the rows and the registry are made afterwards. `AllocError` if memory
+    /// runs out.
+    pub fn snapshot<R: Wait>(
+        &mut self,
+        rt: &R,
+        alloc: Global,
+        desk: &Desk<J>,
+    ) -> Result<Snapshot, AllocError>
+        ensures shown { IfOk result (IsSnapshotFor (opening_of J.begun J.limits) self.old) }
+        ensures same { self.new ≡ self.old }
+    {
+        let mut room = desk.room.lock(rt);
+        let past = room.past(self);
+        let _room = MutexGuard::unlock(room);
+        match past {
+            Ok(past) => past.snapshot(alloc),
+            Err(error) => Err(error),
         }
     }
 }

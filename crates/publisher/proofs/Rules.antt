@@ -68,6 +68,15 @@ module _ (book : Book) where
     (is, prefix_trans seen (list_of shown) (list_of next) (h.1 seat seen at) later, refl),
   )
 
+  -- a publication that shows the same
+  pub follows : (seat : ℕ) (seen : Seen) (shown next : Publication)
+      → shown.stem.seen.book ≡ book → next.stem.seen.book ≡ shown.stem.seen.book
+      → list_of next ≡ list_of shown → TurnsAt Holds seat seen shown next Looks
+  follows seat seen shown next is book_is list_is =
+      turns seat seen shown next (book_is ∙ is)
+      (subst (λ (w : Seen). IsPrefix (list_of shown) w) (sym list_is)
+      (prefix_self (list_of shown)))
+
   -- a look
   pub looks : (seat : ℕ) (seen : Seen) → Turns Holds seat seen (λ shown. shown) Looks
   looks seat seen shown views h at =

@@ -1,6 +1,6 @@
 //! The publisher of tables.
 
-ghost use Rattle.std.specs.Prelude.{◌≡◌, ◌+◌, ◌<◌, ◌⊎◌, ◌^◌, [], ◌∷◌, ◌++◌, length, nat_lt, IfOk, IfSome, IfErr, Err, Some, MatchBool};
+ghost use Rattle.std.specs.Prelude.{◌≡◌, ◌+◌, ◌<◌, ◌⊎◌, ◌^◌, [], ◌∷◌, ◌++◌, drop, length, nat_lt, IfOk, IfSome, IfErr, Err, Some, MatchBool};
 ghost use Rattle.std.specs.Arc.{arc_value};
 ghost use mathlib.Core.List.{IsPrefix};
 ghost use Rattle.publisher.specs.declared.faults.NewFault.TheVariants.{BadPlaces};
@@ -236,7 +236,21 @@ fn show<J: Imprint, R: Wait>(copies: Copies<J>, asked: (&R, Publication)) -> (Co
     let Ok(()) = published else {
         return (copies, false);
     };
-    (copies, true)
+    (follow(copies, rt), true)
+}
+
+/// Has the other copy follow at once, so that the tables that were shown before are let go.
+fn follow<J: Imprint, R: Wait>(copies: Copies<J>, rt: &R) -> Copies<J>
+    requires book { copies.desk.shown.value.stem.seen.book ≡ J.book }
+    requires none { drop copies.behind copies.log.items ≡ [] }
+    ensures shown { list_of result.desk.shown.value ≡ list_of copies.desk.shown.value }
+    ensures confirmed { confirmed_by result.desk.shown.value
+        ≡ confirmed_by copies.desk.shown.value }
+{
+    match copies.publish_as::<Shown<J>, R>(rt) {
+        (copies, Ok(())) => copies,
+        (copies, Err(_)) => copies,
+    }
 }
 
 /// The history with one more entry, which says that the last draft is in force.

@@ -74,7 +74,7 @@ type Owners = (usize, usize, usize);
 fn old_tables_are_let_go_beside_a_reader_that_is_told_nothing(rt: HostRuntime) -> Result<(), Fail> {
     let tables = both(&rt, rt.alloc())?;
     let (owners, read) = read_untold::<Brand, _>(&rt, rt.alloc(), Blank::new(), &tables);
-    assert!(rt; owners == (3, 2, 1) && read == Some((51, 2)));
+    assert!(rt; owners == (3, 1, 1) && read == Some((51, 2)));
     Ok(())
 }
 

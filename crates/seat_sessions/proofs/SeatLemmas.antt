@@ -1,5 +1,6 @@
 -- What a seat is answered, as an answer to a request.
-use Rattle.std.proofs.Common.{◌≡◌, ℕ, List, true, Option, Some, None, Result, Ok, Err, sym, subst, inl, inr, ap, ◌∙◌}
+use Rattle.std.proofs.Common.{◌≡◌, ◌+◌, ℕ, List, true, Option, Some, None, Result, Ok, Err, sym, subst, inl, inr, ap, ◌∙◌}
+use Rattle.std.specs.Prelude.{IfSome, IfNone, MatchResult}
 use Rattle.command_reader.specs.Configuration.{Configuration}
 use Rattle.command_reader.specs.Reading.{reading_in}
 use Rattle.rulings.specs.State.{State}
@@ -17,29 +18,55 @@ use Rattle.gk_protocol.specs.Answering.{are_workers}
 use Rattle.gk_protocol.specs.Demands.{asked_event, sequence_of}
 use Rattle.gk_protocol.proofs.AnswerLemmas.{may_answer}
 use Rattle.gk_protocol.proofs.TrialLemmas.{tried_on, lacking_trial}
-use Rattle.seat_sessions.specs.SeatAnswers.{MayAnswer, MaySay, MayShow, MayTry, Replies, RepliesInto, TriesOnSome}
+use Rattle.seat_sessions.specs.SeatAnswers.{GoesOn, MayAnswer, MaySay, MayShow, MayTry, RepliesInto, TriesFor}
+
+-- what a call of a seat says of its share and last receipt
+abbrev pub Counts : SeatParts → Result (Reply × Receipt) Reply → SeatParts → Type 0
+Counts old asked new = MatchResult asked
+    (λ a. (new.share ≡ old.share + 1) × (new.last ≡ Some a.1))
+    (λ _. (new.share ≡ old.share) × (new.last ≡ old.last))
 
 -- the reply in what was answered is one that the desk may give
-pub said : (opening : State) (old : SeatParts) (event : PlainEvent)
+said : (opening : State) (old : SeatParts) (event : PlainEvent)
     (asked : Result (Reply × Receipt) Reply) (new : SeatParts) → Asked opening old event asked new
-    → MaySay opening old event (reply_in asked) new
-said opening old event (Ok answer) new h = inl (answer.1, h)
-said opening old event (Err reply) new h = inr h
+    → Counts old asked new → GoesOn old new → MaySay opening old event (reply_in asked) new
+said opening old event (Ok answer) new h counts goes =
+    (inl (answer.1, (h, counts.0, counts.1)), goes)
+said opening old event (Err reply) new h counts goes = (inr (h, counts.0, counts.1), goes)
 
 pub said_as : (opening : State) (old : SeatParts) (event : PlainEvent)
     (asked : Result (Reply × Receipt) Reply) (reply : Reply) (new : SeatParts)
-    → reply ≡ reply_in asked → Asked opening old event asked new
-    → MaySay opening old event reply new
-said_as opening old event asked reply new is h =
-    subst (λ r. MaySay opening old event r new) (sym is) (said opening old event asked new h)
+    → reply ≡ reply_in asked → Asked opening old event asked new → Counts old asked new
+    → GoesOn old new → MaySay opening old event reply new
+said_as opening old event asked reply new is h counts goes =
+    subst (λ r. MaySay opening old event r new) (sym is)
+    (said opening old event asked new h counts goes)
 
 -- the same of an answer by the number of its entry
-pub said_lent : (opening : State) (old : SeatParts) (event : PlainEvent) (reply : Reply)
+said_lent : (opening : State) (old : SeatParts) (event : PlainEvent) (reply : Reply)
     (number : Option ℕ) (new : SeatParts)
     → Asked opening old event (answered event reply number) new
-    → MaySay opening old event reply new
-said_lent opening old event reply (Some number) new h = inl (receipt_for event reply number, h)
-said_lent opening old event reply None new h = inr h
+    → IfSome number (λ n. (new.share ≡ old.share + 1)
+    × (new.last ≡ Some (receipt_for event reply n)))
+    → IfNone number ((new.share ≡ old.share) × (new.last ≡ old.last))
+    → GoesOn old new → MaySay opening old event reply new
+said_lent opening old event reply (Some number) new h some none goes =
+    (inl (receipt_for event reply number, (h, some.0, some.1)), goes)
+said_lent opening old event reply None new h some none goes =
+    (inr (h, none.0, none.1), goes)
+
+-- the same of a seat inside, and of the reply that was kept
+pub said_kept : (opening : State) (inside old : SeatParts) (event : PlainEvent)
+    (kept reply : Reply) (number : Option ℕ) (new : SeatParts) → inside ≡ old → kept ≡ reply
+    → Asked opening inside event (answered event kept number) new
+    → IfSome number (λ n. (new.share ≡ inside.share + 1)
+    × (new.last ≡ Some (receipt_for event kept n)))
+    → IfNone number ((new.share ≡ inside.share) × (new.last ≡ inside.last))
+    → GoesOn inside new → MaySay opening old event reply new
+said_kept opening inside old event kept reply number new is same h some none goes =
+    subst (λ (s : SeatParts). MaySay opening s event reply new) is
+    (subst (λ r. MaySay opening inside event r new) same
+    (said_lent opening inside event kept number new h some none goes))
 
 -- a request is answered by the line of the desk's reply to its event
 pub said_into : (opening : State) (old : SeatParts) (request : Request) (sequence : ℕ)
@@ -52,27 +79,16 @@ said_into opening old request sequence event text new asks same told = (
   told.1 ∙ ap (λ n. answer_text_of (answers.Reply n told.0)) same,
 )
 
--- and by that reply
-pub said_to : (opening : State) (old : SeatParts) (request : Request) (sequence : ℕ)
-    (event : PlainEvent) (answer : Answer) (new : SeatParts) → asked_event request ≡ Some event
-    → sequence ≡ sequence_of request → Replies opening old sequence event answer new
-    → MayAnswer opening old request answer new
-said_to opening old request sequence event answer new asks same told =
-    subst (λ a. MayAnswer opening old request a new)
-    (ap (λ n. answers.Reply n told.0) (sym same) ∙ sym told.1)
-    (may_answer (MaySay opening) (MayShow opening) old new event told.0 told.2 request asks)
-
--- what is answered to a trial of some legal history is an answer to the trial
-pub tried_on_some : (opening : State) (seat : SeatParts) (sequence workers : ℕ)
+-- what is answered to a trial of some lawful history is an answer to the trial
+pub tried_for : (opening : State) (seat : SeatParts) (sequence workers : ℕ)
     (lines : List (List ℕ)) (configuration : Configuration) → are_workers workers ≡ true
     → reading_in lines ≡ Ok configuration → (answer : Answer)
-    → TriesOnSome opening sequence configuration answer
+    → TriesFor opening seat sequence configuration answer
     → MayTry opening seat sequence workers lines answer
-tried_on_some opening seat sequence workers lines configuration enough read answer
+tried_for opening seat sequence workers lines configuration enough read answer
     (inl (shown, taken, tried)) =
     tried_on (MayShow opening) seat sequence workers lines configuration enough read shown answer
     taken tried
-tried_on_some opening seat sequence workers lines configuration enough read answer
-    (inr lacking) =
+tried_for opening seat sequence workers lines configuration enough read answer (inr lacking) =
     subst (λ a. MayTry opening seat sequence workers lines a) (sym lacking)
     (lacking_trial (MayShow opening) seat sequence workers lines configuration enough read)

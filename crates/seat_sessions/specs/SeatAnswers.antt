@@ -1,13 +1,14 @@
 -- What a session over a seat may be answered: the generic answers, by the replies of a desk to a
 -- seat, and by the snapshots of a desk.
-use Rattle.std.specs.Prelude.{◌≡◌, ◌⊎◌, ℕ, List, Ok, Err}
+use Rattle.std.specs.Prelude.{◌≡◌, ◌+◌, ◌⊎◌, ℕ, true, List, Some, Ok, Err}
+use mathlib.Core.List.{IsPrefix}
 use Rattle.command_reader.specs.Configuration.{Configuration}
 use Rattle.call_rows.specs.Rows.{SnapshotParts}
 use Rattle.rulings.specs.State.{State}
 use Rattle.rulings.specs.Events.{PlainEvent}
 use Rattle.rulings.specs.declared.replies.Reply.{Reply}
 use Rattle.decision_record.specs.declared.entries.Receipt.{Receipt}
-use Rattle.live_desk.specs.Seats.{Asked, IsSnapshotOfSome, SeatParts}
+use Rattle.live_desk.specs.Seats.{Asked, IsSnapshotFor, SeatParts}
 use Rattle.gk_protocol.specs.declared.requests.Request.{Request}
 use Rattle.gk_protocol.specs.declared.answers.Answer.{Answer}
 use Rattle.gk_protocol.specs.declared.answers.Answer.TheVariants as answers
@@ -15,15 +16,33 @@ use Rattle.gk_protocol.specs.Answers.{answer_text_of}
 use Rattle.gk_protocol.specs.Requests.{trial_without_memory}
 use Rattle.gk_protocol.specs.Answering as answering
 
+-- a seat goes on so: it stays lost if it was, and has seen no less
+abbrev pub GoesOn : SeatParts → SeatParts → Type 0
+GoesOn old new = (old.lost ≡ true → new.lost ≡ true) × IsPrefix old.seen new.seen
+
+-- the desk replies so to an event of a seat that was recorded: the seat counts it, and has its
+-- receipt as the last
+abbrev pub Records : State → SeatParts → PlainEvent → Reply → Receipt → SeatParts → Type 0
+Records opening old event reply receipt new =
+    Asked opening old event (Ok (reply, receipt)) new
+    × (new.share ≡ old.share + 1) × (new.last ≡ Some receipt)
+
+-- or to one that was not: the seat has the count and the last receipt that it had
+abbrev pub LeavesOut : State → SeatParts → PlainEvent → Reply → SeatParts → Type 0
+LeavesOut opening old event reply new =
+    Asked opening old event (Err reply) new
+    × (new.share ≡ old.share) × (new.last ≡ old.last)
+
 -- the desk replies so to an event of a seat, whether or not it was recorded
 abbrev pub MaySay : State → SeatParts → PlainEvent → Reply → SeatParts → Type 0
 MaySay opening old event reply new =
-    ((receipt : Receipt) × Asked opening old event (Ok (reply, receipt)) new)
-    ⊎ Asked opening old event (Err reply) new
+    (((receipt : Receipt) × Records opening old event reply receipt new)
+    ⊎ LeavesOut opening old event reply new)
+    × GoesOn old new
 
--- a trial is of the rows and endpoints of some legal history
+-- a trial is of the rows and endpoints of some lawful history, not shorter than the seat's share
 abbrev pub MayShow : State → SeatParts → SnapshotParts → Type 0
-MayShow opening seat shown = IsSnapshotOfSome opening shown
+MayShow opening seat shown = IsSnapshotFor opening seat shown
 
 -- the answer is the desk's reply to an event, and repeats the request's sequence number
 abbrev pub Replies : State → SeatParts → ℕ → PlainEvent → Answer → SeatParts → Type 0
@@ -43,9 +62,9 @@ MayReload opening old sequence lines answer new =
     answering.MayReload (MaySay opening) old sequence lines answer new
 
 -- what may be answered to a trial under a configuration
-abbrev pub TriesOnSome : State → ℕ → Configuration → Answer → Type 0
-TriesOnSome opening sequence configuration answer =
-    ((shown : SnapshotParts) × IsSnapshotOfSome opening shown
+abbrev pub TriesFor : State → SeatParts → ℕ → Configuration → Answer → Type 0
+TriesFor opening seat sequence configuration answer =
+    ((shown : SnapshotParts) × IsSnapshotFor opening seat shown
     × answering.TriesOn sequence shown configuration answer)
     ⊎ (answer ≡ trial_without_memory sequence)
 

@@ -6,5 +6,5 @@ mod peers;
 mod serving;
 mod sittings;
 
-pub use serving::{ServeFault, Served, serve, serve_sessions, serve_tables};
+pub use serving::{ServeFault, Served, serve_sessions, serve_tables};
 pub use sittings::Sitting;

@@ -41,7 +41,7 @@ pub enum ServeFault {
     /// Memory ran out.
     #[error("no memory")]
     NoMemory,
-    /// A seat could not be given out.
+    /// A seat could not be given out, or the number of seats or a limit is out of range.
     #[error("no seat")]
     NoSeat,
     /// The port could not be listened on.
@@ -52,11 +52,12 @@ pub enum ServeFault {
     Session,
 }
 
-/// Serves so many sessions, 1 to 32, each with a seat of its own, on a port of this machine, under
-/// these tables; for another number it serves nobody and answers `NoSeat`. Each has a thread of its
-/// own, as far as threads can be started; else some begin after others have ended. A session that
-/// ends, for whatever reason, leaves its calls open; an accept that fails counts as a session that
-/// ended. The faults of memory and seats come before that of the port.
+/// Serves so many sessions, 1 to 32, each with a seat of its own, on a port of 127.0.0.1, 1 to
+/// 65,535, under these tables; for another number of seats it serves nobody and answers `NoSeat`. Of
+/// port 0 the system picks one, and nobody is told which. Each session has a thread of its own, as
+/// far as threads can be started; else some begin after others have ended. A session that ends, for
+/// whatever reason, leaves its calls open; an accept that fails counts as a session that ended. The
+/// faults of memory and seats come before that of the port.
 pub fn serve_tables<R: Net<Listener = TcpListener, Stream = TcpStream> + Threads + Wait + Sync>(
     rt: &R,
     alloc: Global,
@@ -76,7 +77,7 @@ pub fn serve_tables<R: Net<Listener = TcpListener, Stream = TcpStream> + Threads
 }
 
 /// The same for a house and limits that the caller picked.
-pub fn serve<
+fn serve<
     J: House + Send + Sync,
     R: Net<Listener = TcpListener, Stream = TcpStream> + Threads + Wait + Sync,
 >(

@@ -55,21 +55,8 @@ impl<'d, J: House, R> Sitting<'d, J, R> {
 }
 
 impl<J: House, R: Threads + Wait> Sitting<'_, J, R> {
-    #[tactic(auto, using(crate::proofs::SeatLemmas::said_lent))]
-    /// The desk's reply to an event that is lent, and is not a reload, as the answer to the request
-    /// of this number.
-    fn replied(&mut self, sequence: u32, event: &LentEvent<'_>) -> Answer
-        requires { put_in_force (event_meant event.now) ≡ None }
-        ensures { Spec.Replies (opening_of J.begun J.limits) self.old sequence
-            (event_meant event.now) result self.new }
-    {
-        let mut kept = KeptReply::none();
-        let _number = self.seat.ask_lent(self.rt, self.desk, event, &mut kept);
-        let reply = kept.reply();
-        Answer::Reply { sequence, reply }
-    }
-
-    /// The same, as the line of the answer. It is made after the lock was let go.
+    /// The desk's reply to an event that is lent, and is not a reload, as the line of the answer to
+    /// the request of this number. It is made after the lock was let go.
     fn reply_into(&mut self, sequence: u32, event: &LentEvent<'_>, reply: &mut ReplyLine)
         requires { put_in_force (event_meant event.now) ≡ None }
         ensures { Spec.RepliesInto (opening_of J.begun J.limits) self.old sequence
@@ -107,9 +94,16 @@ impl<J: House, R: Threads + Wait> Sitting<'_, J, R> {
     /// Answers `TRY`: reads the lines, compiles them, and tries the desk's record on them, by so
     /// many workers. The lock is held while the endpoints are copied and the entries shared, and not
     /// before or after.
-    fn tried(&self, alloc: Global, sequence: u32, workers: u32, lines: &mut OwnedLines) -> Answer
-        ensures { Spec.MayTry (opening_of J.begun J.limits) self.now sequence workers
+    fn tried(
+        &mut self,
+        alloc: Global,
+        sequence: u32,
+        workers: u32,
+        lines: &mut OwnedLines,
+    ) -> Answer
+        ensures tried { Spec.MayTry (opening_of J.begun J.limits) self.old sequence workers
             (lines_of lines.old) result }
+        ensures same { self.new ≡ self.old }
     {
         match trial_tables(alloc, workers, lines) {
             Ok(tables) => self.tried_under(alloc, sequence, workers, &tables),
@@ -118,11 +112,13 @@ impl<J: House, R: Threads + Wait> Sitting<'_, J, R> {
     }
 
     /// Tries the desk's record under these tables.
-    fn tried_under(&self, alloc: Global, sequence: u32, workers: u32, tables: &Tables) -> Answer
+    fn tried_under(&mut self, alloc: Global, sequence: u32, workers: u32, tables: &Tables) -> Answer
         requires { are_workers workers ≡ true }
-        ensures { Spec.TriesOnSome (opening_of J.begun J.limits) sequence tables.now result }
+        ensures tried { Spec.TriesFor (opening_of J.begun J.limits) self.old sequence tables.now
+            result }
+        ensures same { self.new ≡ self.old }
     {
-        match self.desk.snapshot(self.rt, alloc) {
+        match self.seat.snapshot(self.rt, alloc, self.desk) {
             Ok(snapshot) => { trial_answer(self.rt, alloc, sequence, workers, &snapshot, tables) }
             Err(_) => trial_without_memory(sequence),
         }
@@ -151,13 +147,6 @@ impl<J: House, R: Threads + Wait> Answerer for Sitting<'_, J, R> {
     ghost use Rattle.seat_sessions.specs.SeatAnswers.{MayAnswer};
 
     ghost may_answer = { MayAnswer (opening_of J.begun J.limits) };
-
-    fn answer(&mut self, alloc: Global, mut request: Request) -> Answer {
-        if let Some(event) = &request.event() {
-            return self.replied(request.sequence(), event);
-        }
-        self.answer_lines(alloc, &mut request)
-    }
 
     fn answer_into(&mut self, alloc: Global, mut request: Request, reply: &mut ReplyLine) {
         if let Some(event) = &request.event() {

@@ -8,13 +8,15 @@ use Rattle.seat_sessions.proofs.SeatLemmas.{said_as}
 use Rattle.seat_sessions.proofs.sittings.Sitting.put_in_force.Goals as goal
 
 pub returns : goal.returns
-returns g c = (
-  c.reply_in-reply.result,
-  refl,
-  subst
-      (λ (s : SeatParts). MaySay (opening_of g.J.House.begun g.J.House.limits) s
-      (Reloading (arc_value c.args.tables).commands) c.reply_in-reply.result
-      c.put_in_force-asked.new.self)
-      c.self.view_is
-      (said_as _ _ _ _ _ _ c.reply_in-reply.ensures c.put_in_force-asked.ensures.asked),
-)
+returns g c =
+    let asked = c.put_in_force-asked.ensures in (
+      c.reply_in-reply.result,
+      refl,
+      subst
+          (λ (s : SeatParts). MaySay (opening_of g.J.House.begun g.J.House.limits) s
+          (Reloading (arc_value c.args.tables).commands) c.reply_in-reply.result
+          c.put_in_force-asked.new.self)
+          c.self.view_is
+          (said_as _ _ _ _ _ _ c.reply_in-reply.ensures asked.asked asked.book
+          (asked.lost, asked.seen)),
+    )
