@@ -1,6 +1,6 @@
 //! `gkd diff`: which dialled digits two configurations plan otherwise, from files.
 
-use crate::files::configuration_in;
+use crate::files::{Uncompiled, tables_in};
 use crate::saying::UNWRITTEN;
 use compiler::Tables;
 use configuration_reader::configuration::ConfigurationFault;
@@ -41,7 +41,7 @@ pub fn diff_files<R: Runtime + AllocGlobal>(
 ) -> io::Result<ExitCode> {
     match tables_in(rt, old) {
         Ok(old) => diff_from(rt, &old, new, listing, form),
-        Err(fault) => refuse_tables(rt, old, fault),
+        Err(why) => trouble_in(rt, old, why),
     }
 }
 
@@ -55,33 +55,13 @@ fn diff_from<R: Runtime + AllocGlobal>(
 ) -> io::Result<ExitCode> {
     match tables_in(rt, new) {
         Ok(new) => print_difference(rt, old, &new, listing, form),
-        Err(fault) => refuse_tables(rt, new, fault),
-    }
-}
-
-/// Why a file gives no tables.
-#[derive(Clone, Copy, Debug, PartialEq, Eq)]
-enum Uncompiled {
-    /// Its configuration is refused, or cannot be read.
-    Config(ConfigurationFault),
-    /// Memory ran out for them.
-    NoMemory,
-}
-
-/// The tables of the configuration in a file.
-fn tables_in<R: Runtime + AllocGlobal>(rt: &R, file: &str) -> Result<Tables, Uncompiled> {
-    match configuration_in(rt, file) {
-        Ok(commands) => match Tables::compile(rt.alloc(), commands) {
-            Ok(tables) => Ok(tables),
-            Err(_) => Err(Uncompiled::NoMemory),
-        },
-        Err(fault) => Err(Uncompiled::Config(fault)),
+        Err(why) => trouble_in(rt, new, why),
     }
 }
 
 /// Says on standard error why a file gives no tables.
-fn refuse_tables<R: Eprint>(rt: &R, file: &str, fault: Uncompiled) -> io::Result<ExitCode> {
-    match fault {
+fn trouble_in<R: Eprint>(rt: &R, file: &str, why: Uncompiled) -> io::Result<ExitCode> {
+    match why {
         Uncompiled::Config(ConfigurationFault::Line(fault)) => {
             eprintln!(rt; "gkd: {file}: {fault}")?;
         }

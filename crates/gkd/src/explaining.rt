@@ -1,8 +1,8 @@
 //! `gkd explain`: why digits go where they go, by a configuration and registered endpoints from
 //! files.
 
-use crate::files::{Unread, configuration_in, text_of};
-use crate::saying::{UNWRITTEN, cannot_read, fail, refuse_file};
+use crate::files::{Uncompiled, Unread, tables_in, text_of};
+use crate::saying::{UNWRITTEN, cannot_read, fail, refuse_file, refuse_tables};
 use compiler::Tables;
 use configuration_reader::configuration::ConfigurationFault;
 use explanation::{ExplainFault, write_explanation};
@@ -34,15 +34,13 @@ pub fn explain_file<R: Runtime + AllocGlobal>(
     rt: &R,
     question: &Question<'_>,
 ) -> io::Result<ExitCode> {
-    let commands = match configuration_in(rt, question.file) {
-        Ok(commands) => commands,
-        Err(ConfigurationFault::Line(fault)) => return refuse_file(rt, "configuration", &fault),
-        Err(ConfigurationFault::Read(_)) => return cannot_read(rt, question.file),
-    };
-    let Ok(tables) = Tables::compile(rt.alloc(), commands) else {
-        return fail(rt, "no memory");
-    };
-    explain_under(rt, question, &tables)
+    match tables_in(rt, question.file) {
+        Ok(tables) => explain_under(rt, question, &tables),
+        Err(Uncompiled::Config(ConfigurationFault::Line(fault))) => {
+            refuse_file(rt, "configuration", &fault)
+        }
+        Err(why) => refuse_tables(rt, question.file, why),
+    }
 }
 
 /// The same under these tables.

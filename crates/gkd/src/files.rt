@@ -1,6 +1,7 @@
 //! Files that the program reads.
 
 use command_reader::Commands;
+use compiler::Tables;
 use configuration_reader::check;
 use configuration_reader::configuration::ConfigurationFault;
 use gk_lines::{Noted, ReadFault};
@@ -31,6 +32,26 @@ pub fn configuration_in<R: Runtime + AllocGlobal>(
     };
     let mut reader = Noted::new(opened);
     check::configuration_of(rt.alloc(), &mut reader)
+}
+
+/// Why a file gives no tables.
+#[derive(Clone, Copy, Debug, PartialEq, Eq)]
+pub enum Uncompiled {
+    /// Its configuration is refused, or cannot be read.
+    Config(ConfigurationFault),
+    /// Memory ran out for them.
+    NoMemory,
+}
+
+/// The tables of the configuration in a file.
+pub fn tables_in<R: Runtime + AllocGlobal>(rt: &R, file: &str) -> Result<Tables, Uncompiled> {
+    match configuration_in(rt, file) {
+        Ok(commands) => match Tables::compile(rt.alloc(), commands) {
+            Ok(tables) => Ok(tables),
+            Err(_) => Err(Uncompiled::NoMemory),
+        },
+        Err(fault) => Err(Uncompiled::Config(fault)),
+    }
 }
 
 /// The whole text of a file, if it ends within 4,294,967,295 reads.

@@ -1,6 +1,8 @@
 //! What the program says of a fault, and with which status it ends.
 
+use crate::files::Uncompiled;
 use command_reader::LineFault;
+use configuration_reader::configuration::ConfigurationFault;
 use std::fmt::Display;
 use std::io;
 use std::process::ExitCode;
@@ -20,6 +22,20 @@ pub fn refuse_configuration<R: Print + Eprint>(rt: &R, fault: LineFault) -> io::
         return fail(rt, UNWRITTEN);
     }
     Ok(ExitCode::from(1))
+}
+
+/// Says why a file gives no tables: the first fault of its configuration on standard output, and
+/// anything else on standard error.
+pub fn refuse_tables<R: Print + Eprint>(
+    rt: &R,
+    file: &str,
+    why: Uncompiled,
+) -> io::Result<ExitCode> {
+    match why {
+        Uncompiled::Config(ConfigurationFault::Line(fault)) => refuse_configuration(rt, fault),
+        Uncompiled::Config(ConfigurationFault::Read(_)) => cannot_read(rt, file),
+        Uncompiled::NoMemory => fail(rt, "no memory"),
+    }
 }
 
 /// Says on standard error that a file cannot be read.

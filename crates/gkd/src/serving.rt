@@ -1,12 +1,10 @@
 //! `gkd serve`: sessions over TCP under the configuration in a file.
 
-use crate::files::configuration_in;
-use crate::saying::{UNWRITTEN, cannot_read, fail, refuse_configuration};
-use command_reader::Commands;
+use crate::files::{Uncompiled, tables_in};
+use crate::saying::{UNWRITTEN, fail, refuse_tables};
 use compiler::Tables;
-use configuration_reader::configuration::ConfigurationFault;
 use seat_sessions::{ServeFault, Served, serve_tables};
-use std::alloc::{AllocGlobal, Global};
+use std::alloc::AllocGlobal;
 use std::io;
 use std::net::{Net, TcpListener, TcpStream};
 use std::process::ExitCode;
@@ -25,25 +23,32 @@ pub fn serve_file<
         + Threads
         + Wait,
 >(rt: &R, file: &str, port: u16, seats: u32) -> io::Result<ExitCode> {
-    let commands = match configuration_in(rt, file) {
-        Ok(commands) => commands,
-        Err(ConfigurationFault::Line(fault)) => return refuse_configuration(rt, fault),
-        Err(ConfigurationFault::Read(_)) => return cannot_read(rt, file),
-    };
-    let Some(tables) = shared_tables(rt.alloc(), commands) else {
-        return fail(rt, "no memory");
-    };
-    match serve_tables(rt, rt.alloc(), tables, port, seats) {
-        Ok(served) => print_served(rt, &served),
-        Err(fault) => refuse_server(rt, fault),
+    match shared_tables(rt, file) {
+        Ok(tables) => serve_under(rt, tables, port, seats),
+        Err(why) => refuse_tables(rt, file, why),
     }
 }
 
-/// The tables of a configuration, as a server shares them; none if memory runs out.
-fn shared_tables(alloc: Global, commands: Commands) -> Option<Arc<Tables>> {
-    match Tables::compile(alloc, commands) {
-        Ok(tables) => Arc::new(alloc, tables).ok(),
-        Err(_) => None,
+/// The tables of the configuration in a file, as a server shares them.
+fn shared_tables<R: Runtime + AllocGlobal>(rt: &R, file: &str) -> Result<Arc<Tables>, Uncompiled> {
+    match tables_in(rt, file) {
+        Ok(tables) => Arc::new(rt.alloc(), tables).map_err(|_| Uncompiled::NoMemory),
+        Err(why) => Err(why),
+    }
+}
+
+/// Serves under these tables.
+fn serve_under<
+    R: Runtime
+        + AllocGlobal
+        + Net<Listener = TcpListener, Stream = TcpStream>
+        + Sync
+        + Threads
+        + Wait,
+>(rt: &R, tables: Arc<Tables>, port: u16, seats: u32) -> io::Result<ExitCode> {
+    match serve_tables(rt, rt.alloc(), tables, port, seats) {
+        Ok(served) => print_served(rt, &served),
+        Err(fault) => refuse_server(rt, fault),
     }
 }
 

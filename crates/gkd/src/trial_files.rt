@@ -1,12 +1,11 @@
 //! `gkd trial`: recorded calls and registered endpoints, from files, under a candidate
 //! configuration.
 
-use crate::files::{Unread, configuration_in, text_of};
-use crate::saying::{UNWRITTEN, cannot_read, fail, refuse_configuration, refuse_file};
+use crate::files::{Unread, tables_in, text_of};
+use crate::saying::{UNWRITTEN, cannot_read, fail, refuse_file, refuse_tables};
 use call_files::{WriteRowsFault, read_calls};
 use call_rows::Snapshot;
 use compiler::Tables;
-use configuration_reader::configuration::ConfigurationFault;
 use gk_lines::Noted;
 use gk_protocol::read_endpoints;
 use gk_terms::OpenGate;
@@ -37,15 +36,10 @@ pub fn try_files<R: Runtime + AllocGlobal + Threads + Wait>(
     files: &TrialFiles<'_>,
     workers: u32,
 ) -> io::Result<ExitCode> {
-    let commands = match configuration_in(rt, files.candidate) {
-        Ok(commands) => commands,
-        Err(ConfigurationFault::Line(fault)) => return refuse_configuration(rt, fault),
-        Err(ConfigurationFault::Read(_)) => return cannot_read(rt, files.candidate),
-    };
-    let Ok(tables) = Tables::compile(rt.alloc(), commands) else {
-        return fail(rt, "no memory");
-    };
-    try_under(rt, files, &tables, workers)
+    match tables_in(rt, files.candidate) {
+        Ok(tables) => try_under(rt, files, &tables, workers),
+        Err(why) => refuse_tables(rt, files.candidate, why),
+    }
 }
 
 /// The same under these tables.
