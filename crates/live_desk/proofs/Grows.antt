@@ -22,7 +22,7 @@ use Rattle.admission.specs.Answering.{answered, reply_kept}
 use Rattle.call_rows.specs.Rows.{SnapshotParts}
 use Rattle.decision_record.specs.Rows.{rows_of}
 use Rattle.rulings.specs.State.{State}
-use Rattle.live_desk.specs.Seats.{Asked, IsFound, IsLawful, IsReloadAnswer, IsReloadOf, SeatParts, unreserved, IsPut, IsReceiptOf, IsSnapshotFor, LastStands}
+use Rattle.live_desk.specs.Seats.{Asked, IsFound, IsLawful, IsReloadAnswer, IsReloadOf, SeatParts, unreserved, IsPut, IsReceiptOf, IsSnapshotFor, LastStands, Looks}
 use Rattle.live_desk.specs.Seats as seats
 use Rattle.live_desk.proofs.Counts.{number_within}
 use Rattle.admission.proofs.StepLemmas.{step_reply}
@@ -206,27 +206,48 @@ grown_alike before kept after commands (Err reply) old new is same recorded take
     ∙ taken (ap (λ (c : CoreParts). c.reserved) same)))
 
 -- ---- snapshots
--- a snapshot of a core as it was after a lawful history, for a seat with no more events than that
-pub snapshot_for : {E : Type 0} (opening : State) (seat : SeatParts) (entries : List PlainEntry)
-    (past : CoreParts) (result : Result SnapshotParts E) → IsLawful opening entries
-    → seat.share ≤ length entries → unreserved past ≡ seats.held opening entries
-    → IfOk result (λ snapshot. snapshot ≡ record {
-      rows = rows_of past.opening past.entries;
-      endpoints = (state_of past).endpoints;
-    }) → IfOk result (IsSnapshotFor opening seat)
-unfolding state_of
-snapshot_for opening seat entries past (Ok snapshot) lawful long same is = record {
+-- a seat that looked for its last receipt in what stands under the lock
+pub looked : (opening : State) (before after : SeatParts) (entries : List PlainEntry)
+    → IsLawful opening entries → before.share ≤ length entries
+    → (after.astray ≡ false ↔ IsFound entries before)
+    → after ≡ record before { astray = after.astray } → Looks opening before after
+looked opening before after entries lawful long found same = record {
   history = entries;
   lawful = lawful;
   long = long;
-  shown =
-      is
-      ∙ ap (λ (c : CoreParts). record {
-        rows = rows_of c.opening c.entries;
-        endpoints = (state_of c).endpoints;
-      }) same;
+  found = found;
+  same = same;
 }
-snapshot_for opening seat entries past (Err error) lawful long same is = tt
+
+-- a snapshot of a core as it was after a lawful history, for a seat that looked for its last
+-- receipt there
+pub snapshot_for : {E : Type 0} (opening : State) (before after : SeatParts)
+    (entries : List PlainEntry) (past : CoreParts) (result : Result SnapshotParts E)
+    → IsLawful opening entries → before.share ≤ length entries
+    → (after.astray ≡ false ↔ IsFound entries before)
+    → after ≡ record before { astray = after.astray }
+    → unreserved past ≡ seats.held opening entries
+    → IfOk result (λ snapshot. snapshot ≡ record {
+      rows = rows_of past.opening past.entries;
+      endpoints = (state_of past).endpoints;
+    }) → IfOk result (IsSnapshotFor opening after)
+unfolding state_of
+snapshot_for opening before after entries past (Ok snapshot) lawful long found looks same is =
+    record {
+      history = entries;
+      lawful = lawful;
+      long = subst (λ (n : ℕ). n ≤ length entries)
+          (sym (ap (λ (s : SeatParts). s.share) looks)) long;
+      found = λ kept. subst (LastStands entries) (sym (ap (λ (s : SeatParts). s.last) looks))
+          (found.0 kept).1;
+      shown =
+          is
+          ∙ ap (λ (c : CoreParts). record {
+            rows = rows_of c.opening c.entries;
+            endpoints = (state_of c).endpoints;
+          }) same;
+    }
+snapshot_for opening before after entries past (Err error) lawful long found looks same is = tt
 
 -- ---- under the lock
 is_held : (core : CoreParts) (opening : State) → core.opening ≡ opening → core.reserved ≡ false

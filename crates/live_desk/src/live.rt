@@ -306,7 +306,7 @@ impl<J: Imprint> Live<J> {
     #[tactic(auto, using(crate::proofs::Grows::steps_shown))]
     /// Puts another configuration in force, as `Core::reload`: first a place is kept for its entry,
     /// then the tables are published, and then the core steps, which can't fail any more. It waits
-    /// until no reader is inside the copy that is written. If anything is refused, neither the core
+    /// until no reader is inside a copy that is written. If anything is refused, neither the core
     /// nor what is published has changed.
     pub fn reload<R: Wait>(
         &mut self,

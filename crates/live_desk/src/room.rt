@@ -98,18 +98,18 @@ impl<J: House> Room<J> {
         (self.live.record(), self.live.version())
     }
 
-    /// The core as it is now, for a seat, of which a snapshot is made once the lock was let go.
-    /// `AllocError` if memory runs out.
+    /// The core as it is now, for a seat, of which a snapshot is made once the lock was let go. The
+    /// seat's last receipt is looked for, as before an event. `AllocError` if memory runs out.
     pub fn past(&mut self, seat: &mut Seat<J>) -> Result<PastCore, AllocError>
         ensures past { IfOk result (λ past. unreserved past
             ≡ held (opening_of J.begun J.limits) self.old.entries) }
         ensures lawful { IsLawful (opening_of J.begun J.limits) self.old.entries }
         ensures long { seat.old.share ≤ length self.old.entries }
-        ensures same { (self.new ≡ self.old) × (seat.new ≡ seat.old) }
+        ensures astray { seat.new.astray ≡ false ↔ IsFound self.old.entries seat.old }
+        ensures seat { seat.new ≡ record seat.old { astray = seat.new.astray } }
+        ensures same { self.new ≡ self.old }
     {
-        // So it is known that the record is a lawful history.
-        let _record = self.live.record();
-        self.audit(seat);
+        self.begin(seat);
         self.live.past()
     }
 
@@ -144,7 +144,7 @@ impl<J: House> Room<J> {
         })
     }
 
-    /// Looks for the last receipt of a seat in the record, before one of its events.
+    /// Looks for the last receipt of a seat in the record, before one of its events or a snapshot.
     fn begin(&mut self, seat: &mut Seat<J>)
         ensures same { self.new ≡ self.old }
         ensures astray { seat.new.astray ≡ false ↔ IsFound self.old.entries seat.old }

@@ -6,7 +6,7 @@ ghost use mathlib.Core.List.{IsPrefix};
 ghost use Rattle.rulings.specs.Events.{event_meant, plain, put_in_force, Reloading};
 ghost use Rattle.rulings.specs.State.{opening_of};
 ghost use Rattle.admission.specs.Answering.{answered, receipt_for, reply_kept};
-ghost use Rattle.live_desk.specs.Seats.{all_shares, Asked, IsAstrayIn, IsFound, IsPlanFor, IsPut, IsReceiptOf, IsReloadAnswer, IsReloadOf, IsRouted, IsSnapshotFor};
+ghost use Rattle.live_desk.specs.Seats.{all_shares, Asked, IsAstrayIn, IsFound, IsPlanFor, IsPut, IsReceiptOf, IsReloadAnswer, IsReloadOf, IsRouted, IsSnapshotFor, Looks};
 
 use crate::desk::Desk;
 use crate::house::House;
@@ -317,18 +317,18 @@ impl<J: House> Seat<J> {
         }
     }
 
-    /// The rows and endpoints of what was recorded so far, by whichever seat; the events of this
-    /// seat are no more than that is made of. While the lock is held, the endpoints are copied and
-    /// the entries shared; the rows and the registry are made afterwards. `AllocError` if memory
-    /// runs out.
+    /// The rows and endpoints of what was recorded so far, by whichever seat. Under the lock the
+    /// last receipt is looked for in the record, as for an event, the endpoints are copied and the
+    /// entries shared; the rows and the registry are made afterwards. `AllocError` if memory runs
+    /// out.
     pub fn snapshot<R: Wait>(
         &mut self,
         rt: &R,
         alloc: Global,
         desk: &Desk<J>,
     ) -> Result<Snapshot, AllocError>
-        ensures shown { IfOk result (IsSnapshotFor (opening_of J.begun J.limits) self.old) }
-        ensures same { self.new ≡ self.old }
+        ensures shown { IfOk result (IsSnapshotFor (opening_of J.begun J.limits) self.new) }
+        ensures looks { Looks (opening_of J.begun J.limits) self.old self.new }
     {
         let mut room = desk.room.lock(rt);
         let past = room.past(self);

@@ -122,7 +122,7 @@ impl<J: Imprint> Publisher<J> {
     }
 
     /// Puts these tables in force, and answers their version. It waits until no reader is inside
-    /// the copy that it writes. `NoMemory` if memory is refused, or after 2^61 drafts and
+    /// a copy that it writes. `NoMemory` if memory is refused, or after 2^61 drafts and
     /// confirmations: then the version that was in force stays, no reader sees these tables, and
     /// the next publication has the number that this one would have had. This project's profile.
     pub fn publish<R: Wait>(

@@ -1,24 +1,26 @@
 -- What a seat is answered, as an answer to a request.
-use Rattle.std.proofs.Common.{◌≡◌, ◌+◌, ℕ, List, true, Option, Some, None, Result, Ok, Err, sym, subst, inl, inr, ap, ◌∙◌}
+use Rattle.std.proofs.Common.{◌≡◌, ◌+◌, ℕ, List, true, Option, Some, None, Result, Ok, Err, refl, sym, subst, inl, inr, ap, ◌∙◌}
 use Rattle.std.specs.Prelude.{IfSome, IfNone, MatchResult}
+use Rattle.gk_terms.specs.Text.{lines_of}
 use Rattle.command_reader.specs.Configuration.{Configuration}
 use Rattle.command_reader.specs.Reading.{reading_in}
 use Rattle.rulings.specs.State.{State}
 use Rattle.rulings.specs.Events.{PlainEvent}
 use Rattle.rulings.specs.declared.replies.Reply.{Reply}
 use Rattle.decision_record.specs.declared.entries.Receipt.{Receipt}
-use Rattle.live_desk.specs.Seats.{Asked, SeatParts}
+use Rattle.live_desk.specs.Seats.{Asked, Looks, SeatParts}
 use Rattle.admission.specs.Answering.{answered, receipt_for, reply_in}
 use Rattle.gk_protocol.specs.declared.requests.Request.{Request}
+use Rattle.gk_protocol.specs.declared.requests.Request.TheVariants.{Reload, Try}
 use Rattle.gk_protocol.specs.declared.answers.Answer.{Answer}
 use Rattle.gk_protocol.specs.declared.answers.Answer.TheVariants as answers
 use Rattle.gk_protocol.specs.Hearing.{AnswersInto}
 use Rattle.gk_protocol.specs.Answers.{answer_text_of}
 use Rattle.gk_protocol.specs.Answering.{are_workers}
-use Rattle.gk_protocol.specs.Demands.{asked_event, sequence_of}
+use Rattle.gk_protocol.specs.Demands.{Demand, AnEvent, AReload, ATrial, asked_event, demand_of, sequence_of}
 use Rattle.gk_protocol.proofs.AnswerLemmas.{may_answer}
 use Rattle.gk_protocol.proofs.TrialLemmas.{tried_on, lacking_trial}
-use Rattle.seat_sessions.specs.SeatAnswers.{GoesOn, MayAnswer, MaySay, MayShow, MayTry, RepliesInto, TriesFor}
+use Rattle.seat_sessions.specs.SeatAnswers.{GoesOn, LooksFor, MayAnswer, MayReload, MaySay, MayShow, MayTry, RepliesInto, TriesFor}
 
 -- what a call of a seat says of its share and last receipt
 abbrev pub Counts : SeatParts → Result (Reply × Receipt) Reply → SeatParts → Type 0
@@ -68,6 +70,13 @@ said_kept opening inside old event kept reply number new is same h some none goe
     (subst (λ r. MaySay opening inside event r new) same
     (said_lent opening inside event kept number new h some none goes))
 
+-- whatever is asked, the seat may be the one that was asked
+looks_not : (opening : State) (demand : Demand) (seat : SeatParts)
+    → LooksFor opening demand seat seat
+looks_not opening (AnEvent event) seat = refl
+looks_not opening (AReload lines) seat = refl
+looks_not opening (ATrial workers lines) seat = inl refl
+
 -- a request is answered by the line of the desk's reply to its event
 pub said_into : (opening : State) (old : SeatParts) (request : Request) (sequence : ℕ)
     (event : PlainEvent) (text : List ℕ) (new : SeatParts) → asked_event request ≡ Some event
@@ -75,7 +84,11 @@ pub said_into : (opening : State) (old : SeatParts) (request : Request) (sequenc
     → AnswersInto (MayAnswer opening) old request text new
 said_into opening old request sequence event text new asks same told = (
   answers.Reply (sequence_of request) told.0,
-  may_answer (MaySay opening) (MayShow opening) old new event told.0 told.2 request asks,
+  (
+    old,
+    looks_not opening (demand_of request) old,
+    may_answer (MaySay opening) (MayShow opening) old new event told.0 told.2 request asks,
+  ),
   told.1 ∙ ap (λ n. answer_text_of (answers.Reply n told.0)) same,
 )
 
@@ -92,3 +105,26 @@ tried_for opening seat sequence workers lines configuration enough read answer
 tried_for opening seat sequence workers lines configuration enough read answer (inr lacking) =
     subst (λ a. MayTry opening seat sequence workers lines a) (sym lacking)
     (lacking_trial (MayShow opening) seat sequence workers lines configuration enough read)
+
+-- a seat that looked for its last receipt, for a trial of a configuration
+pub looked_for : (opening : State) (old new : SeatParts) (workers : ℕ) (lines : List (List ℕ))
+    (configuration : Configuration) → are_workers workers ≡ true
+    → reading_in lines ≡ Ok configuration → Looks opening old new
+    → LooksFor opening (ATrial workers lines) old new
+looked_for opening old new workers lines configuration enough read looks =
+    inr ((enough, (configuration, read)), looks)
+
+-- what may be answered to a reload is an answer to the request
+pub reloads : (opening : State) (old : SeatParts) (sequence : ℕ) (lines : List ℕ)
+    (answer : Answer) (new : SeatParts)
+    → MayReload opening old sequence (lines_of lines) answer new
+    → MayAnswer opening old (Reload sequence lines) answer new
+reloads opening old sequence lines answer new may = (old, refl, may)
+
+-- and to a trial
+pub tries : (opening : State) (old : SeatParts) (sequence workers : ℕ) (lines : List ℕ)
+    (answer : Answer) (new : SeatParts)
+    → LooksFor opening (ATrial workers (lines_of lines)) old new
+    → MayTry opening new sequence workers (lines_of lines) answer
+    → MayAnswer opening old (Try sequence workers lines) answer new
+tries opening old sequence workers lines answer new looks may = (new, looks, (may, refl))

@@ -1,20 +1,22 @@
 -- What a session over a seat may be answered: the generic answers, by the replies of a desk to a
--- seat, and by the snapshots of a desk.
+-- seat, and by the snapshots that it has.
 use Rattle.std.specs.Prelude.{◌≡◌, ◌+◌, ◌⊎◌, ℕ, true, List, Some, Ok, Err}
 use mathlib.Core.List.{IsPrefix}
 use Rattle.command_reader.specs.Configuration.{Configuration}
+use Rattle.command_reader.specs.Reading.{reading_in}
 use Rattle.call_rows.specs.Rows.{SnapshotParts}
 use Rattle.rulings.specs.State.{State}
 use Rattle.rulings.specs.Events.{PlainEvent}
 use Rattle.rulings.specs.declared.replies.Reply.{Reply}
 use Rattle.decision_record.specs.declared.entries.Receipt.{Receipt}
-use Rattle.live_desk.specs.Seats.{Asked, IsSnapshotFor, SeatParts}
+use Rattle.live_desk.specs.Seats.{Asked, IsSnapshotFor, Looks, SeatParts}
 use Rattle.gk_protocol.specs.declared.requests.Request.{Request}
 use Rattle.gk_protocol.specs.declared.answers.Answer.{Answer}
 use Rattle.gk_protocol.specs.declared.answers.Answer.TheVariants as answers
 use Rattle.gk_protocol.specs.Answers.{answer_text_of}
 use Rattle.gk_protocol.specs.Requests.{trial_without_memory}
 use Rattle.gk_protocol.specs.Answering as answering
+use Rattle.gk_protocol.specs.Demands.{Demand, AnEvent, AReload, ATrial, demand_of}
 
 -- a seat goes on so: it stays lost if it was, and has seen no less
 abbrev pub GoesOn : SeatParts → SeatParts → Type 0
@@ -40,7 +42,8 @@ MaySay opening old event reply new =
     ⊎ LeavesOut opening old event reply new)
     × GoesOn old new
 
--- a trial is of the rows and endpoints of some lawful history, not shorter than the seat's share
+-- a trial is of the rows and endpoints of some lawful history, not shorter than the seat's share,
+-- in which its last receipt stands unless it is astray
 abbrev pub MayShow : State → SeatParts → SnapshotParts → Type 0
 MayShow opening seat shown = IsSnapshotFor opening seat shown
 
@@ -73,7 +76,23 @@ abbrev pub MayTry : State → SeatParts → ℕ → ℕ → List (List ℕ) → 
 MayTry opening seat sequence workers lines answer =
     answering.MayTry (MayShow opening) seat sequence workers lines answer
 
--- a seat may answer a request so and be the new one after it; a trial leaves it as it was
+-- the lines of a trial are a configuration, and there may be so many workers
+abbrev pub IsTrial : ℕ → List (List ℕ) → Type 0
+IsTrial workers lines =
+    (answering.are_workers workers ≡ true)
+    × ((configuration : Configuration) × (reading_in lines ≡ Ok configuration))
+
+-- the seat by which a request is answered: that which was asked; a trial of a configuration may
+-- have looked for its last receipt first
+abbrev pub LooksFor : State → Demand → SeatParts → SeatParts → Type 0
+LooksFor opening (AnEvent event) old looked = looked ≡ old
+LooksFor opening (AReload lines) old looked = looked ≡ old
+LooksFor opening (ATrial workers lines) old looked =
+    (looked ≡ old) ⊎ (IsTrial workers lines × Looks opening old looked)
+
+-- a seat may answer a request so and be the new one after it; a trial leaves the seat by which it
+-- was answered
 abbrev pub MayAnswer : State → SeatParts → Request → Answer → SeatParts → Type 0
 MayAnswer opening old request answer new =
-    answering.MayAnswer (MaySay opening) (MayShow opening) old request answer new
+    (looked : SeatParts) × LooksFor opening (demand_of request) old looked
+    × answering.MayAnswer (MaySay opening) (MayShow opening) looked request answer new

@@ -6,7 +6,8 @@ ghost use Rattle.gk_terms.specs.Text.{lines_of};
 ghost use Rattle.rulings.specs.Events.{event_meant, put_in_force, Reloading};
 ghost use Rattle.rulings.specs.State.{opening_of};
 ghost use Rattle.gk_protocol.specs.Answering.{are_workers};
-ghost use Rattle.gk_protocol.specs.Demands.{asked_event};
+ghost use Rattle.gk_protocol.specs.Demands.{asked_event, ATrial};
+ghost use Rattle.live_desk.specs.Seats.{Looks};
 ghost use Rattle.seat_sessions.specs.SeatAnswers as Spec;
 
 use admission::{KeptReply, LentEvent, ReplyTaker, reply_in};
@@ -92,8 +93,8 @@ impl<J: House, R: Threads + Wait> Sitting<'_, J, R> {
     }
 
     /// Answers `TRY`: reads the lines, compiles them, and tries the desk's record on them, by so
-    /// many workers. The lock is held while the endpoints are copied and the entries shared, and not
-    /// before or after.
+    /// many workers. The lock is held while the last receipt is looked for, the endpoints are
+    /// copied and the entries shared, and not before or after.
     fn tried(
         &mut self,
         alloc: Global,
@@ -101,9 +102,10 @@ impl<J: House, R: Threads + Wait> Sitting<'_, J, R> {
         workers: u32,
         lines: &mut OwnedLines,
     ) -> Answer
-        ensures tried { Spec.MayTry (opening_of J.begun J.limits) self.old sequence workers
+        ensures tried { Spec.MayTry (opening_of J.begun J.limits) self.new sequence workers
             (lines_of lines.old) result }
-        ensures same { self.new ≡ self.old }
+        ensures looks { Spec.LooksFor (opening_of J.begun J.limits)
+            (ATrial workers (lines_of lines.old)) self.old self.new }
     {
         match trial_tables(alloc, workers, lines) {
             Ok(tables) => self.tried_under(alloc, sequence, workers, &tables),
@@ -114,9 +116,9 @@ impl<J: House, R: Threads + Wait> Sitting<'_, J, R> {
     /// Tries the desk's record under these tables.
     fn tried_under(&mut self, alloc: Global, sequence: u32, workers: u32, tables: &Tables) -> Answer
         requires { are_workers workers ≡ true }
-        ensures tried { Spec.TriesFor (opening_of J.begun J.limits) self.old sequence tables.now
+        ensures tried { Spec.TriesFor (opening_of J.begun J.limits) self.new sequence tables.now
             result }
-        ensures same { self.new ≡ self.old }
+        ensures looks { Looks (opening_of J.begun J.limits) self.old self.new }
     {
         match self.seat.snapshot(self.rt, alloc, self.desk) {
             Ok(snapshot) => { trial_answer(self.rt, alloc, sequence, workers, &snapshot, tables) }
@@ -124,6 +126,7 @@ impl<J: House, R: Threads + Wait> Sitting<'_, J, R> {
         }
     }
 
+    #[tactic(auto, using(crate::proofs::SeatLemmas::reloads, crate::proofs::SeatLemmas::tries))]
     /// Answers a request whose lines say what it asks for.
     fn answer_lines(&mut self, alloc: Global, request: &mut Request) -> Answer
         requires { asked_event request.old ≡ None }
