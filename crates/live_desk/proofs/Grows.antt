@@ -230,23 +230,16 @@ pub snapshot_for : {E : Type 0} (opening : State) (before after : SeatParts)
     → IfOk result (λ snapshot. snapshot ≡ record {
       rows = rows_of past.opening past.entries;
       endpoints = (state_of past).endpoints;
-    }) → IfOk result (IsSnapshotFor opening after)
+    }) → IfOk result (IsSnapshotFor opening before after)
 unfolding state_of
-snapshot_for opening before after entries past (Ok snapshot) lawful long found looks same is =
-    record {
-      history = entries;
-      lawful = lawful;
-      long = subst (λ (n : ℕ). n ≤ length entries)
-          (sym (ap (λ (s : SeatParts). s.share) looks)) long;
-      found = λ kept. subst (LastStands entries) (sym (ap (λ (s : SeatParts). s.last) looks))
-          (found.0 kept).1;
-      shown =
-          is
-          ∙ ap (λ (c : CoreParts). record {
-            rows = rows_of c.opening c.entries;
-            endpoints = (state_of c).endpoints;
-          }) same;
-    }
+snapshot_for opening before after entries past (Ok snapshot) lawful long found looks same is = (
+  record { history = entries; lawful = lawful; long = long; found = found; same = looks },
+  is
+      ∙ ap (λ (c : CoreParts). record {
+        rows = rows_of c.opening c.entries;
+        endpoints = (state_of c).endpoints;
+      }) same,
+)
 snapshot_for opening before after entries past (Err error) lawful long found looks same is = tt
 
 -- ---- under the lock

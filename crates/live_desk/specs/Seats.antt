@@ -113,8 +113,8 @@ snapshot_of opening history = record {
   endpoints = (state_of (held opening history)).endpoints;
 }
 
--- a seat that looked for its last receipt in some lawful history, not shorter than its share: it is
--- astray unless it was found there, and else as it was
+-- a seat that looked for its last receipt in some lawful history, not shorter than its share: it
+-- is astray unless it was found there, and else as it was
 pub record Looks (opening : State) (before after : SeatParts) : Type 0 where
   pub history : List PlainEntry
   pub lawful : IsLawful opening history
@@ -122,15 +122,10 @@ pub record Looks (opening : State) (before after : SeatParts) : Type 0 where
   pub found : after.astray ≡ false ↔ IsFound history before
   pub same : after ≡ record before { astray = after.astray }
 
--- the snapshot is that of some lawful history, not shorter than the seat's share, in which its
--- last receipt stands unless it is astray
-pub record IsSnapshotFor (opening : State) (seat : SeatParts) (snapshot : SnapshotParts)
-    : Type 0 where
-  pub history : List PlainEntry
-  pub lawful : IsLawful opening history
-  pub long : seat.share ≤ length history
-  pub found : seat.astray ≡ false → LastStands history seat.last
-  pub shown : snapshot ≡ snapshot_of opening history
+-- the snapshot is that of the history in which the seat looked for its last receipt
+abbrev pub IsSnapshotFor : State → SeatParts → SeatParts → SnapshotParts → Type 0
+IsSnapshotFor opening before after snapshot =
+    (looks : Looks opening before after) × (snapshot ≡ snapshot_of opening looks.history)
 
 -- ---- reloads
 -- these commands are the generation of the version that is replied

@@ -98,8 +98,9 @@ impl<J: House> Room<J> {
         (self.live.record(), self.live.version())
     }
 
-    /// The core as it is now, for a seat, of which a snapshot is made once the lock was let go. The
-    /// seat's last receipt is looked for, as before an event. `AllocError` if memory runs out.
+    /// The core as it is now, from which a snapshot for a seat is made once the lock is let go. The
+    /// seat's last receipt is looked for first, as before an event, so the seat may be astray
+    /// afterwards, also if memory runs out. `AllocError` if it does.
     pub fn past(&mut self, seat: &mut Seat<J>) -> Result<PastCore, AllocError>
         ensures past { IfOk result (λ past. unreserved past
             ≡ held (opening_of J.begun J.limits) self.old.entries) }

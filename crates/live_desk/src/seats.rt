@@ -87,7 +87,7 @@ impl<J: House> Seat<J> {
     }
 
     /// Whether its last receipt was once not found in the record under the lock. Then it stays so;
-    /// events are answered as before.
+    /// events are answered as before, and snapshots made.
     pub fn astray(&self) -> bool
         ensures { result ≡ self.now.astray }
     {
@@ -318,16 +318,17 @@ impl<J: House> Seat<J> {
     }
 
     /// The rows and endpoints of what was recorded so far, by whichever seat. Under the lock the
-    /// last receipt is looked for in the record, as for an event, the endpoints are copied and the
-    /// entries shared; the rows and the registry are made afterwards. `AllocError` if memory runs
-    /// out.
+    /// last receipt is looked for in the record, as for an event, so the seat may be astray
+    /// afterwards; then the endpoints are copied and the entries shared. The rows and the registry
+    /// are made once the lock is let go. `AllocError` if memory runs out.
     pub fn snapshot<R: Wait>(
         &mut self,
         rt: &R,
         alloc: Global,
         desk: &Desk<J>,
     ) -> Result<Snapshot, AllocError>
-        ensures shown { IfOk result (IsSnapshotFor (opening_of J.begun J.limits) self.new) }
+        ensures shown { IfOk result (IsSnapshotFor (opening_of J.begun J.limits) self.old
+            self.new) }
         ensures looks { Looks (opening_of J.begun J.limits) self.old self.new }
     {
         let mut room = desk.room.lock(rt);

@@ -87,24 +87,25 @@ said_into opening old request sequence event text new asks same told = (
   (
     old,
     looks_not opening (demand_of request) old,
-    may_answer (MaySay opening) (MayShow opening) old new event told.0 told.2 request asks,
+    may_answer (MaySay opening) (MayShow opening old) old new event told.0 told.2 request asks,
   ),
   told.1 ∙ ap (λ n. answer_text_of (answers.Reply n told.0)) same,
 )
 
 -- what is answered to a trial of some lawful history is an answer to the trial
-pub tried_for : (opening : State) (seat : SeatParts) (sequence workers : ℕ)
+pub tried_for : (opening : State) (old looked : SeatParts) (sequence workers : ℕ)
     (lines : List (List ℕ)) (configuration : Configuration) → are_workers workers ≡ true
     → reading_in lines ≡ Ok configuration → (answer : Answer)
-    → TriesFor opening seat sequence configuration answer
-    → MayTry opening seat sequence workers lines answer
-tried_for opening seat sequence workers lines configuration enough read answer
+    → TriesFor opening old looked sequence configuration answer
+    → MayTry opening old looked sequence workers lines answer
+tried_for opening old looked sequence workers lines configuration enough read answer
     (inl (shown, taken, tried)) =
-    tried_on (MayShow opening) seat sequence workers lines configuration enough read shown answer
-    taken tried
-tried_for opening seat sequence workers lines configuration enough read answer (inr lacking) =
-    subst (λ a. MayTry opening seat sequence workers lines a) (sym lacking)
-    (lacking_trial (MayShow opening) seat sequence workers lines configuration enough read)
+    tried_on (MayShow opening old) looked sequence workers lines configuration enough read shown
+    answer taken tried
+tried_for opening old looked sequence workers lines configuration enough read answer
+    (inr lacking) =
+    subst (λ a. MayTry opening old looked sequence workers lines a) (sym lacking)
+    (lacking_trial (MayShow opening old) looked sequence workers lines configuration enough read)
 
 -- a seat that looked for its last receipt, for a trial of a configuration
 pub looked_for : (opening : State) (old new : SeatParts) (workers : ℕ) (lines : List (List ℕ))
@@ -125,6 +126,6 @@ reloads opening old sequence lines answer new may = (old, refl, may)
 pub tries : (opening : State) (old : SeatParts) (sequence workers : ℕ) (lines : List ℕ)
     (answer : Answer) (new : SeatParts)
     → LooksFor opening (ATrial workers (lines_of lines)) old new
-    → MayTry opening new sequence workers (lines_of lines) answer
+    → MayTry opening old new sequence workers (lines_of lines) answer
     → MayAnswer opening old (Try sequence workers lines) answer new
 tries opening old sequence workers lines answer new looks may = (new, looks, (may, refl))

@@ -1,5 +1,5 @@
 -- What a session over a seat may be answered: the generic answers, by the replies of a desk to a
--- seat, and by the snapshots that it has.
+-- seat, and by the snapshots that a seat takes.
 use Rattle.std.specs.Prelude.{◌≡◌, ◌+◌, ◌⊎◌, ℕ, true, List, Some, Ok, Err}
 use mathlib.Core.List.{IsPrefix}
 use Rattle.command_reader.specs.Configuration.{Configuration}
@@ -42,10 +42,10 @@ MaySay opening old event reply new =
     ⊎ LeavesOut opening old event reply new)
     × GoesOn old new
 
--- a trial is of the rows and endpoints of some lawful history, not shorter than the seat's share,
--- in which its last receipt stands unless it is astray
-abbrev pub MayShow : State → SeatParts → SnapshotParts → Type 0
-MayShow opening seat shown = IsSnapshotFor opening seat shown
+-- a trial is of the rows and endpoints of some lawful history, in which the seat looked for its
+-- last receipt
+abbrev pub MayShow : State → SeatParts → SeatParts → SnapshotParts → Type 0
+MayShow opening old looked shown = IsSnapshotFor opening old looked shown
 
 -- the answer is the desk's reply to an event, and repeats the request's sequence number
 abbrev pub Replies : State → SeatParts → ℕ → PlainEvent → Answer → SeatParts → Type 0
@@ -65,16 +65,18 @@ MayReload opening old sequence lines answer new =
     answering.MayReload (MaySay opening) old sequence lines answer new
 
 -- what may be answered to a trial under a configuration
-abbrev pub TriesFor : State → SeatParts → ℕ → Configuration → Answer → Type 0
-TriesFor opening seat sequence configuration answer =
-    ((shown : SnapshotParts) × IsSnapshotFor opening seat shown
+abbrev pub TriesFor
+    : State → SeatParts → SeatParts → ℕ → Configuration → Answer → Type 0
+TriesFor opening old looked sequence configuration answer =
+    ((shown : SnapshotParts) × MayShow opening old looked shown
     × answering.TriesOn sequence shown configuration answer)
     ⊎ (answer ≡ trial_without_memory sequence)
 
 -- what may be answered to a trial
-abbrev pub MayTry : State → SeatParts → ℕ → ℕ → List (List ℕ) → Answer → Type 0
-MayTry opening seat sequence workers lines answer =
-    answering.MayTry (MayShow opening) seat sequence workers lines answer
+abbrev pub MayTry
+    : State → SeatParts → SeatParts → ℕ → ℕ → List (List ℕ) → Answer → Type 0
+MayTry opening old looked sequence workers lines answer =
+    answering.MayTry (MayShow opening old) looked sequence workers lines answer
 
 -- the lines of a trial are a configuration, and there may be so many workers
 abbrev pub IsTrial : ℕ → List (List ℕ) → Type 0
@@ -95,4 +97,4 @@ LooksFor opening (ATrial workers lines) old looked =
 abbrev pub MayAnswer : State → SeatParts → Request → Answer → SeatParts → Type 0
 MayAnswer opening old request answer new =
     (looked : SeatParts) × LooksFor opening (demand_of request) old looked
-    × answering.MayAnswer (MaySay opening) (MayShow opening) looked request answer new
+    × answering.MayAnswer (MaySay opening) (MayShow opening old) looked request answer new

@@ -102,8 +102,8 @@ impl<J: House, R: Threads + Wait> Sitting<'_, J, R> {
         workers: u32,
         lines: &mut OwnedLines,
     ) -> Answer
-        ensures tried { Spec.MayTry (opening_of J.begun J.limits) self.new sequence workers
-            (lines_of lines.old) result }
+        ensures tried { Spec.MayTry (opening_of J.begun J.limits) self.old self.new sequence
+            workers (lines_of lines.old) result }
         ensures looks { Spec.LooksFor (opening_of J.begun J.limits)
             (ATrial workers (lines_of lines.old)) self.old self.new }
     {
@@ -116,8 +116,8 @@ impl<J: House, R: Threads + Wait> Sitting<'_, J, R> {
     /// Tries the desk's record under these tables.
     fn tried_under(&mut self, alloc: Global, sequence: u32, workers: u32, tables: &Tables) -> Answer
         requires { are_workers workers ≡ true }
-        ensures tried { Spec.TriesFor (opening_of J.begun J.limits) self.new sequence tables.now
-            result }
+        ensures tried { Spec.TriesFor (opening_of J.begun J.limits) self.old self.new sequence
+            tables.now result }
         ensures looks { Looks (opening_of J.begun J.limits) self.old self.new }
     {
         match self.seat.snapshot(self.rt, alloc, self.desk) {

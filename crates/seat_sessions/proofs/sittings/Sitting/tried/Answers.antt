@@ -5,7 +5,7 @@ use Rattle.seat_sessions.proofs.sittings.Sitting.tried.Goals as goal
 
 pub returns-in-Ok-clause-tried : goal.returns-in-Ok-clause-tried
 returns-in-Ok-clause-tried g c =
-    tried_for _ c.tried_under.new.self c.args.sequence c.args.workers
+    tried_for _ c.args.self.now c.tried_under.new.self c.args.sequence c.args.workers
     (lines_of c.args.lines.now) _ c.in-Ok.ensures.0 c.in-Ok.ensures.1 _ c.tried_under.ensures.tried
 
 pub returns-in-Ok-clause-looks : goal.returns-in-Ok-clause-looks
