@@ -1,14 +1,15 @@
 -- What a seat is answered, as an answer to a request.
 use Rattle.std.proofs.Common.{◌≡◌, ◌+◌, ℕ, List, true, Option, Some, None, Result, Ok, Err, refl, sym, subst, inl, inr, ap, ◌∙◌}
-use Rattle.std.specs.Prelude.{IfSome, IfNone, MatchResult}
+use Rattle.std.specs.Prelude.{IfOk, IfSome, IfNone, MatchResult}
 use Rattle.gk_terms.specs.Text.{lines_of}
 use Rattle.command_reader.specs.Configuration.{Configuration}
 use Rattle.command_reader.specs.Reading.{reading_in}
+use Rattle.call_rows.specs.Rows.{SnapshotParts}
 use Rattle.rulings.specs.State.{State}
 use Rattle.rulings.specs.Events.{PlainEvent}
 use Rattle.rulings.specs.declared.replies.Reply.{Reply}
 use Rattle.decision_record.specs.declared.entries.Receipt.{Receipt}
-use Rattle.live_desk.specs.Seats.{Asked, Looks, SeatParts}
+use Rattle.live_desk.specs.Seats.{Asked, IsSnapshotFor, Looks, SeatParts}
 use Rattle.admission.specs.Answering.{answered, receipt_for, reply_in}
 use Rattle.gk_protocol.specs.declared.requests.Request.{Request}
 use Rattle.gk_protocol.specs.declared.requests.Request.TheVariants.{Reload, Try}
@@ -16,7 +17,7 @@ use Rattle.gk_protocol.specs.declared.answers.Answer.{Answer}
 use Rattle.gk_protocol.specs.declared.answers.Answer.TheVariants as answers
 use Rattle.gk_protocol.specs.Hearing.{AnswersInto}
 use Rattle.gk_protocol.specs.Answers.{answer_text_of}
-use Rattle.gk_protocol.specs.Answering.{are_workers}
+use Rattle.gk_protocol.specs.Answering.{are_workers, TriesOn}
 use Rattle.gk_protocol.specs.Demands.{Demand, AnEvent, AReload, ATrial, asked_event, demand_of, sequence_of}
 use Rattle.gk_protocol.proofs.AnswerLemmas.{may_answer}
 use Rattle.gk_protocol.proofs.TrialLemmas.{tried_on, lacking_trial}
@@ -107,6 +108,20 @@ tried_for opening old looked sequence workers lines configuration enough read an
     subst (λ a. MayTry opening old looked sequence workers lines a) (sym lacking)
     (lacking_trial (MayShow opening old) looked sequence workers lines configuration enough read)
 
+-- what was answered on a snapshot that a seat took
+pub tries_on : {E : Type 0} (opening : State) (inside old looked : SeatParts) (sequence : ℕ)
+    (configuration : Configuration) (taken : Result SnapshotParts E) (shown : SnapshotParts)
+    (answer : Answer) → inside ≡ old → IfOk taken (IsSnapshotFor opening inside looked)
+    → taken ≡ Ok shown → TriesOn sequence shown configuration answer
+    → TriesFor opening old looked sequence configuration answer
+tries_on opening inside old looked sequence configuration taken shown answer same found is tried =
+    inl (
+      shown,
+      subst (λ (seat : SeatParts). IsSnapshotFor opening seat looked shown) same
+          (subst (λ r. IfOk r (IsSnapshotFor opening inside looked)) is found),
+      tried,
+    )
+
 -- a seat that looked for its last receipt, for a trial of a configuration
 pub looked_for : (opening : State) (old new : SeatParts) (workers : ℕ) (lines : List (List ℕ))
     (configuration : Configuration) → are_workers workers ≡ true
@@ -116,16 +131,18 @@ looked_for opening old new workers lines configuration enough read looks =
     inr ((enough, (configuration, read)), looks)
 
 -- what may be answered to a reload is an answer to the request
-pub reloads : (opening : State) (old : SeatParts) (sequence : ℕ) (lines : List ℕ)
-    (answer : Answer) (new : SeatParts)
+pub reloads : (opening : State) (old : SeatParts) (request : Request) (sequence : ℕ)
+    (lines : List ℕ) (answer : Answer) (new : SeatParts) → request ≡ Reload sequence lines
     → MayReload opening old sequence (lines_of lines) answer new
-    → MayAnswer opening old (Reload sequence lines) answer new
-reloads opening old sequence lines answer new may = (old, refl, may)
+    → MayAnswer opening old request answer new
+reloads opening old request sequence lines answer new is may =
+    subst (λ r. MayAnswer opening old r answer new) (sym is) (old, refl, may)
 
 -- and to a trial
-pub tries : (opening : State) (old : SeatParts) (sequence workers : ℕ) (lines : List ℕ)
-    (answer : Answer) (new : SeatParts)
+pub tries : (opening : State) (old : SeatParts) (request : Request) (sequence workers : ℕ)
+    (lines : List ℕ) (answer : Answer) (new : SeatParts) → request ≡ Try sequence workers lines
     → LooksFor opening (ATrial workers (lines_of lines)) old new
     → MayTry opening old new sequence workers (lines_of lines) answer
-    → MayAnswer opening old (Try sequence workers lines) answer new
-tries opening old sequence workers lines answer new looks may = (new, looks, (may, refl))
+    → MayAnswer opening old request answer new
+tries opening old request sequence workers lines answer new is looks may =
+    subst (λ r. MayAnswer opening old r answer new) (sym is) (new, looks, (may, refl))

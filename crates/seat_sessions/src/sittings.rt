@@ -126,7 +126,6 @@ impl<J: House, R: Threads + Wait> Sitting<'_, J, R> {
         }
     }
 
-    #[tactic(auto, using(crate::proofs::SeatLemmas::reloads, crate::proofs::SeatLemmas::tries))]
     /// Answers a request whose lines say what it asks for.
     fn answer_lines(&mut self, alloc: Global, request: &mut Request) -> Answer
         requires { asked_event request.old ≡ None }
