@@ -1,13 +1,12 @@
 //! `gkd explain`: why digits go where they go, by a configuration and registered endpoints from
 //! files.
 
-use crate::files::{Uncompiled, Unread, tables_in, text_of};
-use crate::saying::{UNWRITTEN, cannot_read, fail, refuse_file, refuse_tables};
+use crate::files::{Uncompiled, endpoints_in, tables_in};
+use crate::saying::{UNWRITTEN, fail, refuse_file, refuse_tables, refuse_unknown};
 use compiler::Tables;
 use configuration_reader::configuration::ConfigurationFault;
 use explanation::{ExplainFault, write_explanation};
 use gk_lines::Noted;
-use gk_protocol::read_endpoints;
 use gk_terms::{Dialled, Name};
 use registry::Registry;
 use std::alloc::AllocGlobal;
@@ -55,24 +54,11 @@ fn explain_under<R: Runtime + AllocGlobal>(
     let Some(file) = question.endpoints else {
         return print_explanation(rt, tables, None, &caller, &question.digits);
     };
-    match text_of(rt, file) {
-        Ok(text) => explain_with(rt, tables, text.as_slice(), &caller, &question.digits),
-        Err(Unread::NoMemory) => fail(rt, "no memory"),
-        Err(Unread::Failed) => cannot_read(rt, file),
-    }
-}
-
-/// The same with the endpoints in this text.
-fn explain_with<R: Runtime + AllocGlobal>(
-    rt: &R,
-    tables: &Tables,
-    text: &[u8],
-    caller: &Name,
-    digits: &Dialled,
-) -> io::Result<ExitCode> {
-    match read_endpoints(rt.alloc(), text, tables) {
-        Ok(endpoints) => print_explanation(rt, tables, Some(&endpoints), caller, digits),
-        Err(fault) => refuse_file(rt, "endpoints", &fault),
+    match endpoints_in(rt, file, tables) {
+        Ok(endpoints) => {
+            print_explanation(rt, tables, Some(&endpoints), &caller, &question.digits)
+        }
+        Err(why) => refuse_unknown(rt, file, "endpoints", &why),
     }
 }
 

@@ -1,10 +1,14 @@
 //! Files that the program reads.
 
+use call_files::{CallsFault, read_calls};
+use call_rows::Snapshot;
 use command_reader::Commands;
 use compiler::Tables;
 use configuration_reader::check;
 use configuration_reader::configuration::ConfigurationFault;
 use gk_lines::{Noted, ReadFault};
+use gk_protocol::{EndpointsFault, read_endpoints};
+use registry::Registry;
 use std::alloc::{AllocGlobal, Global};
 use std::io::Read;
 use std::rt::Runtime;
@@ -54,8 +58,47 @@ pub fn tables_in<R: Runtime + AllocGlobal>(rt: &R, file: &str) -> Result<Tables,
     }
 }
 
+/// Why it is not known what a file says.
+#[derive(Clone, Copy, Debug, PartialEq, Eq)]
+pub enum Unknown<F> {
+    /// It was not read.
+    Unread(Unread),
+    /// It has this fault.
+    Faulty(F),
+}
+
+/// The endpoints in a file, under these tables. Its text is let go.
+pub fn endpoints_in<R: Runtime + AllocGlobal>(
+    rt: &R,
+    file: &str,
+    tables: &Tables,
+) -> Result<Registry, Unknown<EndpointsFault>> {
+    match text_of(rt, file) {
+        Ok(text) => match read_endpoints(rt.alloc(), text.as_slice(), tables) {
+            Ok(endpoints) => Ok(endpoints),
+            Err(fault) => Err(Unknown::Faulty(fault)),
+        },
+        Err(why) => Err(Unknown::Unread(why)),
+    }
+}
+
+/// The calls in a file. Its text, which may be as large as they are, is let go before they are
+/// tried.
+pub fn calls_in<R: Runtime + AllocGlobal>(
+    rt: &R,
+    file: &str,
+) -> Result<Snapshot, Unknown<CallsFault>> {
+    match text_of(rt, file) {
+        Ok(text) => match read_calls(rt.alloc(), text.as_slice()) {
+            Ok(calls) => Ok(calls),
+            Err(fault) => Err(Unknown::Faulty(fault)),
+        },
+        Err(why) => Err(Unknown::Unread(why)),
+    }
+}
+
 /// The whole text of a file, if it ends within 4,294,967,295 reads.
-pub fn text_of<R: Runtime + AllocGlobal>(rt: &R, file: &str) -> Result<Vec<u8>, Unread> {
+fn text_of<R: Runtime + AllocGlobal>(rt: &R, file: &str) -> Result<Vec<u8>, Unread> {
     let Ok(opened) = fs::open(rt, file) else {
         return Err(Unread::Failed);
     };

@@ -1,6 +1,6 @@
 //! What the program says of a fault, and with which status it ends.
 
-use crate::files::Uncompiled;
+use crate::files::{Uncompiled, Unknown, Unread};
 use command_reader::LineFault;
 use configuration_reader::configuration::ConfigurationFault;
 use std::fmt::Display;
@@ -54,4 +54,18 @@ pub fn cannot_write<R: Eprint>(rt: &R, file: &str) -> io::Result<ExitCode> {
 pub fn refuse_file<R: Eprint, F: Display>(rt: &R, what: &str, fault: &F) -> io::Result<ExitCode> {
     eprintln!(rt; "gkd: {what} {fault}")?;
     Ok(ExitCode::from(1))
+}
+
+/// Says on standard error why it is not known what a file says.
+pub fn refuse_unknown<R: Eprint, F: Display>(
+    rt: &R,
+    file: &str,
+    what: &str,
+    why: &Unknown<F>,
+) -> io::Result<ExitCode> {
+    match why {
+        Unknown::Unread(Unread::Failed) => cannot_read(rt, file),
+        Unknown::Unread(Unread::NoMemory) => fail(rt, "no memory"),
+        Unknown::Faulty(fault) => refuse_file(rt, what, fault),
+    }
 }

@@ -1,13 +1,12 @@
 //! `gkd trial`: recorded calls and registered endpoints, from files, under a candidate
 //! configuration.
 
-use crate::files::{Unread, tables_in, text_of};
-use crate::saying::{UNWRITTEN, cannot_read, fail, refuse_file, refuse_tables};
-use call_files::{WriteRowsFault, read_calls};
+use crate::files::{calls_in, endpoints_in, tables_in};
+use crate::saying::{UNWRITTEN, fail, refuse_tables, refuse_unknown};
+use call_files::WriteRowsFault;
 use call_rows::Snapshot;
 use compiler::Tables;
 use gk_lines::Noted;
-use gk_protocol::read_endpoints;
 use gk_terms::OpenGate;
 use registry::Registry;
 use std::alloc::AllocGlobal;
@@ -49,23 +48,9 @@ fn try_under<R: Runtime + AllocGlobal + Threads + Wait>(
     tables: &Tables,
     workers: u32,
 ) -> io::Result<ExitCode> {
-    match text_of(rt, files.endpoints) {
-        Ok(text) => try_with(rt, files.calls, tables, text.as_slice(), workers),
-        Err(why) => refuse_unread(rt, files.endpoints, why),
-    }
-}
-
-/// The same with the endpoints in this text.
-fn try_with<R: Runtime + AllocGlobal + Threads + Wait>(
-    rt: &R,
-    file: &str,
-    tables: &Tables,
-    text: &[u8],
-    workers: u32,
-) -> io::Result<ExitCode> {
-    match read_endpoints(rt.alloc(), text, tables) {
-        Ok(endpoints) => try_calls(rt, file, tables, endpoints, workers),
-        Err(fault) => refuse_file(rt, "endpoints", &fault),
+    match endpoints_in(rt, files.endpoints, tables) {
+        Ok(endpoints) => try_calls(rt, files.calls, tables, endpoints, workers),
+        Err(why) => refuse_unknown(rt, files.endpoints, "endpoints", &why),
     }
 }
 
@@ -77,23 +62,9 @@ fn try_calls<R: Runtime + AllocGlobal + Threads + Wait>(
     endpoints: Registry,
     workers: u32,
 ) -> io::Result<ExitCode> {
-    match text_of(rt, file) {
-        Ok(text) => try_rows(rt, text.as_slice(), tables, endpoints, workers),
-        Err(why) => refuse_unread(rt, file, why),
-    }
-}
-
-/// The same of the calls in this text.
-fn try_rows<R: Runtime + AllocGlobal + Threads + Wait>(
-    rt: &R,
-    text: &[u8],
-    tables: &Tables,
-    endpoints: Registry,
-    workers: u32,
-) -> io::Result<ExitCode> {
-    match read_calls(rt.alloc(), text) {
+    match calls_in(rt, file) {
         Ok(calls) => report(rt, &calls.with_endpoints(endpoints), tables, workers),
-        Err(fault) => refuse_file(rt, "calls", &fault),
+        Err(why) => refuse_unknown(rt, file, "calls", &why),
     }
 }
 
@@ -119,13 +90,5 @@ fn print_report<R: Runtime + AllocGlobal>(rt: &R, report: &Report) -> io::Result
         Ok(()) => Ok(ExitCode::SUCCESS),
         Err(WriteRowsFault::WriteFault) => fail(rt, UNWRITTEN),
         Err(WriteRowsFault::NoMemory) => fail(rt, "no memory"),
-    }
-}
-
-/// Says why a file was not read.
-fn refuse_unread<R: Runtime>(rt: &R, file: &str, why: Unread) -> io::Result<ExitCode> {
-    match why {
-        Unread::NoMemory => fail(rt, "no memory"),
-        Unread::Failed => cannot_read(rt, file),
     }
 }
