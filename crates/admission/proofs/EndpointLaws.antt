@@ -4,8 +4,8 @@ use Rattle.std.specs.Prelude.{flat_map}
 use Rattle.std.specs.List.{All, position_or_len}
 use Rattle.std.proofs.lemmas.List.Elements.{All-nil, All-cons, All-head, All-tail, All-append, All-take, All-drop, All-filter, filter_passes}
 use Rattle.std.proofs.lemmas.Option.{none-some}
-use Rattle.command_reader.specs.declared.commands.Command.{Command}
-use Rattle.command_reader.specs.Zones.{is_local}
+use Rattle.gk_commands.specs.declared.commands.Command.{Command}
+use Rattle.gk_commands.specs.Zones.{is_local}
 use Rattle.compiler.specs.Zones.{zone_meant}
 use Rattle.registry.specs.Endpoint.{EndpointParts}
 use Rattle.registry.specs.Learned.{prefixes_given}

@@ -5,8 +5,8 @@ use Rattle.rulings.specs.Founded.{IsUnder}
 use Rattle.std.proofs.lemmas.List.{length_push}
 use Rattle.std.specs.Prelude.{IfSome}
 use Rattle.std.specs.List.{AllByRecursion}
-use Rattle.command_reader.specs.Accepted.{IsAccepted}
-use Rattle.command_reader.specs.declared.commands.Command.{Command}
+use Rattle.gk_commands.specs.Accepted.{IsAccepted}
+use Rattle.gk_commands.specs.declared.commands.Command.{Command}
 use Rattle.rulings.specs.Events.{PlainEvent, Reloading, put_in_force}
 use Rattle.rulings.specs.Ruling.{reload_ruling, ruling_of, verdict_of}
 use Rattle.rulings.specs.declared.replies.Reply.TheVariants.{ReloadRefused}

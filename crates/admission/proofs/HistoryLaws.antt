@@ -6,7 +6,7 @@ use Rattle.std.specs.Prelude.{IsSome}
 use Rattle.std.proofs.lemmas.Bool.{leb-false}
 use Rattle.std.proofs.lemmas.List.{length-take-le}
 use Rattle.std.proofs.lemmas.List.Sums.{prefix_len-le-length, length-filter, count_by-le-length}
-use Rattle.command_reader.specs.declared.commands.Command.{Command}
+use Rattle.gk_commands.specs.declared.commands.Command.{Command}
 use Rattle.compiler.specs.Last.{last_in}
 use Rattle.rulings.specs.declared.replies.AdmitRefusal.TheVariants.{NoRoute}
 use Rattle.rulings.specs.declared.replies.Reply.{Reply}
@@ -16,7 +16,7 @@ use Rattle.rulings.specs.declared.rulings.Effect.TheVariants.{Nothing, Put, Remo
 use Rattle.registry.specs.Endpoint.{EndpointParts}
 use Rattle.rulings.specs.State.{State, opening_of, free_places}
 use Rattle.registry.specs.Registration.{has_id, is_registered, with_endpoint, without_endpoint, kept_zones}
-use Rattle.command_reader.specs.Zones.{is_local}
+use Rattle.gk_commands.specs.Zones.{is_local}
 use Rattle.rulings.specs.declared.limits.Limits.{Limits}
 use Rattle.rulings.specs.Events.{PlainEvent, Admitting, endpoint_asking, put_in_force}
 use Rattle.rulings.specs.Ruling.{ruling_of, verdict_of}

@@ -10,7 +10,7 @@ use Rattle.bandwidth.proofs.CallLemmas.{Ascend, in_order}
 use Rattle.rulings.specs.declared.rulings.Effect.{Effect}
 use Rattle.rulings.specs.declared.rulings.Effect.TheVariants.{Nothing, Put, Remove, Open, Resize, Close, PutInForce}
 use Rattle.rulings.specs.State.{State}
-use Rattle.command_reader.specs.declared.commands.Command.{Command}
+use Rattle.gk_commands.specs.declared.commands.Command.{Command}
 use Rattle.rulings.specs.Events.{PlainEvent, endpoint_asking, put_in_force}
 use Rattle.rulings.specs.Ruling.{ruling_of}
 use Rattle.rulings.specs.Step.{with_registered, with_commands, with_effect, state_after, step}

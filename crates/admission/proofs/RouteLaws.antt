@@ -3,13 +3,13 @@ use Rattle.std.proofs.Common.{◌≡◌, ◌≢◌, ℕ, ◌+◌, Bool, true, fa
 use Rattle.std.specs.List.{All, list_any}
 use Rattle.std.proofs.lemmas.List.Elements.{All-nil, All-cons}
 use Rattle.std.proofs.lemmas.Option.{none-some}
-use Rattle.command_reader.specs.declared.faults.LineFault.{LineFault}
-use Rattle.command_reader.specs.declared.commands.Command.{Command}
-use Rattle.command_reader.specs.Zones.{is_declared, named_by, first_local_of}
-use Rattle.command_reader.specs.Configuration.{Configuration}
-use Rattle.command_reader.specs.Progress.{NumberedCommand, Progress, commands_in, line_count}
-use Rattle.command_reader.specs.Reading.{names_unknown, unknown_zone, zones_checked, finished, finished_of, fault_at, lines_after, nothing_read, reading_in}
-use Rattle.command_reader.specs.declared.faults.FaultKind.TheVariants.{NoLocalZone}
+use Rattle.gk_commands.specs.declared.faults.LineFault.{LineFault}
+use Rattle.gk_commands.specs.declared.commands.Command.{Command}
+use Rattle.gk_commands.specs.Zones.{is_declared, named_by, first_local_of}
+use Rattle.gk_commands.specs.Configuration.{Configuration}
+use Rattle.gk_commands.specs.Progress.{NumberedCommand, Progress, commands_in, line_count}
+use Rattle.gk_commands.specs.Reading.{names_unknown, unknown_zone, zones_checked, finished, finished_of, fault_at, lines_after, nothing_read, reading_in}
+use Rattle.gk_commands.specs.declared.faults.FaultKind.TheVariants.{NoLocalZone}
 use Rattle.registry.specs.Endpoint.{EndpointParts}
 use Rattle.registry.specs.Registration.{endpoint_of}
 use Rattle.registry.specs.Learned.{learned_prefixes}

@@ -13,11 +13,11 @@ use Rattle.digit_patterns.specs.PatternParts.{PatternParts}
 use Rattle.digit_patterns.specs.Pattern.{matches, Matches, same_pattern}
 use Rattle.digit_patterns.specs.Table.{best_of}
 use Rattle.digit_patterns.proofs.RankLaws.{best_of-none, best_of-IsBest}
-use Rattle.command_reader.specs.declared.commands.Command.{Command}
-use Rattle.command_reader.specs.declared.commands.Command.TheVariants.{ZoneLocal, ZoneRemote, ZonePrefix, GwTypePrefix, RejectUnknownPrefix, BandwidthDefault, BandwidthZone, BandwidthRemote}
-use Rattle.command_reader.specs.declared.zones.ZoneKind.{ZoneKind}
-use Rattle.command_reader.specs.declared.zones.ZoneKind.TheVariants as kinds
-use Rattle.command_reader.specs.Zones.{zone_of, zones_of, is_declared, named_by}
+use Rattle.gk_commands.specs.declared.commands.Command.{Command}
+use Rattle.gk_commands.specs.declared.commands.Command.TheVariants.{ZoneLocal, ZoneRemote, ZonePrefix, GwTypePrefix, RejectUnknownPrefix, BandwidthDefault, BandwidthZone, BandwidthRemote}
+use Rattle.gk_commands.specs.declared.zones.ZoneKind.{ZoneKind}
+use Rattle.gk_commands.specs.declared.zones.ZoneKind.TheVariants as kinds
+use Rattle.gk_commands.specs.Zones.{zone_of, zones_of, is_declared, named_by}
 use Rattle.compiler.specs.Pick.{picked, is_picked_before, IsPicked}
 use Rattle.compiler.specs.Technology.{prefixes_of, begins_with, is_longer, longest_beginning, technology_among, hopoffs_in, hopoffs_of}
 use Rattle.compiler.specs.Rows.{ZoneRow, row_of, rows_of, zone_for, zones_for, row_of_pattern, row_for}

@@ -4,12 +4,12 @@ use Rattle.std.specs.Prelude.{Result, Ok, Err, IfOk, IfErr, IfSome, MatchResult}
 use Rattle.std.proofs.lemmas.Option.{same_Some}
 use Rattle.std.specs.List.{AllByRecursion, cons_option, filter_map}
 use Rattle.gk_terms.specs.Text.{lines_of}
-use Rattle.command_reader.specs.Accepted.{IsAccepted}
-use Rattle.command_reader.specs.Printing.{text_of}
-use Rattle.command_reader.specs.Reading.{reading_of}
+use Rattle.gk_commands.specs.Accepted.{IsAccepted}
+use Rattle.gk_commands.specs.Printing.{text_of}
+use Rattle.gk_commands.specs.Reading.{reading_of}
 use Rattle.command_reader.proofs.read_back.File.{file_back}
 use Rattle.admission.specs.HistoryLaws.{AreAccepted}
-use Rattle.command_reader.specs.declared.commands.Command.{Command}
+use Rattle.gk_commands.specs.declared.commands.Command.{Command}
 use Rattle.rulings.specs.State.{State}
 use Rattle.rulings.specs.declared.rulings.Effect.TheVariants.{PutInForce}
 use Rattle.rulings.specs.declared.replies.ReloadRefusal.{ReloadRefusal}

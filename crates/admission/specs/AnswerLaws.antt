@@ -3,7 +3,7 @@
 -- nothing. Who is not registered is refused exactly for that, and so is who answers a call that was
 -- not admitted to it.
 use Rattle.std.specs.Prelude.{◌≡◌, ◌↔◌, ℕ, true, List, [], ◌∷◌, ◌++◌, Some, None}
-use Rattle.command_reader.specs.declared.commands.Command.{Command}
+use Rattle.gk_commands.specs.declared.commands.Command.{Command}
 use Rattle.registry.specs.Endpoint.{EndpointParts}
 use Rattle.registry.specs.Registration.{endpoint_of, is_registered}
 use Rattle.bandwidth.specs.declared.open_call.OpenCall.{OpenCall}

@@ -1,7 +1,7 @@
 -- What every core keeps. A reader of the contracts need not know it.
 use Rattle.std.specs.Prelude.{◌≡◌, ◌≤◌, ℕ, ◌+◌, Bool, List, length, if◌then◌else◌}
 use Rattle.std.specs.List.{AllByRecursion}
-use Rattle.command_reader.specs.Accepted.{IsAccepted}
+use Rattle.gk_commands.specs.Accepted.{IsAccepted}
 use Rattle.bandwidth.specs.declared.open_call.OpenCall.{OpenCall}
 use Rattle.rulings.specs.State.{State}
 use Rattle.decision_record.specs.Drafts.{DraftParts}

@@ -3,10 +3,10 @@
 -- it never passes the limits of the run.
 use Rattle.std.specs.Prelude.{◌≡◌, ◌≤◌, ◌<◌, ℕ, ◌+◌, IsTrue, List, [], ◌∷◌, ◌++◌, length, flat_map, Option, Some, None, Ok}
 use Rattle.std.specs.List.{All, AllByRecursion}
-use Rattle.command_reader.specs.declared.commands.Command.{Command}
-use Rattle.command_reader.specs.Configuration.{Configuration}
-use Rattle.command_reader.specs.Reading.{reading_in}
-use Rattle.command_reader.specs.Zones.{is_local}
+use Rattle.gk_commands.specs.declared.commands.Command.{Command}
+use Rattle.gk_commands.specs.Configuration.{Configuration}
+use Rattle.gk_commands.specs.Reading.{reading_in}
+use Rattle.gk_commands.specs.Zones.{is_local}
 use Rattle.compiler.specs.Last.{last_in}
 use Rattle.registry.specs.Endpoint.{EndpointParts}
 use Rattle.registry.specs.Learned.{learned_prefixes, prefixes_given}

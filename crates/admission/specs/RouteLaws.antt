@@ -5,11 +5,11 @@ use Rattle.std.specs.List.{All, Contains}
 use Rattle.gk_terms.specs.Address.{AddressParts}
 use Rattle.digit_patterns.specs.Pattern.{Matches}
 use Rattle.digit_patterns.specs.Table.{IsBest}
-use Rattle.command_reader.specs.declared.commands.Command.{Command}
-use Rattle.command_reader.specs.declared.zones.ZoneKind.TheVariants.{Local, Remote}
-use Rattle.command_reader.specs.Configuration.{Configuration}
-use Rattle.command_reader.specs.Zones.{zone_of}
-use Rattle.command_reader.specs.Reading.{reading_in}
+use Rattle.gk_commands.specs.declared.commands.Command.{Command}
+use Rattle.gk_commands.specs.declared.zones.ZoneKind.TheVariants.{Local, Remote}
+use Rattle.gk_commands.specs.Configuration.{Configuration}
+use Rattle.gk_commands.specs.Zones.{zone_of}
+use Rattle.gk_commands.specs.Reading.{reading_in}
 use Rattle.compiler.specs.Pick.{IsPicked}
 use Rattle.compiler.specs.Technology.{prefixes_of, begins_with, hopoffs_of, default_technology_of}
 use Rattle.compiler.specs.Rows.{ZoneRow, rows_of, zones_for}

@@ -1,6 +1,6 @@
 -- What every record says of its rows, whatever was asked.
 use Rattle.std.specs.Prelude.{◌≡◌, ℕ, ◌-◌, true, List, take, Some, None}
-use Rattle.command_reader.specs.declared.commands.Command.{Command}
+use Rattle.gk_commands.specs.declared.commands.Command.{Command}
 use Rattle.call_rows.specs.Rows.{RowParts}
 use Rattle.call_rows.specs.Pushing.{push_fault}
 use Rattle.rulings.specs.declared.limits.Limits.{Limits}

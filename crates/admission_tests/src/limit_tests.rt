@@ -7,7 +7,7 @@ use admission::{
     Route,
 };
 use bandwidth::Over;
-use command_reader::LimitKind;
+use gk_commands::LimitKind;
 use gk_terms::Units;
 use std::alloc::Global;
 use std::process::Abort;

@@ -1,8 +1,8 @@
 -- What fits stays within: after a call that fits is opened, or raised, no sum in which it counts is
 -- above its limit.
 use Rattle.std.specs.Prelude.{◌≡◌, ◌≤◌, ◌<◌, ◌+◌, ℕ, true, false, List, Some, None}
-use Rattle.command_reader.specs.declared.commands.Command.{Command}
-use Rattle.command_reader.specs.declared.commands.LimitKind.TheVariants.{Session, Total, Interzone}
+use Rattle.gk_commands.specs.declared.commands.Command.{Command}
+use Rattle.gk_commands.specs.declared.commands.LimitKind.TheVariants.{Session, Total, Interzone}
 use Rattle.compiler.specs.Limit.{limit_of, remote_limit_of}
 use Rattle.bandwidth.specs.declared.open_call.OpenCall.{OpenCall}
 use Rattle.bandwidth.specs.declared.over.Over.{Over}

@@ -4,7 +4,7 @@
 ghost use Rattle.std.specs.Prelude.{◌≡◌, ◌<◌, ◌+◌, ◌^◌, None, false, option_map, if◌then◌else◌};
 ghost use Rattle.std.specs.Option.{option_copied};
 ghost use Rattle.std.specs.Result.{result_err};
-ghost use Rattle.command_reader.specs.declared.commands.LimitKind.TheVariants.{Interzone};
+ghost use Rattle.gk_commands.specs.declared.commands.LimitKind.TheVariants.{Interzone};
 ghost use Rattle.bandwidth.specs.declared.over.Over.TheVariants as overs;
 ghost use Rattle.bandwidth.specs.Calls.{call_of, is_open, without_call};
 ghost use Rattle.bandwidth.specs.Fits.{is_no_raise, over_of, tries_of};
@@ -15,8 +15,8 @@ use crate::open_call::OpenCall;
 use crate::open_calls::OpenCalls;
 use crate::over::Over;
 use crate::tried_zones::{TriedZones, is_above};
-use command_reader::LimitKind;
 use compiler::Tables;
+use gk_commands::LimitKind;
 use gk_terms::Name;
 
 impl OpenCalls {

@@ -2,7 +2,7 @@
 
 ghost use Rattle.std.specs.Prelude.{◌≡◌};
 
-use command_reader::LimitKind;
+use gk_commands::LimitKind;
 use gk_terms::Name;
 
 /// The first sum that would be above its limit, if a call got the bandwidth that it asks for.

@@ -2,7 +2,7 @@
 
 ghost use Rattle.std.specs.Prelude.{◌≡◌, ◌&&◌, option_map, if◌then◌else◌};
 ghost use Rattle.std.specs.Option.{option_copied};
-ghost use Rattle.command_reader.specs.declared.commands.LimitKind.TheVariants.{Total, Interzone};
+ghost use Rattle.gk_commands.specs.declared.commands.LimitKind.TheVariants.{Total, Interzone};
 ghost use Rattle.bandwidth.specs.declared.over.Over.TheVariants as overs;
 ghost use Rattle.bandwidth.specs.Calls.{call_of, without_call};
 ghost use Rattle.bandwidth.specs.Fits.{is_above};
@@ -11,8 +11,8 @@ ghost use Rattle.bandwidth.specs.Use.{is_interzone, touches};
 
 use crate::open_call::OpenCall;
 use crate::open_calls::OpenCalls;
-use command_reader::LimitKind;
 use compiler::Tables;
+use gk_commands::LimitKind;
 use gk_terms::Name;
 
 /// A zone, and which of its sums would be above their limits.

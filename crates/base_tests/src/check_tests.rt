@@ -1,7 +1,7 @@
 //! Configurations that are checked, over readers and writers that move a byte a call, or fail.
 
-use command_reader::{FaultKind, LineFault};
 use configuration_reader::check::{CheckFault, check};
+use gk_commands::{FaultKind, LineFault};
 use gk_lines::fakes::Piecewise;
 use gk_lines::{Noted, ReadFault};
 use std::alloc::Global;

@@ -1,6 +1,7 @@
 //! The lines that are kept of commands, and the one fault that no script brings about.
 
-use command_reader::{CommandLines, Commands, Draft, FaultKind, LineFault, read};
+use command_reader::{Draft, read, read_again};
+use gk_commands::{CommandLines, Commands, FaultKind, LineFault};
 use std::alloc::Global;
 use std::test::Fail;
 
@@ -21,9 +22,9 @@ fn lines_of(commands: Commands) -> Result<CommandLines, Fail> {
 }
 
 /// The commands of that text, as its lines say them that were kept.
-fn read_again(alloc: Global) -> Result<Commands, Fail> {
+fn said_again(alloc: Global) -> Result<Commands, Fail> {
     let lines = lines_of(read(alloc, TEXT)?)?;
-    Ok(lines.commands(alloc)?)
+    Ok(read_again(alloc, &lines)?)
 }
 
 /// Whether these are 12 commands beside 5 lines that were passed over, and those the same beside
@@ -36,7 +37,7 @@ fn are_the_twelve(given: &Commands, again: &Commands) -> bool {
 #[test]
 fn reads_kept_lines_again(rt: HostRuntime) -> Result<(), Fail> {
     let given = read(rt.alloc(), TEXT)?;
-    assert!(rt; are_the_twelve(&given, &read_again(rt.alloc())?));
+    assert!(rt; are_the_twelve(&given, &said_again(rt.alloc())?));
     Ok(())
 }
 

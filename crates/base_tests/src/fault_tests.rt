@@ -1,7 +1,7 @@
 //! The texts of the faults of a configuration that is read.
 
-use command_reader::{FaultKind, LineFault};
 use configuration_reader::configuration::ConfigurationFault;
+use gk_commands::{FaultKind, LineFault};
 use gk_lines::ReadFault;
 use std::alloc::Global;
 

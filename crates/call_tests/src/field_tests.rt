@@ -1,12 +1,12 @@
 //! Fields of an entry: the bytes that each takes, and what is read of these and of others.
 
 use bandwidth::Over;
-use command_reader::LimitKind;
 use entry_bytes::{add_change_refusal, read_change_refusal, size_of_change_refusal};
 use field_bytes::{
     Fields, NUMBER_BYTES, add_address, add_dialled, add_name, add_number, size_of_address,
     size_of_dialled, size_of_name,
 };
+use gk_commands::LimitKind;
 use gk_terms::{Address, Dialled, Name, Units};
 use rulings::ChangeRefusal;
 use std::alloc::{AllocError, Global};

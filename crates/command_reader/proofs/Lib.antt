@@ -1,6 +1,5 @@
 pub mod CanonicalLemmas
 pub mod PrintingLemmas
-pub mod WholeLinesLemmas
 pub mod accepted
 pub mod one_by_one
 pub mod read_back

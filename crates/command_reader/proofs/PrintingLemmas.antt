@@ -8,8 +8,8 @@ use Rattle.std.proofs.lemmas.List.Concat.{flat_map-append}
 use Rattle.gk_terms.specs.Text.{line_text}
 use Rattle.gk_lines.specs.Streams.{AppendsFront}
 use Rattle.gk_lines.proofs.StreamLemmas.{appends_more}
-use Rattle.command_reader.specs.declared.commands.Command.{Command}
-use Rattle.command_reader.specs.Printing.{command_words, text_of}
+use Rattle.gk_commands.specs.declared.commands.Command.{Command}
+use Rattle.gk_commands.specs.Printing.{command_words, text_of}
 
 -- the canonical line of a command, with its line feed
 abbrev pub line_of_command : Command → List ℕ

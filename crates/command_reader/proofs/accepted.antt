@@ -1,3 +1,2 @@
-pub mod AcceptedLemmas
 pub mod LocalZones
 pub mod WellFormedLemmas

@@ -2,11 +2,11 @@
 use Rattle.std.specs.Prelude.{◌≡◌, ◌⊎◌, ℕ, List, ◌∷◌, length, Option, Some, None, bytes_eq, option_and_then, option_map, MatchOption}
 use Rattle.std.specs.List.{list_any}
 use Rattle.std.specs.List.Sorted.{IsPermutation}
-use Rattle.command_reader.specs.declared.commands.Command.{Command}
-use Rattle.command_reader.specs.declared.faults.FaultKind.{FaultKind}
-use Rattle.command_reader.specs.declared.faults.FaultKind.TheVariants.{NoMemory}
-use Rattle.command_reader.specs.Zones.{zones_of, declared_by, is_declared}
-use Rattle.command_reader.specs.Reading.{fault_of_name}
+use Rattle.gk_commands.specs.declared.commands.Command.{Command}
+use Rattle.gk_commands.specs.declared.faults.FaultKind.{FaultKind}
+use Rattle.gk_commands.specs.declared.faults.FaultKind.TheVariants.{NoMemory}
+use Rattle.gk_commands.specs.Zones.{zones_of, declared_by, is_declared}
+use Rattle.gk_commands.specs.Reading.{fault_of_name}
 
 -- the names are those of the zones that the commands declare, each once
 pub record AreDeclared (names : List (List ℕ)) (commands : List Command) : Type 0 where

@@ -1,8 +1,8 @@
 -- What is kept of the lines of a configuration, as one more is read.
 use Rattle.std.specs.Prelude.{◌≡◌, ◌⊎◌, [], ◌∷◌, ◌++◌, Option, Some, None, Result, Ok, Err, MatchResult}
 use Rattle.std.specs.HashSet.{keys}
-use Rattle.command_reader.specs.declared.faults.FaultKind.{FaultKind}
-use Rattle.command_reader.specs.declared.commands.Command.{Command}
+use Rattle.gk_commands.specs.declared.faults.FaultKind.{FaultKind}
+use Rattle.gk_commands.specs.declared.commands.Command.{Command}
 use Rattle.command_reader.specs.declared.kept.Kept.{Kept}
 use Rattle.command_reader.specs.Index.{AddsDeclared, MayRefuseCommand, fault_by_names}
 

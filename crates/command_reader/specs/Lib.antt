@@ -1,16 +1,4 @@
-pub mod Accepted
-pub mod BandwidthLine
-pub mod Configuration
-pub mod Fields
 pub mod Index
 pub mod Kept
-pub mod Line
 pub mod Memory
 pub mod Options
-pub mod Printing
-pub mod Progress
-pub mod Reading
-pub mod TechnologyLine
-pub mod WholeLines
-pub mod ZoneLine
-pub mod Zones

@@ -5,14 +5,14 @@ use Rattle.std.specs.Prelude.{◌≡◌, ◌||◌, ℕ, Bool, true, false, List,
 use Rattle.std.specs.Option.{ok_or}
 use Rattle.gk_terms.specs.Name.{name_of}
 use Rattle.gk_terms.specs.Fields.{◌>>=◌}
-use Rattle.command_reader.specs.declared.faults.FaultKind.{FaultKind}
-use Rattle.command_reader.specs.declared.faults.FaultKind.TheVariants.{Unsupported, Extra, BadName}
+use Rattle.gk_commands.specs.declared.faults.FaultKind.{FaultKind}
+use Rattle.gk_commands.specs.declared.faults.FaultKind.TheVariants.{Unsupported, Extra, BadName}
 use Rattle.command_reader.specs.declared.technology_lines.TechnologyOption.{TechnologyOption}
 use Rattle.command_reader.specs.declared.technology_lines.TechnologyOption.TheVariants.{Hopoff, HopoffName, Hunt, DefaultTechnology}
 use Rattle.command_reader.specs.declared.technology_lines.Expected.{Expected}
 use Rattle.command_reader.specs.declared.technology_lines.Expected.TheVariants.{AnOption, AName, OptionOrName}
 use Rattle.command_reader.specs.declared.technology_lines.OpenOptions.{OpenOptions}
-use Rattle.command_reader.specs.TechnologyLine.{TechnologyOptions, by_option_word}
+use Rattle.gk_commands.specs.TechnologyLine.{TechnologyOptions, by_option_word}
 use Rattle.command_reader.specs.Memory.{HoldsNames}
 
 -- ---- one word

@@ -2,22 +2,16 @@
 
 ghost use Rattle.std.specs.Prelude.{◌≡◌, Ok};
 ghost use Rattle.gk_terms.specs.Text.{words_of};
-ghost use Rattle.command_reader.specs.BandwidthLine.{most_of, default_limit_at, zone_limit_at, limit_at, remote_limit_at, bandwidth_at};
+ghost use Rattle.gk_commands.specs.BandwidthLine.{most_of, default_limit_at, zone_limit_at, limit_at, remote_limit_at, bandwidth_at};
 ghost use Rattle.command_reader.specs.Memory.{UnlessMemory, DeclaresNone};
 
-use crate::commands::{Command, LimitKind};
-use crate::faults::FaultKind;
 use crate::fields::{kept_name, size_field};
+use gk_commands::numbers::{MOST_KBPS, MOST_SESSION_KBPS};
+use gk_commands::{Command, FaultKind, LimitKind};
 use gk_terms::fields::{name_field, nothing_more};
 use gk_terms::words::Words;
 use gk_terms::{Kbps, Name};
 use std::alloc::Global;
-
-/// The greatest size of a limit, in kbit/s.
-pub const MOST_KBPS: u32 = 10_000_000;
-
-/// The greatest size of one call, in kbit/s.
-pub const MOST_SESSION_KBPS: u32 = 5_000;
 
 /// `bandwidth` and what follows it.
 pub fn bandwidth(alloc: Global, words: &mut Words<'_>) -> Result<Command, FaultKind>

@@ -4,15 +4,14 @@ ghost use Rattle.std.specs.Prelude.{◌≡◌, ◌≤◌, cond, [], ◌∷◌, �
 ghost use Rattle.gk_terms.specs.declared.limits.TheConstants.{MOST_DIALLED};
 ghost use Rattle.gk_terms.specs.Text.{line_text};
 ghost use Rattle.digit_patterns.specs.Pattern.{pattern_text};
-ghost use Rattle.command_reader.specs.Accepted.{PrintsBack};
-ghost use Rattle.command_reader.specs.TechnologyLine.{is_option_word};
+ghost use Rattle.gk_commands.specs.Accepted.{PrintsBack};
+ghost use Rattle.gk_commands.specs.TechnologyLine.{is_option_word};
 ghost use Rattle.gk_lines.specs.LineBuffer.{extended, with_words, line_of_words};
-ghost use Rattle.command_reader.specs.Printing.{command_words, local_words, port_words, remote_words, gateway_words, further_words, hopoff_words, default_words, limit_word};
+ghost use Rattle.gk_commands.specs.Printing.{command_words, local_words, port_words, remote_words, gateway_words, further_words, hopoff_words, default_words, limit_word};
 
-use crate::commands::{Command, GatewayPriority, LimitKind, LocalAddress};
-use crate::names::Names;
 use crate::zone_lines::is_hunt_word;
 use digit_patterns::Pattern;
+use gk_commands::{Command, GatewayPriority, LimitKind, LocalAddress, Names};
 use gk_lines::LineBuffer;
 use gk_terms::limits::MOST_DIALLED;
 use gk_terms::{Address, Kbps, TechPrefix};

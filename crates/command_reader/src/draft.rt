@@ -2,16 +2,14 @@
 
 ghost use Rattle.std.specs.Prelude.{◌≡◌, ◌≤◌, true, None, is_some, option_map, slice_get};
 ghost use Rattle.std.specs.List.{list_any, position_or_len};
-ghost use Rattle.command_reader.specs.Progress.{line_count, commands_in};
-ghost use Rattle.command_reader.specs.Zones.{first_local_of, is_declared, is_local_command};
-ghost use Rattle.command_reader.specs.Reading.{nothing_read, fault_at, finished, names_unknown, unknown_zone, MayReadLine, ReadsLine};
-ghost use Rattle.command_reader.specs.WholeLines.{KeepsLine};
+ghost use Rattle.gk_commands.specs.Progress.{line_count, commands_in};
+ghost use Rattle.gk_commands.specs.Zones.{first_local_of, is_declared, is_local_command};
+ghost use Rattle.gk_commands.specs.Reading.{nothing_read, fault_at, finished, names_unknown, unknown_zone, MayReadLine, ReadsLine};
+ghost use Rattle.gk_commands.specs.WholeLines.{KeepsLine};
 
-use crate::commands::{Command, Commands};
-use crate::faults::{FaultKind, LineFault};
 use crate::first_words::add_line;
 use crate::kept::Kept;
-use crate::whole_lines::WholeLines;
+use gk_commands::{Command, Commands, FaultKind, LineFault, WholeLines};
 use gk_terms::limits::MOST_LINES;
 use short_texts::KeptName;
 use std::alloc::Global;
@@ -34,9 +32,9 @@ impl Model for Draft {
     ghost use Rattle.std.specs.Prelude.{◌≡◌, ◌+◌, ◌≤◌, length, IfSome};
     ghost use Rattle.std.specs.HashSet.{keys};
     ghost use Rattle.gk_terms.specs.declared.limits.TheConstants.{MOST_LINES};
-    ghost use Rattle.command_reader.specs.Accepted.{IsPrintable, LinesSay};
+    ghost use Rattle.gk_commands.specs.Accepted.{IsPrintable, LinesSay};
     ghost use Rattle.command_reader.specs.Index.{AreDeclared};
-    ghost use Rattle.command_reader.specs.Progress.{Progress, with_numbers};
+    ghost use Rattle.gk_commands.specs.Progress.{Progress, with_numbers};
 
     ghost Value = { Progress };
 
@@ -98,7 +96,7 @@ impl Draft {
         Ok(self)
     }
 
-    #[tactic(auto, unfolding(crate::specs::Reading::line_after))]
+    #[tactic(auto, unfolding(gk_commands::specs::Reading::line_after))]
     /// Reads the next line, or says its first fault, as `with_line` does. At a fault the draft is
     /// unchanged.
     pub fn read_line(&mut self, line: &[u8]) -> Result<(), LineFault>

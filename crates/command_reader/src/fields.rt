@@ -9,12 +9,11 @@ ghost use Rattle.gk_terms.specs.TechPrefix.{tech_prefix_of};
 ghost use Rattle.gk_terms.specs.Address.{ip_of};
 ghost use Rattle.digit_patterns.specs.Pattern.{pattern_of};
 ghost use Rattle.gk_terms.specs.Fields.{Gives, field};
-ghost use Rattle.command_reader.specs.Fields.{names_in, some_names_in};
+ghost use Rattle.gk_commands.specs.Fields.{names_in, some_names_in};
 ghost use Rattle.command_reader.specs.Memory.{UnlessMemory, Any, HoldsNames};
 
-use crate::faults::FaultKind;
-use crate::names::Names;
 use digit_patterns::Pattern;
+use gk_commands::{FaultKind, Names};
 use gk_terms::addresses::read_ip;
 use gk_terms::fields::number_field;
 use gk_terms::words::Words;

@@ -4,24 +4,23 @@
 ghost use Rattle.std.specs.Prelude.{◌≡◌, None};
 ghost use Rattle.gk_terms.specs.Text.{words_of};
 ghost use Rattle.gk_terms.specs.Fields.{nothing_more};
-ghost use Rattle.command_reader.specs.Fields.{is_one_of};
+ghost use Rattle.gk_commands.specs.Fields.{is_one_of};
 ghost use Rattle.command_reader.specs.Kept.{MayAdd, Passes};
-ghost use Rattle.command_reader.specs.TechnologyLine.{gw_type_prefix_at};
-ghost use Rattle.command_reader.specs.BandwidthLine.{bandwidth_at};
-ghost use Rattle.command_reader.specs.Line.{arq_at, kept_command_of, no_at, passed_alone, passed_whole, left_out_commands, passed_at, named_command_at, command_at, command_of};
+ghost use Rattle.gk_commands.specs.TechnologyLine.{gw_type_prefix_at};
+ghost use Rattle.gk_commands.specs.BandwidthLine.{bandwidth_at};
+ghost use Rattle.gk_commands.specs.Line.{arq_at, kept_command_of, no_at, passed_alone, passed_whole, left_out_commands, passed_at, named_command_at, command_at, command_of};
 
 use crate::bandwidth_lines::bandwidth;
-use crate::commands::Command;
-use crate::faults::FaultKind;
 use crate::kept::Kept;
 use crate::technology_lines::gw_type_prefix;
 use crate::zone_lines::add_zone;
+use gk_commands::{Command, FaultKind};
 use gk_terms::fields::nothing_more;
 use gk_terms::limits::MOST_LINE_BYTES;
 use gk_terms::words::Words;
 use std::alloc::Global;
 
-#[tactic(auto, unfolding(crate::specs::Line::command_of))]
+#[tactic(auto, unfolding(gk_commands::specs::Line::command_of))]
 /// Adds the command of a line, or nothing if it is passed over, or says its first fault from the
 /// left. Memory is taken only for long names, for those of gateways and of hop-off zones, and to
 /// keep the command. If it is refused, and the line has no fault, the answer is `NoMemory`.

@@ -6,8 +6,7 @@ ghost use Rattle.std.specs.HashSet.{keys};
 ghost use Rattle.command_reader.specs.Index.{declared_name, AddsDeclared, MayRefuseCommand, fault_of_one_more, fault_by_names};
 ghost use Rattle.command_reader.specs.Kept.{MayAdd};
 
-use crate::commands::Command;
-use crate::faults::FaultKind;
+use gk_commands::{Command, FaultKind};
 use gk_terms::Name;
 use gk_terms::limits::MOST_ZONES;
 use short_texts::KeptName;

@@ -1,7 +1,7 @@
 //! A theorem on what every accepted configuration is. It is the contract of a function that does
 //! nothing.
 
-ghost use Rattle.command_reader.specs.Accepted.{AcceptedAreWellFormed};
+ghost use Rattle.gk_commands.specs.Accepted.{AcceptedAreWellFormed};
 
 /// In an accepted configuration no two zones have one name, at most 1,024 zones are declared, one
 /// of them is local, each zone that a command names is declared, and each number is in its range:

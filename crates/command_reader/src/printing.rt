@@ -4,12 +4,12 @@ ghost use Rattle.std.specs.Prelude.{◌≡◌, Ok, OnOk, OnErr};
 ghost use Rattle.std.specs.List.{All};
 ghost use Rattle.std.specs.Io.KnownBytes.{Appends};
 ghost use Rattle.gk_lines.specs.Streams.{Notes, AppendsFront};
-ghost use Rattle.command_reader.specs.Accepted.{PrintsBack};
-ghost use Rattle.command_reader.specs.Printing.{text_of};
-ghost use Rattle.command_reader.specs.Reading.{reading_of};
+ghost use Rattle.gk_commands.specs.Accepted.{PrintsBack};
+ghost use Rattle.gk_commands.specs.Printing.{text_of};
+ghost use Rattle.gk_commands.specs.Reading.{reading_of};
 
 use crate::canonical_lines::make_line;
-use crate::commands::{Command, Commands};
+use gk_commands::{Command, Commands};
 use gk_lines::{LineBuffer, Sink, WriteFault, write_whole};
 
 /// Prints commands as their canonical lines, in order: the words of each with one space between,

@@ -1,14 +1,14 @@
 //! A configuration, read whole.
 
+ghost use Rattle.std.specs.Prelude.{◌≡◌, IfOk};
 ghost use Rattle.gk_terms.specs.Text.{lines_of};
-ghost use Rattle.command_reader.specs.Reading.{nothing_read, MayReadOn, MayRead};
+ghost use Rattle.gk_commands.specs.Reading.{nothing_read, MayReadOn, MayRead};
 
-use crate::commands::Commands;
 use crate::draft::Draft;
-use crate::faults::LineFault;
+use gk_commands::{CommandLines, Commands, LineFault};
 use gk_terms::limits::MOST_LINES;
 use gk_terms::text_lines::{RawLines, content};
-use std::alloc::Global;
+use std::alloc::{AllocError, Global};
 
 /// Reads a configuration: the bytes of Cisco IOS command lines as its commands, or its first fault.
 ///
@@ -25,6 +25,17 @@ pub fn read(alloc: Global, bytes: &[u8]) -> Result<Commands, LineFault>
     ensures { MayRead (lines_of bytes.now) result }
 {
     lines_in(alloc, bytes)?.finish()
+}
+
+/// The commands of lines that say them, read again. It fails only if memory runs out.
+pub fn read_again(alloc: Global, lines: &CommandLines) -> Result<Commands, AllocError>
+    ensures { IfOk result
+        (λ commands. commands ≡ record { commands = lines.now; passed = 0 }) }
+{
+    match read(alloc, lines.as_bytes()) {
+        Ok(commands) => Ok(commands),
+        Err(_) => Err(AllocError),
+    }
 }
 
 /// About how many lines there are, or more: a line that declares a prefix has some 45 bytes.

@@ -2,15 +2,13 @@
 
 ghost use Rattle.std.specs.Prelude.{◌≡◌, false};
 ghost use Rattle.gk_terms.specs.Text.{words_of};
-ghost use Rattle.command_reader.specs.TechnologyLine.{options_at, gw_type_prefix_at};
+ghost use Rattle.gk_commands.specs.TechnologyLine.{options_at, gw_type_prefix_at};
 ghost use Rattle.command_reader.specs.Options.{hopoff_name_of, option_of, option_at, AddsOption, hopoffs_and_default};
 ghost use Rattle.command_reader.specs.Memory.{UnlessMemory, Any, DeclaresNone};
 
-use crate::commands::Command;
-use crate::faults::FaultKind;
 use crate::fields::{name, technology_field, with_name};
-use crate::names::Names;
 use crate::zone_lines::is_hunt_word;
+use gk_commands::{Command, FaultKind, Names};
 use gk_terms::Name;
 use gk_terms::words::Words;
 use std::alloc::{AllocError, Global};

@@ -4,30 +4,21 @@ ghost use Rattle.std.specs.Prelude.{◌≡◌, ◌≤◌, [], ◌∷◌, codes, 
 ghost use Rattle.std.specs.Option.{option_copied};
 ghost use Rattle.gk_terms.specs.Text.{words_of};
 ghost use Rattle.gk_terms.specs.Fields.{Gives};
-ghost use Rattle.command_reader.specs.Fields.{is_one_of, field_but, nothing_more_but, with_next};
+ghost use Rattle.gk_commands.specs.Fields.{is_one_of, field_but, nothing_more_but, with_next};
 ghost use Rattle.command_reader.specs.Memory.{UnlessMemory, Any};
-ghost use Rattle.command_reader.specs.Line.{kept_command_of};
+ghost use Rattle.gk_commands.specs.Line.{kept_command_of};
 ghost use Rattle.command_reader.specs.Kept.{MayAdd, MayMake};
-ghost use Rattle.command_reader.specs.ZoneLine.{left_out_of_local, left_out_of_remote, left_out_of_zone, hunt_words, cost_of, local_port_at, local_address_at, zone_local_at, remote_port_at, remote_priority_at, remote_cost_at, zone_remote_at, after_hunt_word, gateways_at, zone_prefix_at, zone_line_at};
+ghost use Rattle.gk_commands.specs.ZoneLine.{left_out_of_local, left_out_of_remote, left_out_of_zone, hunt_words, cost_of, local_port_at, local_address_at, zone_local_at, remote_port_at, remote_priority_at, remote_cost_at, zone_remote_at, after_hunt_word, gateways_at, zone_prefix_at, zone_line_at};
 
-use crate::commands::{Command, GatewayPriority, LocalAddress};
-use crate::faults::FaultKind;
 use crate::fields::{gateway_priority_field, ip_field, kept_name, pattern_field, some_names};
 use crate::kept::Kept;
+use gk_commands::numbers::{DEFAULT_COST, DEFAULT_PRIORITY, DEFAULT_RAS_PORT};
+use gk_commands::{Command, FaultKind, GatewayPriority, LocalAddress};
 use gk_terms::addresses::{read_ip, read_port};
 use gk_terms::fields::name_field;
 use gk_terms::words::Words;
 use gk_terms::{Address, Name, read_number};
 use std::alloc::Global;
-
-/// The port of a remote gatekeeper whose line gives none: that of H.225.0's RAS.
-pub const DEFAULT_RAS_PORT: u16 = 1719;
-
-/// The cost of a remote zone whose line gives none.
-pub const DEFAULT_COST: u8 = 50;
-
-/// The priority of a remote zone whose line gives none.
-pub const DEFAULT_PRIORITY: u8 = 50;
 
 /// The fields of a `zone local` line.
 #[derive(Clone, Copy)]

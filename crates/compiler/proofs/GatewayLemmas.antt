@@ -15,9 +15,9 @@ use Rattle.std.proofs.lemmas.Option.{slice_get-map, get_or_from_slice_get, slice
 use Rattle.gk_terms.proofs.ChoiceLemmas.{find_passes}
 use Rattle.digit_patterns.specs.PatternParts.{PatternParts}
 use Rattle.digit_patterns.specs.Pattern.{same_pattern}
-use Rattle.command_reader.specs.declared.commands.Command.{Command}
-use Rattle.command_reader.specs.declared.commands.Command.TheVariants.{ZoneLocal, ZoneRemote, ZonePrefix, GwTypePrefix, RejectUnknownPrefix, BandwidthDefault, BandwidthZone, BandwidthRemote}
-use Rattle.command_reader.specs.Zones.{zones_of, is_declared, named_by}
+use Rattle.gk_commands.specs.declared.commands.Command.{Command}
+use Rattle.gk_commands.specs.declared.commands.Command.TheVariants.{ZoneLocal, ZoneRemote, ZonePrefix, GwTypePrefix, RejectUnknownPrefix, BandwidthDefault, BandwidthZone, BandwidthRemote}
+use Rattle.gk_commands.specs.Zones.{zones_of, is_declared, named_by}
 use Rattle.compiler.specs.Last.{last_in}
 use Rattle.compiler.specs.Priority.{priority_among, priority_in, named_priority_of}
 use Rattle.compiler.specs.Rows.{ZoneRow}

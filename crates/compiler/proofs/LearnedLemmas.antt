@@ -8,8 +8,8 @@ use Rattle.std.proofs.lemmas.Cmp.{nat_list_eq_equiv}
 use Rattle.std.proofs.lemmas.List.Folds.{Any-from_list_any, list_any-append}
 use Rattle.gk_terms.specs.Choice.{first_unbeaten}
 use Rattle.gk_terms.proofs.ChoiceLemmas.{first_unbeaten-IsFirstUnbeaten, first_unbeaten-none, IsRankOrder-by}
-use Rattle.command_reader.specs.declared.commands.Command.{Command}
-use Rattle.command_reader.specs.declared.commands.Command.TheVariants.{ZoneLocal, ZoneRemote, ZonePrefix, GwTypePrefix, RejectUnknownPrefix, BandwidthDefault, BandwidthZone, BandwidthRemote}
+use Rattle.gk_commands.specs.declared.commands.Command.{Command}
+use Rattle.gk_commands.specs.declared.commands.Command.TheVariants.{ZoneLocal, ZoneRemote, ZonePrefix, GwTypePrefix, RejectUnknownPrefix, BandwidthDefault, BandwidthZone, BandwidthRemote}
 use Rattle.compiler.specs.Technology.{prefixes_of, begins_with, is_longer, longest_beginning, technology_of, technology_among, longest_learned, found_length, hopoffs_of, hopoffs_in}
 use Rattle.compiler.specs.Pick.{picked}
 use Rattle.compiler.specs.Plan.{plan_of, plan_with, plan_after, by_technology, by_hopoff, LearnsNothing, LearnedIsNoLonger, LearnedIsLonger}

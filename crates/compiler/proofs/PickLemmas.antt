@@ -5,10 +5,10 @@ use Rattle.std.proofs.lemmas.Bool.Decides.{nat_tests}
 use Rattle.std.proofs.lemmas.List.Folds.{find_at}
 use Rattle.gk_terms.specs.Choice.{better}
 use Rattle.gk_terms.proofs.ChoiceLemmas.{IsRankOrder, IsRankOrder-by, IsRankOrder-then, IsRankOrder-on, first_unbeaten-pass}
-use Rattle.command_reader.specs.declared.commands.Command.{Command}
-use Rattle.command_reader.specs.declared.zones.ZoneKind.{ZoneKind}
-use Rattle.command_reader.specs.declared.zones.ZoneKind.TheVariants.{Local, Remote}
-use Rattle.command_reader.specs.Zones.{zones_of, zone_of}
+use Rattle.gk_commands.specs.declared.commands.Command.{Command}
+use Rattle.gk_commands.specs.declared.zones.ZoneKind.{ZoneKind}
+use Rattle.gk_commands.specs.declared.zones.ZoneKind.TheVariants.{Local, Remote}
+use Rattle.gk_commands.specs.Zones.{zones_of, zone_of}
 use Rattle.compiler.specs.Pick.{is_option_preferred, is_picked_before, picked}
 use Rattle.compiler.specs.Zones.{number_in}
 use Rattle.compiler.specs.TablesIndex.{kind_at, is_number_before, best_number}

@@ -10,10 +10,10 @@ use Rattle.digit_patterns.specs.PatternParts.{PatternParts}
 use Rattle.digit_patterns.specs.Duplicate.{duplicate_of}
 use Rattle.digit_patterns.specs.Table.{best_of, best_hit, hit_of}
 use Rattle.digit_patterns.specs.declared.tables.Hit.{Hit}
-use Rattle.command_reader.specs.declared.commands.Command.{Command}
-use Rattle.command_reader.specs.declared.zones.ZoneKind.{ZoneKind}
-use Rattle.command_reader.specs.declared.zones.ZoneKind.TheVariants as kinds
-use Rattle.command_reader.specs.Zones.{zones_of, zone_of}
+use Rattle.gk_commands.specs.declared.commands.Command.{Command}
+use Rattle.gk_commands.specs.declared.zones.ZoneKind.{ZoneKind}
+use Rattle.gk_commands.specs.declared.zones.ZoneKind.TheVariants as kinds
+use Rattle.gk_commands.specs.Zones.{zones_of, zone_of}
 use Rattle.compiler.specs.Pick.{picked}
 use Rattle.compiler.specs.Plan.{RemoteZone, LocalZone, target_in, remote_target, local_target, row_at, row_meant, target_of, by_row, by_hopoff, by_technology, plan_of}
 use Rattle.compiler.specs.Rows.{ZoneRow, rows_of, zones_for, row_of_pattern, row_for, first_rows_of, with_picked_zone}

@@ -9,11 +9,11 @@ use Rattle.digit_patterns.specs.PatternParts.{PatternParts}
 use Rattle.digit_patterns.specs.Pattern.{same_pattern}
 use Rattle.digit_patterns.specs.Table.{best_hit}
 use Rattle.digit_patterns.specs.declared.tables.Hit.{Hit}
-use Rattle.command_reader.specs.declared.commands.Command.{Command}
-use Rattle.command_reader.specs.declared.zones.ZoneKind.{ZoneKind}
-use Rattle.command_reader.specs.Zones.{zones_of, zone_of, is_local, is_local_option}
-use Rattle.command_reader.specs.Accepted.{IsAccepted}
-use Rattle.command_reader.proofs.accepted.AcceptedLemmas.{zones_few}
+use Rattle.gk_commands.specs.declared.commands.Command.{Command}
+use Rattle.gk_commands.specs.declared.zones.ZoneKind.{ZoneKind}
+use Rattle.gk_commands.specs.Zones.{zones_of, zone_of, is_local, is_local_option}
+use Rattle.gk_commands.specs.Accepted.{IsAccepted}
+use Rattle.gk_commands.proofs.AcceptedLemmas.{zones_few}
 use Rattle.gk_terms.specs.declared.limits.TheConstants.{MOST_ZONES}
 use Rattle.compiler.specs.declared.limits.ZoneLimits.{ZoneLimits}
 use Rattle.compiler.specs.declared.plans.TheConstants.{DEFAULT_GATEWAY_PRIORITY}

@@ -11,7 +11,7 @@ use Rattle.std.proofs.lemmas.List.Folds.{Any-from_list_any}
 use Rattle.gk_terms.specs.Choice.{first_unbeaten}
 use Rattle.gk_terms.specs.TechPrefix.{is_technology_byte, is_tech_prefix}
 use Rattle.gk_terms.proofs.ChoiceLemmas.{first_unbeaten-IsFirstUnbeaten, first_unbeaten-none, IsRankOrder-by}
-use Rattle.command_reader.specs.declared.commands.Command.{Command}
+use Rattle.gk_commands.specs.declared.commands.Command.{Command}
 use Rattle.compiler.specs.Technology.{prefixes_of, begins_with, is_longer, technology_of}
 use Rattle.compiler.specs.TablesIndex.{Zones, Technologies, technology_at, is_among, AreTechnologies, AreWithin, IsFoundTechnology, IsLongest}
 

@@ -8,10 +8,10 @@ use Rattle.std.proofs.lemmas.Cmp.{nat_list_eq_equiv}
 use Rattle.std.proofs.lemmas.List.{map-append, take-append-drop}
 use Rattle.std.proofs.lemmas.List.Elements.{filter_map-append}
 use Rattle.indexmap.specs.IndexMap.{insert_entry}
-use Rattle.command_reader.specs.declared.commands.Command.{Command}
-use Rattle.command_reader.specs.declared.commands.Command.TheVariants.{ZoneLocal, ZoneRemote, ZonePrefix, GwTypePrefix, RejectUnknownPrefix, BandwidthDefault, BandwidthZone, BandwidthRemote}
-use Rattle.command_reader.specs.declared.zones.ZoneKind.{ZoneKind}
-use Rattle.command_reader.specs.Zones.{zones_of, declared_by, first_local_of, is_local_command}
+use Rattle.gk_commands.specs.declared.commands.Command.{Command}
+use Rattle.gk_commands.specs.declared.commands.Command.TheVariants.{ZoneLocal, ZoneRemote, ZonePrefix, GwTypePrefix, RejectUnknownPrefix, BandwidthDefault, BandwidthZone, BandwidthRemote}
+use Rattle.gk_commands.specs.declared.zones.ZoneKind.{ZoneKind}
+use Rattle.gk_commands.specs.Zones.{zones_of, declared_by, first_local_of, is_local_command}
 use Rattle.compiler.specs.TablesIndex.{Zones}
 use Rattle.compiler.proofs.StepLemmas.{one_or_none, filter_map-more}
 

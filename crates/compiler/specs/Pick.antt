@@ -2,10 +2,10 @@
 -- the one of greatest priority, of these the first. This project's profile.
 use Rattle.std.specs.Prelude.{ℕ, ◌==◌, Bool, true, false, ◌&&◌, ◌||◌, nat_lt, List, Option, Some, None}
 use Rattle.gk_terms.specs.Choice.{first_unbeaten, IsFirstUnbeaten}
-use Rattle.command_reader.specs.declared.commands.Command.{Command}
-use Rattle.command_reader.specs.declared.zones.ZoneKind.{ZoneKind}
-use Rattle.command_reader.specs.declared.zones.ZoneKind.TheVariants.{Local, Remote}
-use Rattle.command_reader.specs.Zones.{zone_of}
+use Rattle.gk_commands.specs.declared.commands.Command.{Command}
+use Rattle.gk_commands.specs.declared.zones.ZoneKind.{ZoneKind}
+use Rattle.gk_commands.specs.declared.zones.ZoneKind.TheVariants.{Local, Remote}
+use Rattle.gk_commands.specs.Zones.{zone_of}
 
 -- whether a zone is taken before another, whatever their order in the lines
 abbrev pub is_preferred : ZoneKind → ZoneKind → Bool

@@ -9,14 +9,14 @@ use Rattle.gk_terms.specs.TechPrefix.{is_tech_prefix}
 use Rattle.gk_terms.specs.declared.limits.TheConstants.{MOST_ZONES}
 use Rattle.digit_patterns.specs.PatternParts.{PatternParts}
 use Rattle.digit_patterns.specs.Pattern.{same_pattern}
-use Rattle.command_reader.specs.declared.commands.Command.{Command}
-use Rattle.command_reader.specs.declared.commands.Command.TheVariants.{ZoneLocal, ZoneRemote, ZonePrefix, GwTypePrefix, RejectUnknownPrefix, BandwidthDefault, BandwidthZone, BandwidthRemote}
-use Rattle.command_reader.specs.declared.commands.GatewayPriority.{GatewayPriority}
-use Rattle.command_reader.specs.declared.commands.LimitKind.{LimitKind}
-use Rattle.command_reader.specs.declared.commands.LimitKind.TheVariants.{Session, Total, Interzone}
-use Rattle.command_reader.specs.declared.zones.ZoneKind.{ZoneKind}
-use Rattle.command_reader.specs.declared.zones.ZoneKind.TheVariants as kinds
-use Rattle.command_reader.specs.Zones.{zones_of, first_local_of, is_declared, is_local_kind, named_by}
+use Rattle.gk_commands.specs.declared.commands.Command.{Command}
+use Rattle.gk_commands.specs.declared.commands.Command.TheVariants.{ZoneLocal, ZoneRemote, ZonePrefix, GwTypePrefix, RejectUnknownPrefix, BandwidthDefault, BandwidthZone, BandwidthRemote}
+use Rattle.gk_commands.specs.declared.commands.GatewayPriority.{GatewayPriority}
+use Rattle.gk_commands.specs.declared.commands.LimitKind.{LimitKind}
+use Rattle.gk_commands.specs.declared.commands.LimitKind.TheVariants.{Session, Total, Interzone}
+use Rattle.gk_commands.specs.declared.zones.ZoneKind.{ZoneKind}
+use Rattle.gk_commands.specs.declared.zones.ZoneKind.TheVariants as kinds
+use Rattle.gk_commands.specs.Zones.{zones_of, first_local_of, is_declared, is_local_kind, named_by}
 use Rattle.compiler.specs.declared.limits.ZoneLimits.{ZoneLimits}
 use Rattle.compiler.specs.declared.plans.Plan.{Plan}
 use Rattle.compiler.specs.declared.plans.Plan.TheVariants as plans

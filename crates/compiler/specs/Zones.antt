@@ -2,10 +2,10 @@
 use Rattle.std.specs.Prelude.{ℕ, List, slice_get, Option, Some, None, option_map, codes, bytes_eq, unwrap_or, if◌then◌else◌}
 use Rattle.std.specs.List.{position_or_len}
 use Rattle.gk_terms.specs.Address.{AddressParts}
-use Rattle.command_reader.specs.declared.commands.Command.{Command}
-use Rattle.command_reader.specs.declared.zones.ZoneKind.{ZoneKind}
-use Rattle.command_reader.specs.declared.zones.ZoneKind.TheVariants.{Local, Remote}
-use Rattle.command_reader.specs.Zones.{zones_of, first_local_of, is_local, is_local_kind}
+use Rattle.gk_commands.specs.declared.commands.Command.{Command}
+use Rattle.gk_commands.specs.declared.zones.ZoneKind.{ZoneKind}
+use Rattle.gk_commands.specs.declared.zones.ZoneKind.TheVariants.{Local, Remote}
+use Rattle.gk_commands.specs.Zones.{zones_of, first_local_of, is_local, is_local_kind}
 use Rattle.compiler.specs.declared.zones.ZoneView.{ZoneView}
 
 -- the zone `-` is the first local one

@@ -15,7 +15,7 @@ mod technology_map;
 mod zone_table;
 pub mod zones;
 
-pub use command_reader::LimitKind;
+pub use gk_commands::LimitKind;
 pub use limits::ZoneLimits;
 pub use plans::{Plan, Routed, RowNo, ZoneNo};
 pub use tables::Tables;

@@ -7,7 +7,7 @@ ghost use Rattle.compiler.specs.TablesIndex.{default_limits_of, defaults_said, n
 
 use crate::limits::{NO_LIMITS, ZoneLimits};
 use crate::zone_table::number_of_name;
-use command_reader::{Command, ZoneKind};
+use gk_commands::{Command, ZoneKind};
 use gk_terms::{Kbps, Name};
 use indexmap::IndexMap;
 use std::alloc::{AllocError, Global};

@@ -1,6 +1,6 @@
 //! Bandwidth limits of a zone.
 
-use command_reader::LimitKind;
+use gk_commands::LimitKind;
 
 /// The limits of a zone, each in units of 100 bit/s for both directions together (H.225.0), or
 /// nothing if there is none.

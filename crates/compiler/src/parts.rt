@@ -2,8 +2,8 @@
 
 ghost use Rattle.std.specs.Prelude.{◌≡◌, ◌≤◌, length, IfOk};
 ghost use Rattle.gk_terms.specs.declared.limits.TheConstants.{MOST_LINES, MOST_ZONES};
-ghost use Rattle.command_reader.specs.Accepted.{IsAccepted};
-ghost use Rattle.command_reader.specs.Zones.{zones_of};
+ghost use Rattle.gk_commands.specs.Accepted.{IsAccepted};
+ghost use Rattle.gk_commands.specs.Zones.{zones_of};
 ghost use Rattle.compiler.specs.TablesIndex.{AreLimits, AreRoutes, AreTechnologies};
 
 use crate::limit_table::limits_in;
@@ -14,8 +14,8 @@ use crate::rows::{prefixes_in, rows_in};
 use crate::technologies::technologies_in;
 use crate::technology_map::TechnologyMap;
 use crate::zone_table::zones_in;
-use command_reader::{Command, ZoneKind};
 use digit_patterns::Pattern;
+use gk_commands::{Command, ZoneKind};
 use gk_terms::Name;
 use indexmap::IndexMap;
 use raw_trie::RawTrie;

@@ -8,7 +8,7 @@ ghost use Rattle.compiler.specs.TablesIndex.{better_in, best_after};
 
 use crate::plans::ZoneNo;
 use crate::zone_table::{kind_at, number_of};
-use command_reader::{KeptName, ZoneKind};
+use gk_commands::{KeptName, ZoneKind};
 use gk_terms::Name;
 use indexmap::IndexMap;
 

@@ -12,8 +12,8 @@ ghost use Rattle.compiler.specs.TablesIndex.{NumberedRow, gateways_named, is_abo
 use crate::plans::ZoneNo;
 use crate::rows::row_of;
 use crate::zone_table::number_of;
-use command_reader::{Command, GatewayPriority, KeptName, ZoneKind};
 use digit_patterns::Pattern;
+use gk_commands::{Command, GatewayPriority, KeptName, ZoneKind};
 use gk_terms::Name;
 use indexmap::IndexMap;
 use std::alloc::{AllocError, Global};

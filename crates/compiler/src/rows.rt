@@ -14,8 +14,8 @@ ghost use Rattle.compiler.specs.TablesIndex.{AreRows, zone_at_pattern, better_in
 use crate::picking::better;
 use crate::plans::ZoneNo;
 use crate::zone_table::number_of;
-use command_reader::{Command, KeptName, ZoneKind};
 use digit_patterns::Pattern;
+use gk_commands::{Command, KeptName, ZoneKind};
 use gk_terms::Name;
 use gk_terms::limits::MOST_LINES;
 use indexmap::IndexMap;

@@ -2,7 +2,7 @@
 
 ghost use Rattle.std.specs.Prelude.{◌≡◌, ◌<◌, ◌≤◌, true, length, drop, IfOk, IfSome, Some, None, option_map, unwrap_or};
 ghost use Rattle.std.specs.Option.{option_copied};
-ghost use Rattle.command_reader.specs.Zones.{zones_of, first_local_of, is_local_option};
+ghost use Rattle.gk_commands.specs.Zones.{zones_of, first_local_of, is_local_option};
 ghost use Rattle.compiler.specs.Limit.{limits_of, limit_of, remote_limit_of};
 ghost use Rattle.compiler.specs.Pick.{picked};
 ghost use Rattle.compiler.specs.Plan.{plan_of, plan_after, target_of, row_at, row_meant, rejects_unknown, is_reject, by_row};
@@ -20,8 +20,8 @@ use crate::technologies::{default_technology_in, technology_of};
 use crate::technology_map::TechnologyMap;
 use crate::zone_table::{first_local_in, kind_at, view_of};
 use crate::zones::ZoneView;
-use command_reader::{Command, Commands, LimitKind, ZoneKind};
 use digit_patterns::{Pattern, PrefixTable};
+use gk_commands::{Command, Commands, LimitKind, ZoneKind};
 use gk_terms::{Dialled, Name, TechPrefix, Version};
 use indexmap::IndexMap;
 use raw_trie::RawTrie;
@@ -53,7 +53,7 @@ pub struct Tables {
 }
 
 impl Model for Tables {
-    ghost use Rattle.command_reader.specs.Configuration.{Configuration};
+    ghost use Rattle.gk_commands.specs.Configuration.{Configuration};
     ghost use Rattle.compiler.specs.TablesIndex.{IsIndex};
 
     ghost Value = { Configuration };

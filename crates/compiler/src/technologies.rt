@@ -10,7 +10,7 @@ ghost use Rattle.compiler.specs.TablesIndex.{best_after, technology_at, hopoff_a
 use crate::picking::best_after;
 use crate::plans::ZoneNo;
 use crate::technology_map::TechnologyMap;
-use command_reader::{Command, KeptName, ZoneKind};
+use gk_commands::{Command, KeptName, ZoneKind};
 use gk_terms::limits::MOST_TECHNOLOGY;
 use gk_terms::{Name, TechPrefix};
 use indexmap::IndexMap;

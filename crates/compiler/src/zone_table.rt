@@ -5,13 +5,13 @@ ghost use Rattle.std.specs.List.{IsDistinct};
 ghost use Rattle.std.specs.Option.{option_copied};
 ghost use Rattle.std.specs.Map.{keys_of};
 ghost use Rattle.gk_terms.specs.declared.limits.TheConstants.{MOST_ZONES};
-ghost use Rattle.command_reader.specs.Zones.{zones_of, declared_by, first_local_of, is_local_command};
+ghost use Rattle.gk_commands.specs.Zones.{zones_of, declared_by, first_local_of, is_local_command};
 ghost use Rattle.compiler.specs.Zones.{view_of, address_of_kind, number_in};
 ghost use Rattle.compiler.specs.TablesIndex.{kind_at};
 
 use crate::plans::ZoneNo;
 use crate::zones::ZoneView;
-use command_reader::{Command, KeptName, ZoneKind};
+use gk_commands::{Command, KeptName, ZoneKind};
 use gk_terms::{Address, Name};
 use indexmap::IndexMap;
 use std::alloc::{AllocError, Global};

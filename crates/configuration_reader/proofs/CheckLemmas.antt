@@ -6,9 +6,9 @@ use Rattle.std.specs.Io.KnownBytes.{Appends}
 use Rattle.gk_terms.specs.Text.{lines_of}
 use Rattle.gk_lines.specs.Streams.{AppendsFront, KnownStep}
 use Rattle.gk_lines.specs.LineReader.{LineReaderParts, left_of}
-use Rattle.command_reader.specs.Configuration.{Configuration}
-use Rattle.command_reader.specs.Reading.{reading_in, reading_of, MayRead}
-use Rattle.command_reader.specs.declared.faults.LineFault.{LineFault}
+use Rattle.gk_commands.specs.Configuration.{Configuration}
+use Rattle.gk_commands.specs.Reading.{reading_in, reading_of, MayRead}
+use Rattle.gk_commands.specs.declared.faults.LineFault.{LineFault}
 use Rattle.configuration_reader.specs.declared.configuration.Until.TheVariants.{EndOfInput}
 use Rattle.configuration_reader.specs.declared.configuration.ConfigurationFault.{ConfigurationFault}
 use Rattle.configuration_reader.specs.declared.configuration.ConfigurationFault.TheVariants.{Line}

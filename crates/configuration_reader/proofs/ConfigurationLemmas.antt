@@ -11,12 +11,12 @@ use Rattle.gk_lines.specs.LineReader.{TakesLine, TakesPart}
 use Rattle.gk_lines.specs.declared.line_reader.ReadFault.{ReadFault}
 use Rattle.gk_lines.proofs.KeptLines.{TakesLine-says_same, same_of_kept}
 use Rattle.gk_lines.proofs.LinesTaken.{LinesTaken, none_taken, one_more_taken, all_taken, WholeLinesRead, whole_lines_read}
-use Rattle.command_reader.specs.declared.faults.LineFault.{LineFault}
-use Rattle.command_reader.specs.declared.faults.FaultKind.TheVariants.{TooLong}
-use Rattle.command_reader.specs.Configuration.{Configuration}
-use Rattle.command_reader.specs.Line.{command_of}
-use Rattle.command_reader.specs.Progress.{Progress}
-use Rattle.command_reader.specs.Reading.{nothing_read, finished, finished_of, MayRead, MayReadLine, MayReadOn}
+use Rattle.gk_commands.specs.declared.faults.LineFault.{LineFault}
+use Rattle.gk_commands.specs.declared.faults.FaultKind.TheVariants.{TooLong}
+use Rattle.gk_commands.specs.Configuration.{Configuration}
+use Rattle.gk_commands.specs.Line.{command_of}
+use Rattle.gk_commands.specs.Progress.{Progress}
+use Rattle.gk_commands.specs.Reading.{nothing_read, finished, finished_of, MayRead, MayReadLine, MayReadOn}
 use Rattle.command_reader.proofs.one_by_one.ReadOnLemmas.{no_more_lines, one_line, refused_line, finishes, refuses, long_says, same_line}
 use Rattle.configuration_reader.specs.declared.configuration.Until.{Until}
 use Rattle.configuration_reader.specs.declared.configuration.Until.TheVariants.{EndLine, EndOfInput}

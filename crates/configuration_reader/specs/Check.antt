@@ -2,8 +2,8 @@
 use Rattle.std.specs.Prelude.{ℕ, Bool, true, false, List, [], ◌∷◌, ◌++◌, length, codes, decimal, if◌then◌else◌}
 use Rattle.gk_lines.specs.LineReader.{is_failure}
 use Rattle.gk_terms.specs.Text.{line_text}
-use Rattle.command_reader.specs.Configuration.{Configuration}
-use Rattle.command_reader.specs.Printing.{text_of}
+use Rattle.gk_commands.specs.Configuration.{Configuration}
+use Rattle.gk_commands.specs.Printing.{text_of}
 use Rattle.configuration_reader.specs.declared.configuration.ConfigurationFault.{ConfigurationFault}
 use Rattle.configuration_reader.specs.declared.configuration.ConfigurationFault.TheVariants.{Line, Read}
 use Rattle.configuration_reader.specs.declared.check.CheckFault.{CheckFault}

@@ -4,10 +4,10 @@ use Rattle.std.specs.List.{list_any}
 use Rattle.gk_terms.specs.Text.{raw_lines_of, whole_lines_of, content_of, lines_of, words_of, is_too_long, is_empty}
 use Rattle.gk_lines.specs.LineReader.{is_failure}
 use Rattle.gk_lines.specs.declared.line_reader.ReadFault.{ReadFault}
-use Rattle.command_reader.specs.declared.faults.LineFault.{LineFault}
-use Rattle.command_reader.specs.Configuration.{Configuration}
-use Rattle.command_reader.specs.Progress.{Progress}
-use Rattle.command_reader.specs.Reading.{reading_in, MayRead, MayReadLine}
+use Rattle.gk_commands.specs.declared.faults.LineFault.{LineFault}
+use Rattle.gk_commands.specs.Configuration.{Configuration}
+use Rattle.gk_commands.specs.Progress.{Progress}
+use Rattle.gk_commands.specs.Reading.{reading_in, MayRead, MayReadLine}
 use Rattle.configuration_reader.specs.declared.configuration.Until.{Until}
 use Rattle.configuration_reader.specs.declared.configuration.Until.TheVariants.{EndLine, EndOfInput}
 use Rattle.configuration_reader.specs.declared.configuration.ConfigurationFault.{ConfigurationFault}

@@ -4,14 +4,15 @@ ghost use Rattle.std.specs.Prelude.{◌≡◌, ◌≢◌, ◌+◌, ◌^◌, ◌<
 ghost use Rattle.std.specs.Io.KnownBytes.{Appends};
 ghost use Rattle.gk_terms.specs.Text.{lines_of, line_text};
 ghost use Rattle.gk_lines.specs.Streams.{Notes, NotesIf, AppendsFront};
-ghost use Rattle.command_reader.specs.Configuration.{Configuration};
-ghost use Rattle.command_reader.specs.Printing.{text_of};
-ghost use Rattle.command_reader.specs.Reading.{reading_of, MayRead};
+ghost use Rattle.gk_commands.specs.Configuration.{Configuration};
+ghost use Rattle.gk_commands.specs.Printing.{text_of};
+ghost use Rattle.gk_commands.specs.Reading.{reading_of, MayRead};
 ghost use Rattle.configuration_reader.specs.Configuration.{is_read_failure};
 ghost use Rattle.configuration_reader.specs.Check as Spec;
 
 use crate::configuration::{ConfigurationFault, MOST_TURNS, Until, read_configuration};
-use command_reader::{Commands, LineFault, print};
+use command_reader::print;
+use gk_commands::{Commands, LineFault};
 use gk_lines::{LineBuffer, LineReader, ReadFault, Sink, Source, WriteFault, write_whole};
 use std::alloc::Global;
 use thiserror::Error;

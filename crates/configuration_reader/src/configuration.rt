@@ -4,10 +4,11 @@ ghost use Rattle.std.specs.Prelude.{◌≡◌, [], IfErr};
 ghost use Rattle.gk_terms.specs.Text.{words_of};
 ghost use Rattle.gk_lines.specs.Streams.{NotesIf, KnownStep};
 ghost use Rattle.gk_lines.specs.LineReader.{left_of, AtEndIfEnded, CountsTurns};
-ghost use Rattle.command_reader.specs.Reading.{finished_of};
+ghost use Rattle.gk_commands.specs.Reading.{finished_of};
 ghost use Rattle.configuration_reader.specs.Configuration as Spec;
 
-use command_reader::{Commands, Draft, LineFault};
+use command_reader::Draft;
+use gk_commands::{Commands, LineFault};
 use gk_lines::{LineBuffer, LineReader, ReadFault, Source};
 use gk_terms::limits::MOST_LINE_BYTES;
 use gk_terms::words::Words;

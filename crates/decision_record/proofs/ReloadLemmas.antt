@@ -2,7 +2,7 @@
 use Rattle.std.proofs.Common.{◌≡◌, ◌≤◌, ℕ, List, [], ◌∷◌, ◌++◌, refl, sym, ap, ◌∙◌}
 use Rattle.std.specs.Prelude.{Option, Some, None}
 use Rattle.byte_log.specs.Parts.{LogParts}
-use Rattle.command_reader.specs.declared.commands.Command.{Command}
+use Rattle.gk_commands.specs.declared.commands.Command.{Command}
 use Rattle.rulings.specs.Events.{put_in_force}
 use Rattle.entry_bytes.specs.Entry.{PlainEntry}
 use Rattle.decision_record.specs.History.{in_force_after, in_force_of}

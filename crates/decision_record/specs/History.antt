@@ -1,7 +1,7 @@
 -- The record of a core: a legal history, and the state that it leaves.
 use Rattle.std.specs.Prelude.{◌≡◌, ◌⊎◌, ℕ, ◌+◌, ◌-◌, ◌==◌, Bool, false, true, IsTrue, ⊤, List, [], ◌∷◌, ◌++◌, length, filter_map, slice_get, Option, Some, None, Result, MatchResult, if◌then◌else◌}
-use Rattle.command_reader.specs.declared.commands.Command.{Command}
-use Rattle.command_reader.specs.Configuration.{Configuration}
+use Rattle.gk_commands.specs.declared.commands.Command.{Command}
+use Rattle.gk_commands.specs.Configuration.{Configuration}
 use Rattle.rulings.specs.State.{State}
 use Rattle.rulings.specs.Events.{PlainEvent, Reloading, kind_of, id_of, call_number_of, put_in_force}
 use Rattle.rulings.specs.Ruling.{ruling_of}

@@ -1,7 +1,7 @@
 -- How the entries of a record are held. A reader of the contracts need not know it.
 use Rattle.std.specs.Prelude.{◌≡◌, ◌≤◌, ℕ, ◌==◌, min, List, ◌∷◌, length, map, filter_map, slice_get, Option, Some, None, if◌then◌else◌}
 use Rattle.std.specs.List.{AllByRecursion}
-use Rattle.command_reader.specs.declared.commands.Command.{Command}
+use Rattle.gk_commands.specs.declared.commands.Command.{Command}
 use Rattle.byte_log.specs.Parts.{LogParts}
 use Rattle.field_bytes.specs.Fields.{◌>>=◌, byte_in, number_bytes, number_in}
 use Rattle.entry_bytes.specs.Entry.{PlainEntry}

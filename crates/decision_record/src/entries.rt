@@ -7,8 +7,9 @@ ghost use Rattle.entry_bytes.specs.ReadEntry.{entry_read};
 ghost use Rattle.entry_bytes.specs.ReadEvent.{event_read};
 ghost use Rattle.decision_record.specs.History.{plain_entry, receipt_of, configuration_reloaded, AreKeptAsLines};
 
-use command_reader::{CommandLines, Commands};
+use command_reader::read_again;
 use entry_bytes::{ReadEntry, ReadEvent};
+use gk_commands::{CommandLines, Commands};
 use gk_terms::{Name, Version};
 use rulings::{EventKind, Reply};
 use std::alloc::{AllocError, Global};
@@ -35,7 +36,7 @@ impl<'a> ReloadedCommands<'a> {
     {
         match self {
             ReloadedCommands::Commands(commands) => Ok(Cow::Borrowed(commands)),
-            ReloadedCommands::Lines(lines) => match lines.commands(alloc) {
+            ReloadedCommands::Lines(lines) => match read_again(alloc, lines) {
                 Ok(commands) => Ok(Cow::Owned(commands)),
                 Err(error) => Err(error),
             },

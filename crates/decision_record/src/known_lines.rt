@@ -4,7 +4,7 @@ ghost use Rattle.std.specs.Prelude.{◌≡◌, ◌<◌, ◌≤◌, ◌+◌, [], 
 ghost use Rattle.pieces.specs.declared.list.TheConstants.{PIECE_ITEMS};
 ghost use Rattle.decision_record.specs.Reloads.{KeepsTexts};
 
-use command_reader::CommandLines;
+use gk_commands::CommandLines;
 use pieces::Pieces;
 use std::alloc::{AllocError, Global};
 use std::marker::Model;
@@ -21,7 +21,7 @@ struct KnownText {
 
 impl Model for KnownText {
     ghost use Rattle.std.specs.Prelude.{List};
-    ghost use Rattle.command_reader.specs.declared.commands.Command.{Command};
+    ghost use Rattle.gk_commands.specs.declared.commands.Command.{Command};
 
     ghost Value = { List Command };
 
@@ -63,7 +63,7 @@ pub struct KnownLines {
 
 impl Model for KnownLines {
     ghost use Rattle.std.specs.Prelude.{List};
-    ghost use Rattle.command_reader.specs.declared.commands.Command.{Command};
+    ghost use Rattle.gk_commands.specs.declared.commands.Command.{Command};
     ghost use Rattle.pieces.specs.Pieces.{PiecesParts};
 
     ghost Value = { PiecesParts (List Command) };

@@ -8,8 +8,8 @@ ghost use Rattle.decision_record.specs.Reloads.{ArePlaced, IsPlaced, IsReload, K
 
 use crate::entries::{Entry, ReloadedCommands};
 use crate::known_lines::KnownLines;
-use command_reader::Commands;
 use compiler::Tables;
+use gk_commands::Commands;
 use gk_terms::Version;
 use pieces::Pieces;
 use std::alloc::{AllocError, Global};

@@ -5,8 +5,8 @@ ghost use Rattle.std.specs.Prelude.{◌≡◌};
 ghost use Rattle.std.specs.Arc.{arc_value};
 
 use admission::{Event, Limits, Receipt, ReloadRefusal, Reply, STATED_LIMITS, Snapshot};
-use command_reader::Commands;
 use compiler::Tables;
+use gk_commands::Commands;
 use gk_lines::LineBuffer;
 use gk_terms::Units;
 use growth_logs::{Log, Terms, commands_of, lacks_memory, shared_tables, show_reply, texts};

@@ -3,8 +3,9 @@
 ghost use Rattle.std.specs.Prelude.{◌≡◌};
 
 use admission::{Destination, Event, ReloadRefusal, Reply};
-use command_reader::{Commands, read};
+use command_reader::read;
 use compiler::Tables;
+use gk_commands::Commands;
 use gk_terms::{Address, Dialled, Name, TechPrefix, Units};
 use live_desk::{Blank, Desk, House, Seat};
 use registry::{Endpoint, EndpointKind};

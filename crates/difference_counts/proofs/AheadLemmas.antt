@@ -3,7 +3,7 @@ use Rattle.std.proofs.Common.{◌≡◌, ℕ, zero, suc, ◌-◌, ◌≤◌, ◌
 use Rattle.std.specs.Prelude.{Option, Some, None, Result, Ok, Err, IfOk, unwrap_or, option_map}
 use Rattle.std.specs.List.{list_any, starts_with}
 use Rattle.digit_patterns.specs.PatternParts.{PatternParts}
-use Rattle.command_reader.specs.declared.commands.Command.{Command}
+use Rattle.gk_commands.specs.declared.commands.Command.{Command}
 use Rattle.compiler.specs.Rows.{ZoneRow, rows_of, row_for}
 use Rattle.compiler.specs.Technology.{technology_of, prefixes_of, found_length}
 use Rattle.plan_difference.specs.Gathered.{Has}

@@ -13,7 +13,7 @@ use Rattle.std.proofs.lemmas.Map.Entries.{length-keys_of}
 use Rattle.std.proofs.lemmas.Option.{slice_get_within}
 use Rattle.digit_patterns.specs.PatternParts.{PatternParts}
 use Rattle.digit_patterns.specs.Pattern.{same_pattern}
-use Rattle.command_reader.specs.declared.commands.Command.{Command}
+use Rattle.gk_commands.specs.declared.commands.Command.{Command}
 use Rattle.compiler.proofs.FirstRows.{same_pattern-same}
 use Rattle.compiler.proofs.RowLemmas.{same_pattern-itself}
 use Rattle.std.proofs.lemmas.Slice.Eq.{bytes_eq-Decides}

@@ -4,7 +4,7 @@ use Rattle.std.specs.Prelude.{Some, None, Contains, unwrap_or}
 use Rattle.std.specs.List.{list_all}
 use Rattle.std.proofs.lemmas.Bool.{and_parts}
 use Rattle.digit_patterns.specs.PatternParts.{PatternParts}
-use Rattle.command_reader.specs.declared.commands.Command.{Command}
+use Rattle.gk_commands.specs.declared.commands.Command.{Command}
 use Rattle.compiler.specs.Rows.{ZoneRow}
 use Rattle.compiler.specs.Technology.{prefixes_of}
 use Rattle.plan_difference.specs.Gathered.{Has, HasPatterns, has_no_star, patterns_of}

@@ -6,7 +6,7 @@ use Rattle.std.proofs.lemmas.Bool.{and_parts}
 use Rattle.std.proofs.lemmas.List.Sums.{sum_by_push}
 use Rattle.std.proofs.Math.Nat.{mul-le-mul_right}
 use Rattle.gk_terms.specs.Dialled.{is_dialled_byte}
-use Rattle.command_reader.specs.declared.commands.Command.{Command}
+use Rattle.gk_commands.specs.declared.commands.Command.{Command}
 use Rattle.plan_difference.specs.declared.number_sets.NumberSet.{NumberSet}
 use Rattle.difference_counts.specs.Branches.{Branching, rest_in, room_of, over_flags, over_branch, branched, all_branched, weight, weight_of}
 use Rattle.difference_counts.specs.Numbers.{character_at, one_if, sum_to}

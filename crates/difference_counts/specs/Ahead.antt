@@ -2,7 +2,7 @@
 use Rattle.std.specs.Prelude.{◌≡◌, ℕ, ◌-◌, ◌<◌, ◌≤◌, ◌==◌, ◌||◌, Bool, true, false, not, List, [], length, drop, get_or, slice_get, Option, Some, None}
 use Rattle.std.specs.List.{list_any, starts_with}
 use Rattle.digit_patterns.specs.PatternParts.{PatternParts}
-use Rattle.command_reader.specs.declared.commands.Command.{Command}
+use Rattle.gk_commands.specs.declared.commands.Command.{Command}
 use Rattle.compiler.specs.Rows.{ZoneRow, rows_of}
 use Rattle.compiler.specs.Technology.{prefixes_of, technology_of, found_length}
 use Rattle.plan_difference.specs.Gathered.{Has, has_no_star}

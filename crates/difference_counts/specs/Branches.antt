@@ -3,7 +3,7 @@ use Rattle.std.specs.Prelude.{◌≡◌, ℕ, zero, suc, ◌+◌, ◌-◌, ◌<�
 use Rattle.std.specs.List.{All, list_all, starts_with, sum_by}
 use Rattle.gk_terms.specs.Dialled.{is_dialled_byte}
 use Rattle.digit_patterns.specs.PatternParts.{PatternParts}
-use Rattle.command_reader.specs.declared.commands.Command.{Command}
+use Rattle.gk_commands.specs.declared.commands.Command.{Command}
 use Rattle.difference_counts.specs.Ahead.{HasPatternsOn}
 use Rattle.difference_counts.specs.Numbers.{character_at}
 use Rattle.difference_counts.specs.Places.{has_at}

@@ -1,7 +1,7 @@
 -- How many dialled digits each set of two configurations has.
 use Rattle.std.specs.Prelude.{ℕ, List, map}
 use Rattle.std.specs.Map.{keys_of}
-use Rattle.command_reader.specs.declared.commands.Command.{Command}
+use Rattle.gk_commands.specs.declared.commands.Command.{Command}
 use Rattle.plan_difference.specs.declared.number_sets.NumberSet.{NumberSet}
 use Rattle.plan_difference.specs.Entries.{Entries, same_set}
 use Rattle.plan_difference.specs.Sets.{set_of}

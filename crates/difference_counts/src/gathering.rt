@@ -7,9 +7,9 @@ ghost use Rattle.plan_difference.specs.Gathered.{has_no_star, pattern_in, patter
 ghost use Rattle.difference_counts.specs.Ahead.{IsAhead, IsWhole, literal_pattern};
 
 use crate::ahead::Ahead;
-use command_reader::Command;
 use compiler::Tables;
 use digit_patterns::Pattern;
+use gk_commands::Command;
 use gk_terms::TechPrefix;
 use std::alloc::{AllocError, Global};
 

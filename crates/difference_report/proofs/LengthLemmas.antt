@@ -12,7 +12,7 @@ use Rattle.digit_patterns.specs.PatternParts.{PatternParts, least_count}
 use Rattle.digit_patterns.specs.Pattern.{Matches, has_count}
 use Rattle.digit_patterns.specs.Table.{best_of}
 use Rattle.digit_patterns.proofs.RankLaws.{best_of-IsBest}
-use Rattle.command_reader.specs.declared.commands.Command.{Command}
+use Rattle.gk_commands.specs.declared.commands.Command.{Command}
 use Rattle.compiler.specs.Rows.{ZoneRow, rows_of, row_for}
 use Rattle.compiler.specs.Technology.{technology_of, prefixes_of, prefix_in, found_length}
 use Rattle.compiler.specs.TablesIndex.{is_among}

@@ -4,7 +4,7 @@ use Rattle.std.specs.Prelude.{Option, Some, None, option_map, unwrap_or}
 use Rattle.std.specs.List.{cons_option, filter_map, list_all}
 use Rattle.std.proofs.lemmas.Bool.{and_parts}
 use Rattle.std.proofs.lemmas.Option.{same_Some}
-use Rattle.command_reader.specs.declared.commands.Command.{Command}
+use Rattle.gk_commands.specs.declared.commands.Command.{Command}
 use Rattle.compiler.specs.Rows.{ZoneRow, row_of}
 use Rattle.compiler.specs.Technology.{prefix_in}
 use Rattle.plan_difference.specs.Gathered.{has_no_star}

@@ -2,7 +2,7 @@
 use Rattle.std.proofs.Common.{◌≡◌, ℕ, Bool, List}
 use Rattle.std.specs.Prelude.{Result, Ok, Err, IfOk}
 use Rattle.std.specs.Map.{keys_of}
-use Rattle.command_reader.specs.declared.commands.Command.{Command}
+use Rattle.gk_commands.specs.declared.commands.Command.{Command}
 use Rattle.plan_difference.specs.Difference.{IsDifference}
 use Rattle.plan_difference.specs.Entries.{Entries, AreSampled}
 use Rattle.plan_difference.specs.Order.{AreGrouped}

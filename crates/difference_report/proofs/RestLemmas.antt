@@ -12,7 +12,7 @@ use Rattle.digit_patterns.specs.PatternParts.{PatternParts}
 use Rattle.digit_patterns.specs.Pattern.{matches, Matches, Outranks, has_count, same_pattern}
 use Rattle.digit_patterns.specs.Table.{best_of}
 use Rattle.digit_patterns.proofs.RankLaws.{best_of-none, best_of-IsBest, rank_orders}
-use Rattle.command_reader.specs.declared.commands.Command.{Command}
+use Rattle.gk_commands.specs.declared.commands.Command.{Command}
 use Rattle.compiler.specs.Pick.{picked, is_picked_before}
 use Rattle.compiler.specs.Rows.{ZoneRow, rows_of, row_for, row_of_pattern, zone_for, zones_for}
 use Rattle.compiler.specs.Technology.{technology_of, prefixes_of, found_length}

@@ -2,7 +2,7 @@
 use Rattle.std.proofs.Common.{◌≡◌, ℕ, ◌&&◌, not, Bool, true, false, cond, List, [], ◌∷◌, ◌++◌, refl, sym, ap, ◌∙◌}
 use Rattle.std.specs.Prelude.{Some, bytes_eq}
 use Rattle.std.specs.List.{list_any}
-use Rattle.command_reader.specs.declared.commands.Command.{Command}
+use Rattle.gk_commands.specs.declared.commands.Command.{Command}
 use Rattle.difference_report.specs.Headings.{is_shared, with_shared}
 
 module _ (old new : List Command) (list : List (List ℕ)) (prefix : List ℕ) where

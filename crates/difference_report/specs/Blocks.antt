@@ -1,7 +1,7 @@
 -- What is kept of the last set while sets are written.
 use Rattle.std.specs.Prelude.{◌≡◌, ◌<◌, ℕ, suc, List, slice_get, Option, Some, None, ⊤}
 use Rattle.std.specs.Option.{option_map}
-use Rattle.command_reader.specs.declared.commands.Command.{Command}
+use Rattle.gk_commands.specs.declared.commands.Command.{Command}
 use Rattle.plan_difference.specs.declared.number_sets.NumberSet.{NumberSet}
 use Rattle.plan_difference.specs.declared.number_sets.Group.{Group}
 use Rattle.plan_difference.specs.Entries.{Entry, Entries, EntryAt, group_of}

@@ -1,7 +1,7 @@
 -- What is written of two configurations.
 use Rattle.std.specs.Prelude.{◌≡◌, ℕ, List, sum}
 use Rattle.std.specs.Map.{keys_of}
-use Rattle.command_reader.specs.declared.commands.Command.{Command}
+use Rattle.gk_commands.specs.declared.commands.Command.{Command}
 use Rattle.plan_difference.specs.Entries.{Entries}
 use Rattle.plan_difference.specs.Order.{AreGrouped}
 use Rattle.difference_counts.specs.Counted.{numbers_in}

@@ -1,6 +1,6 @@
 -- What is said of how long the digits of a set are.
 use Rattle.std.specs.Prelude.{◌≡◌, ◌↔◌, ℕ, Bool, true, List, option_map, unwrap_or}
-use Rattle.command_reader.specs.declared.commands.Command.{Command}
+use Rattle.gk_commands.specs.declared.commands.Command.{Command}
 use Rattle.compiler.specs.Rows.{ZoneRow, row_of}
 use Rattle.compiler.specs.Technology.{prefix_in}
 use Rattle.plan_difference.specs.Entries.{Entry}

@@ -6,7 +6,7 @@ use Rattle.gk_terms.specs.Dialled.{is_dialled}
 use Rattle.gk_terms.specs.Text.{is_empty}
 use Rattle.digit_patterns.specs.PatternParts.{PatternParts}
 use Rattle.digit_patterns.specs.Pattern.{same_pattern}
-use Rattle.command_reader.specs.declared.commands.Command.{Command}
+use Rattle.gk_commands.specs.declared.commands.Command.{Command}
 use Rattle.compiler.specs.Rows.{ZoneRow, row_for}
 use Rattle.compiler.specs.Technology.{technology_of}
 use Rattle.plan_difference.specs.declared.number_sets.NumberSet.{NumberSet}

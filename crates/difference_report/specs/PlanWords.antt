@@ -4,7 +4,7 @@ use Rattle.std.specs.Option.{option_eq}
 use Rattle.gk_terms.specs.Address.{AddressParts, address_text}
 use Rattle.digit_patterns.specs.PatternParts.{PatternParts}
 use Rattle.digit_patterns.specs.Pattern.{pattern_text}
-use Rattle.command_reader.specs.declared.commands.Command.{Command}
+use Rattle.gk_commands.specs.declared.commands.Command.{Command}
 use Rattle.compiler.specs.Plan.{plan_of}
 use Rattle.plan_difference.specs.declared.destinations.Destination.{Destination}
 use Rattle.plan_difference.specs.declared.number_sets.NumberSet.{NumberSet}

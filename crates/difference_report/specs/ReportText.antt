@@ -2,7 +2,7 @@
 -- how many sets have changed, and how many digits.
 use Rattle.std.specs.Prelude.{ℕ, ◌==◌, Bool, false, ◌&&◌, ◌||◌, not, List, [], ◌∷◌, ◌++◌, length, fold, sum, Option, Some, None, codes, decimal, bytes_eq, if◌then◌else◌}
 use Rattle.std.specs.Option.{option_eq}
-use Rattle.command_reader.specs.declared.commands.Command.{Command}
+use Rattle.gk_commands.specs.declared.commands.Command.{Command}
 use Rattle.compiler.specs.Technology.{default_technology_of}
 use Rattle.plan_difference.specs.declared.number_sets.Group.{Group}
 use Rattle.plan_difference.specs.Entries.{Entry, Entries, group_of}

@@ -3,7 +3,7 @@ use Rattle.std.specs.Prelude.{ℕ, ◌-◌, false, List, length, codes, if◌the
 use Rattle.gk_terms.specs.Text.{is_empty}
 use Rattle.digit_patterns.specs.PatternParts.{PatternParts}
 use Rattle.digit_patterns.specs.Pattern.{pattern_text}
-use Rattle.command_reader.specs.declared.commands.Command.{Command}
+use Rattle.gk_commands.specs.declared.commands.Command.{Command}
 use Rattle.plan_difference.specs.Entries.{Entry}
 use Rattle.difference_report.specs.Lengths.{has_others, length_after}
 use Rattle.difference_report.specs.Shape.{shape_of}

@@ -1,6 +1,6 @@
 -- How many digits the sets that have changed have together.
 use Rattle.std.specs.Prelude.{ℕ, List, if◌then◌else◌}
-use Rattle.command_reader.specs.declared.commands.Command.{Command}
+use Rattle.gk_commands.specs.declared.commands.Command.{Command}
 use Rattle.plan_difference.specs.Entries.{Entry, Entries, has_set}
 use Rattle.difference_counts.specs.Counted.{number_in}
 

@@ -3,7 +3,7 @@ use Rattle.std.specs.Prelude.{◌≡◌, ℕ, Bool, true, false, List, Option, R
 use Rattle.std.specs.Io.KnownBytes.{Appends}
 use Rattle.std.specs.Map.{keys_of}
 use Rattle.gk_lines.specs.Streams.{AppendsFront}
-use Rattle.command_reader.specs.declared.commands.Command.{Command}
+use Rattle.gk_commands.specs.declared.commands.Command.{Command}
 use Rattle.plan_difference.specs.Difference.{AreClasses, IsDifference}
 use Rattle.plan_difference.specs.Entries.{Entries, AreChanged, AreSampled, HaveDigits}
 use Rattle.plan_difference.specs.Order.{AreGrouped}

@@ -5,8 +5,8 @@ ghost use Rattle.difference_counts.specs.Ahead.{AreLiteral};
 ghost use Rattle.difference_report.specs.CountWords as Spec;
 ghost use Rattle.difference_report.specs.Laws.{LengthsAreTold, prefix_is_literal, row_is_literal};
 
-use command_reader::Command;
 use compiler::Tables;
+use gk_commands::Command;
 
 /// How counts are written: exactly, or in two digits, and the last line's.
 pub fn counts_are_written()

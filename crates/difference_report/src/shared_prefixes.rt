@@ -6,8 +6,8 @@ ghost use Rattle.compiler.specs.Technology.{prefix_in, technology_of};
 ghost use Rattle.plan_difference.specs.Sets.{hops_off};
 ghost use Rattle.difference_report.specs.Headings as Spec;
 
-use command_reader::Command;
 use compiler::Tables;
+use gk_commands::Command;
 use gk_terms::{Dialled, TechPrefix};
 use indexmap::IndexSet;
 use std::alloc::{AllocError, Global};

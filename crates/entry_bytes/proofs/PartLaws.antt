@@ -2,8 +2,8 @@
 use Rattle.std.proofs.Common.{◌≡◌, ℕ, List, ◌∷◌, ◌++◌, Option, Some, refl, ap, ◌∙◌}
 use Rattle.bandwidth.specs.declared.over.Over.{Over}
 use Rattle.bandwidth.specs.declared.over.Over.TheVariants as over
-use Rattle.command_reader.specs.declared.commands.LimitKind.{LimitKind}
-use Rattle.command_reader.specs.declared.commands.LimitKind.TheVariants as limit
+use Rattle.gk_commands.specs.declared.commands.LimitKind.{LimitKind}
+use Rattle.gk_commands.specs.declared.commands.LimitKind.TheVariants as limit
 use Rattle.gk_terms.specs.Address.{AddressParts}
 use Rattle.gk_terms.specs.Name.{IsName}
 use Rattle.registry.specs.declared.endpoints.EndpointKind.{EndpointKind}

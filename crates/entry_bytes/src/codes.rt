@@ -3,7 +3,7 @@
 ghost use Rattle.std.specs.Prelude.{◌≡◌};
 ghost use Rattle.entry_bytes.specs.Codes as Spec;
 
-use command_reader::LimitKind;
+use gk_commands::LimitKind;
 use registry::{Duplicate, EndpointKind};
 use rulings::{DestinationKind, RegisterRefusal, ReleaseRefusal, RouteRefusal, UnregisterRefusal};
 

@@ -4,10 +4,10 @@ use Rattle.std.specs.Prelude.{Option, Some, None, IfSome, fold, unwrap_or, bytes
 use Rattle.std.specs.List.{cons_option, filter_map, list_any}
 use Rattle.std.proofs.lemmas.List.Elements.{All-head, All-tail}
 use Rattle.digit_patterns.specs.Pattern.{same_pattern}
-use Rattle.command_reader.specs.declared.commands.Command.{Command}
-use Rattle.command_reader.specs.declared.commands.Command.TheVariants.{ZoneLocal, ZoneRemote, ZonePrefix, GwTypePrefix, RejectUnknownPrefix, BandwidthDefault, BandwidthZone, BandwidthRemote}
-use Rattle.command_reader.specs.declared.commands.GatewayPriority.{GatewayPriority}
-use Rattle.command_reader.specs.Accepted.{HasNumbersInRange, IsAccepted, IsWithin}
+use Rattle.gk_commands.specs.declared.commands.Command.{Command}
+use Rattle.gk_commands.specs.declared.commands.Command.TheVariants.{ZoneLocal, ZoneRemote, ZonePrefix, GwTypePrefix, RejectUnknownPrefix, BandwidthDefault, BandwidthZone, BandwidthRemote}
+use Rattle.gk_commands.specs.declared.commands.GatewayPriority.{GatewayPriority}
+use Rattle.gk_commands.specs.Accepted.{HasNumbersInRange, IsAccepted, IsWithin}
 use Rattle.command_reader.proofs.accepted.WellFormedLemmas.{well_formed}
 use Rattle.compiler.specs.Priority.{priority_among, priority_in, named_priority_of, priority_of}
 use Rattle.compiler.specs.Rows.{ZoneRow}

@@ -1,7 +1,7 @@
 -- Gateways: each as a candidate, and all of them by priority.
 use Rattle.std.proofs.Common.{◌≡◌, ℕ, Bool, true, List, [], ◌∷◌, Some, None, Ok, Err, ap, ◌∙◌}
 use Rattle.std.specs.Prelude.{Option, Result, IfOk, IfSome, if◌then◌else◌}
-use Rattle.command_reader.specs.declared.commands.Command.{Command}
+use Rattle.gk_commands.specs.declared.commands.Command.{Command}
 use Rattle.compiler.specs.Priority.{priority_of}
 use Rattle.compiler.specs.Rows.{ZoneRow}
 use Rattle.registry.specs.Endpoint.{EndpointParts}

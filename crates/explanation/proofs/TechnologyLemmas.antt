@@ -3,7 +3,7 @@ use Rattle.std.proofs.Common.{◌≡◌, ℕ, ◌||◌, ◌<◌, ◌≤◌, Bool
 use Rattle.std.specs.Prelude.{Option, IfSome, flat_map, bytes_eq, if◌then◌else◌}
 use Rattle.std.proofs.lemmas.Bool.Decides.{nat_tests}
 use Rattle.std.proofs.lemmas.List.Folds.{list_any-append}
-use Rattle.command_reader.specs.declared.commands.Command.{Command}
+use Rattle.gk_commands.specs.declared.commands.Command.{Command}
 use Rattle.compiler.specs.Technology.{prefixes_of, begins_with, technology_of, technology_among, longest_learned, found_length}
 use Rattle.compiler.specs.TablesIndex.{is_among}
 use Rattle.compiler.proofs.LearnedLemmas.{IsLongestOf, among_filter, is_longest, is_none, longest_from, none_from}

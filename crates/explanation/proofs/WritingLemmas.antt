@@ -1,7 +1,7 @@
 -- An explanation as it is written.
 use Rattle.std.proofs.Common.{◌≡◌, ℕ, Bool, List, Option, Some, Ok, Err, subst}
 use Rattle.std.specs.Prelude.{Result, IfOk, IfSome}
-use Rattle.command_reader.specs.declared.commands.Command.{Command}
+use Rattle.gk_commands.specs.declared.commands.Command.{Command}
 use Rattle.registry.specs.Endpoint.{EndpointParts}
 use Rattle.explanation.specs.declared.steps.Explanation.{Explanation}
 use Rattle.explanation.specs.Steps.{Explains}

@@ -1,9 +1,9 @@
 -- The limits that a call is held against, as they are gone through.
 use Rattle.std.specs.Prelude.{ℕ, Bool, List, [], ◌++◌, Option, option_map, bytes_eq, if◌then◌else◌}
 use Rattle.std.specs.Option.{option_to_list}
-use Rattle.command_reader.specs.declared.commands.Command.{Command}
-use Rattle.command_reader.specs.declared.commands.LimitKind.{LimitKind}
-use Rattle.command_reader.specs.declared.commands.LimitKind.TheVariants.{Interzone}
+use Rattle.gk_commands.specs.declared.commands.Command.{Command}
+use Rattle.gk_commands.specs.declared.commands.LimitKind.{LimitKind}
+use Rattle.gk_commands.specs.declared.commands.LimitKind.TheVariants.{Interzone}
 use Rattle.compiler.specs.Limit.{limit_of, remote_limit_of}
 use Rattle.bandwidth.specs.declared.over.Over.{Over}
 use Rattle.bandwidth.specs.declared.over.Over.TheVariants as overs

@@ -2,8 +2,8 @@
 use Rattle.std.specs.Prelude.{◌≡◌, ◌==◌, ℕ, zero, suc, Bool, true, List, [], ◌∷◌, slice_get, Option, Some, None}
 use Rattle.std.specs.List.{list_all}
 use Rattle.gk_terms.specs.Address.{AddressParts}
-use Rattle.command_reader.specs.declared.commands.Command.{Command}
-use Rattle.command_reader.specs.Accepted.{IsAccepted}
+use Rattle.gk_commands.specs.declared.commands.Command.{Command}
+use Rattle.gk_commands.specs.Accepted.{IsAccepted}
 use Rattle.compiler.specs.Priority.{priority_of}
 use Rattle.compiler.specs.Rows.{ZoneRow}
 use Rattle.registry.specs.Endpoint.{EndpointParts}

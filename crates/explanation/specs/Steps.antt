@@ -1,8 +1,8 @@
 -- The steps of a routing: what each of them finds, by the definitions of an admission.
 use Rattle.std.specs.Prelude.{◌≡◌, ℕ, zero, suc, ◌==◌, Bool, true, false, ◌&&◌, List, [], ◌∷◌, ◌++◌, length, drop, filter, flat_map, Option, Some, None, option_map, if◌then◌else◌}
 use Rattle.std.specs.List.{filter_map}
-use Rattle.command_reader.specs.declared.commands.Command.{Command}
-use Rattle.command_reader.specs.Zones.{is_local}
+use Rattle.gk_commands.specs.declared.commands.Command.{Command}
+use Rattle.gk_commands.specs.Zones.{is_local}
 use Rattle.compiler.specs.Rows.{ZoneRow, row_for}
 use Rattle.compiler.specs.Pick.{picked}
 use Rattle.compiler.specs.Priority.{priority_of}

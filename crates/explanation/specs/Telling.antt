@@ -1,7 +1,7 @@
 -- The text of an explanation: a line for each step that is taken, in the order of the flow.
 use Rattle.std.specs.Prelude.{ℕ, Bool, true, false, not, List, [], ◌∷◌, ◌++◌, length, drop, Option, Some, None, codes, if◌then◌else◌}
 use Rattle.std.specs.List.{list_any}
-use Rattle.command_reader.specs.declared.commands.Command.{Command}
+use Rattle.gk_commands.specs.declared.commands.Command.{Command}
 use Rattle.compiler.specs.Plan.{rejects_unknown}
 use Rattle.rulings.specs.declared.routes.Route.{Route}
 use Rattle.rulings.specs.declared.routes.Route.TheVariants as routes

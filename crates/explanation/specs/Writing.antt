@@ -1,7 +1,7 @@
 -- An explanation as it is written.
 use Rattle.std.specs.Prelude.{◌≡◌, ℕ, Bool, true, false, List, Option, Result, Ok, Err}
 use Rattle.std.specs.Io.KnownBytes.{Appends}
-use Rattle.command_reader.specs.declared.commands.Command.{Command}
+use Rattle.gk_commands.specs.declared.commands.Command.{Command}
 use Rattle.registry.specs.Endpoint.{EndpointParts}
 use Rattle.gk_lines.specs.Streams.{AppendsFront}
 use Rattle.explanation.specs.declared.steps.Explanation.{Explanation}

@@ -2,14 +2,14 @@
 
 ghost use Rattle.std.specs.Prelude.{◌≡◌, ◌∷◌, ◌++◌, OnOk, flat_map};
 ghost use Rattle.digit_patterns.specs.Pattern.{pattern_text};
-ghost use Rattle.command_reader.specs.declared.commands.Command.TheVariants as commands;
-ghost use Rattle.command_reader.specs.Printing.{default_words, further_words, gateway_words, hopoff_words};
-ghost use Rattle.command_reader.specs.TechnologyLine.{is_option_word};
+ghost use Rattle.gk_commands.specs.declared.commands.Command.TheVariants as commands;
+ghost use Rattle.gk_commands.specs.Printing.{default_words, further_words, gateway_words, hopoff_words};
+ghost use Rattle.gk_commands.specs.TechnologyLine.{is_option_word};
 ghost use Rattle.explanation.specs.Lists.{command_text, with_words};
 
 use crate::text::Text;
-use command_reader::{GatewayPriority, KeptName, Names};
 use digit_patterns::Pattern;
+use gk_commands::{GatewayPriority, KeptName, Names};
 use gk_terms::TechPrefix;
 use std::alloc::AllocError;
 

@@ -1,7 +1,7 @@
 //! The gateways from which a technology prefix is learned.
 
 ghost use Rattle.std.specs.Prelude.{◌≡◌, ◌++◌, IfOk, OnOk, flat_map};
-ghost use Rattle.command_reader.specs.Zones.{is_local};
+ghost use Rattle.gk_commands.specs.Zones.{is_local};
 ghost use Rattle.explanation.specs.Steps.{gives, giver_in, givers_of};
 
 use compiler::Tables;

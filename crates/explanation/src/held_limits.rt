@@ -7,8 +7,8 @@ ghost use Rattle.explanation.specs.HeldLimits.{between, held, of_kind, remotely}
 
 use crate::steps::{HeldLimit, Reached};
 use bandwidth::Over;
-use command_reader::LimitKind;
 use compiler::Tables;
+use gk_commands::LimitKind;
 use gk_terms::Name;
 use std::alloc::{AllocError, Global};
 

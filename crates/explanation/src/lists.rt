@@ -1,14 +1,14 @@
 //! Lists in the text of an explanation.
 
 ghost use Rattle.std.specs.Prelude.{◌≡◌, ◌++◌, IfOk, OnOk};
-ghost use Rattle.command_reader.specs.Printing.{limit_word};
+ghost use Rattle.gk_commands.specs.Printing.{limit_word};
 ghost use Rattle.explanation.specs.Lists.{candidate_text, candidates_text, commands_that, declares, default_line, later_default, limit_text, limits_text, names_row, names_text, never_chosen, over_text, with_command, with_item};
 
 use crate::steps::{Candidate, HeldLimit};
 use crate::text::Text;
 use bandwidth::Over;
-use command_reader::{Command, LimitKind};
 use digit_patterns::Pattern;
+use gk_commands::{Command, LimitKind};
 use gk_terms::{Name, TechPrefix};
 use std::alloc::{AllocError, Global};
 

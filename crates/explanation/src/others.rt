@@ -8,8 +8,8 @@ ghost use Rattle.explanation.specs.Lists.{kind_if, kind_in, names_row, names_zon
 
 use crate::steps::Way;
 use crate::text::Text;
-use command_reader::{Command, KeptName, ZoneKind};
 use digit_patterns::Pattern;
+use gk_commands::{Command, KeptName, ZoneKind};
 use gk_terms::{Name, TechPrefix};
 use std::alloc::{AllocError, Global};
 

@@ -11,8 +11,8 @@ use crate::values::{
     after, gateways_value, is_open, may_be_held, name_of, no_alias_value, rejects_unknown,
     route_value, technology_value, unmatched_value,
 };
-use command_reader::Command;
 use compiler::Tables;
+use gk_commands::Command;
 use gk_terms::{Dialled, TechPrefix};
 use std::alloc::{AllocError, Global};
 

@@ -9,7 +9,7 @@ ghost use Rattle.explanation.specs.Telling as Spec;
 use crate::lists;
 use crate::steps::{Explanation, Reached};
 use crate::text::Text;
-use command_reader::Command;
+use gk_commands::Command;
 use gk_terms::{Name, TechPrefix};
 use rulings::Route;
 use std::alloc::{AllocError, Global};

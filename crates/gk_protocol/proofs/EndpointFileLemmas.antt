@@ -3,7 +3,7 @@ use Rattle.std.proofs.Common.{◌≡◌, ◌⊎◌, ℕ, ◌+◌, ◌<◌, ◌�
 use Rattle.std.specs.Prelude.{min, Ok, Err}
 use Rattle.std.proofs.lemmas.Bool.{cases_lt}
 use Rattle.std.proofs.Math.Nat.{min-eq_left, min-eq_right}
-use Rattle.command_reader.specs.declared.commands.Command.{Command}
+use Rattle.gk_commands.specs.declared.commands.Command.{Command}
 use Rattle.registry.specs.Registration.{RegistryParts}
 use Rattle.gk_protocol.specs.declared.endpoint_files.EndpointsFault.{EndpointsFault}
 use Rattle.gk_protocol.specs.declared.endpoint_files.EndpointsFaultKind.{EndpointsFaultKind}

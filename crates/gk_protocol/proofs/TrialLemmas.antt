@@ -2,9 +2,9 @@
 -- steps.
 use Rattle.std.proofs.Common.{◌≡◌, ◌⊎◌, Bool, true, List, ℕ, [], ◌++◌, refl, sym, ap, subst, ◌∙◌, inl, inr}
 use Rattle.std.specs.Prelude.{Result, Ok, MatchBool}
-use Rattle.command_reader.specs.declared.faults.LineFault.{LineFault}
-use Rattle.command_reader.specs.Configuration.{Configuration}
-use Rattle.command_reader.specs.Reading.{reading_in}
+use Rattle.gk_commands.specs.declared.faults.LineFault.{LineFault}
+use Rattle.gk_commands.specs.Configuration.{Configuration}
+use Rattle.gk_commands.specs.Reading.{reading_in}
 use Rattle.call_rows.specs.Rows.{SnapshotParts}
 use Rattle.gk_protocol.specs.declared.answers.Answer.{Answer}
 use Rattle.gk_protocol.specs.declared.answers.Answer.TheVariants.{TryRefused}

@@ -1,10 +1,10 @@
 -- What may be answered to requests, whoever answers: by which replies to events are allowed, and by
 -- which rows and endpoints a trial may be of.
 use Rattle.std.specs.Prelude.{◌≡◌, ◌≢◌, ◌⊎◌, ◌&&◌, ℕ, nat_le, Bool, true, false, List, Result, Ok, Err, MatchBool}
-use Rattle.command_reader.specs.declared.faults.LineFault.{LineFault}
-use Rattle.command_reader.specs.declared.faults.FaultKind.TheVariants as fault_kind
-use Rattle.command_reader.specs.Configuration.{Configuration}
-use Rattle.command_reader.specs.Reading.{reading_in, MayRead}
+use Rattle.gk_commands.specs.declared.faults.LineFault.{LineFault}
+use Rattle.gk_commands.specs.declared.faults.FaultKind.TheVariants as fault_kind
+use Rattle.gk_commands.specs.Configuration.{Configuration}
+use Rattle.gk_commands.specs.Reading.{reading_in, MayRead}
 use Rattle.rulings.specs.Events.{PlainEvent, Reloading}
 use Rattle.rulings.specs.declared.replies.Reply.{Reply as CoreReply}
 use Rattle.call_rows.specs.Rows.{SnapshotParts}

@@ -3,9 +3,9 @@ use Rattle.std.specs.Prelude.{ℕ, min, List, [], ◌∷◌, ◌++◌, length, c
 use Rattle.gk_terms.specs.Text.{line_text, raw_lines_of}
 use Rattle.gk_terms.specs.Reason.{word_of}
 use Rattle.gk_terms.specs.declared.reasons.Reason.TheVariants as reason
-use Rattle.command_reader.specs.Printing.{limit_word}
-use Rattle.command_reader.specs.declared.faults.FaultKind.{FaultKind}
-use Rattle.command_reader.specs.declared.faults.FaultKind.TheVariants as kind
+use Rattle.gk_commands.specs.Printing.{limit_word}
+use Rattle.gk_commands.specs.declared.faults.FaultKind.{FaultKind}
+use Rattle.gk_commands.specs.declared.faults.FaultKind.TheVariants as kind
 use Rattle.bandwidth.specs.declared.over.Over.{Over}
 use Rattle.bandwidth.specs.declared.over.Over.TheVariants as overs
 use Rattle.rulings.specs.Routes.{destination_words, route_refusal_word}

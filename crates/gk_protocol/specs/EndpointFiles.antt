@@ -2,8 +2,8 @@
 use Rattle.std.specs.Prelude.{◌≡◌, ◌⊎◌, ℕ, ◌+◌, min, true, List, [], ◌∷◌, ◌++◌, length, Option, Some, None, Result, Ok, Err, IsSome, is_ok, codes, bytes_eq, if◌then◌else◌}
 use Rattle.gk_terms.specs.Text.{words_of, is_too_long}
 use Rattle.gk_terms.specs.declared.limits.TheConstants.{MOST_ENDPOINTS}
-use Rattle.command_reader.specs.declared.commands.Command.{Command}
-use Rattle.command_reader.specs.Line.{is_remark}
+use Rattle.gk_commands.specs.declared.commands.Command.{Command}
+use Rattle.gk_commands.specs.Line.{is_remark}
 use Rattle.registry.specs.declared.faults.RegistryFault.{RegistryFault}
 use Rattle.registry.specs.declared.faults.RegistryFault.TheVariants as registry
 use Rattle.registry.specs.Endpoint.{EndpointParts}

@@ -17,7 +17,7 @@ use admission::{
     AdmitRefusal, ChangeRefusal, Destination, DestinationKind, RegisterRefusal, ReleaseRefusal,
     ReloadRefusal, Reply, UnregisterRefusal,
 };
-use command_reader::LineFault;
+use gk_commands::LineFault;
 use gk_lines::LineBuffer;
 use gk_terms::{Address, Name, Units, Version};
 

@@ -3,7 +3,7 @@
 use crate::report_texts::ReportText;
 use crate::request_faults::RequestFault;
 use admission::Reply as CoreReply;
-use command_reader::LineFault;
+use gk_commands::LineFault;
 
 /// Why there is no trial.
 #[derive(Clone, Copy, Debug, PartialEq, Eq)]

@@ -3,12 +3,13 @@
 ghost use Rattle.std.specs.Prelude.{◌≡◌, [], Ok, OnOk, MatchResult};
 ghost use Rattle.std.specs.Arc.{arc_value};
 ghost use Rattle.gk_terms.specs.Text.{lines_of};
-ghost use Rattle.command_reader.specs.Reading.{reading_in};
+ghost use Rattle.gk_commands.specs.Reading.{reading_in};
 ghost use Rattle.gk_protocol.specs.Answering.{IsNoConfiguration};
 
 use crate::owned_lines::OwnedLines;
-use command_reader::{FaultKind, LineFault, read};
+use command_reader::read;
 use compiler::Tables;
+use gk_commands::{FaultKind, LineFault};
 use std::alloc::{AllocError, AllocFailed, Global};
 use std::sync::Arc;
 

@@ -3,7 +3,7 @@
 ghost use Rattle.std.specs.Prelude.{◌≡◌, ◌≤◌, ◌<◌, ◌∷◌, [], length, codes, decimal};
 ghost use Rattle.gk_terms.specs.Reason.{word_of};
 ghost use Rattle.gk_lines.specs.LineBuffer.{with_words, room_of};
-ghost use Rattle.command_reader.specs.Printing as Limits;
+ghost use Rattle.gk_commands.specs.Printing as Limits;
 ghost use Rattle.rulings.specs.Routes as RouteSpec;
 ghost use Rattle.gk_protocol.specs.Answers as Spec;
 
@@ -13,8 +13,8 @@ use admission::{
     RouteRefusal, UnregisterRefusal,
 };
 use bandwidth::Over;
-use command_reader::{FaultKind, LineFault};
 use compiler::LimitKind;
+use gk_commands::{FaultKind, LineFault};
 use gk_lines::LineBuffer;
 use gk_terms::Reason;
 

@@ -2,7 +2,7 @@
 
 ghost use Rattle.std.specs.Prelude.{◌≡◌, ◌⊎◌, true, Ok, IfOk, MatchResult};
 ghost use Rattle.gk_terms.specs.Text.{lines_of};
-ghost use Rattle.command_reader.specs.Reading.{reading_in};
+ghost use Rattle.gk_commands.specs.Reading.{reading_in};
 ghost use Rattle.trial_run.specs.Report.{report_of};
 ghost use Rattle.trial_run.specs.ReportText.{report_text};
 ghost use Rattle.gk_protocol.specs.Answering.{are_workers, IsNoTrial, TriesOn};

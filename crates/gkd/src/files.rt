@@ -2,10 +2,10 @@
 
 use call_files::{CallsFault, read_calls};
 use call_rows::Snapshot;
-use command_reader::Commands;
 use compiler::Tables;
 use configuration_reader::check;
 use configuration_reader::configuration::ConfigurationFault;
+use gk_commands::Commands;
 use gk_lines::{Noted, ReadFault};
 use gk_protocol::{EndpointsFault, read_endpoints};
 use registry::Registry;

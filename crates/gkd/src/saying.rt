@@ -1,8 +1,8 @@
 //! What the program says of a fault, and with which status it ends.
 
 use crate::files::{Uncompiled, Unknown, Unread};
-use command_reader::LineFault;
 use configuration_reader::configuration::ConfigurationFault;
+use gk_commands::LineFault;
 use std::fmt::Display;
 use std::io;
 use std::process::ExitCode;

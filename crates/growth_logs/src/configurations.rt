@@ -1,8 +1,9 @@
 //! Configurations. Each call that lacks memory is made again.
 
 use crate::logs::Log;
-use command_reader::{Commands, FaultKind, read};
+use command_reader::read;
 use compiler::Tables;
+use gk_commands::{Commands, FaultKind};
 use std::alloc::Global;
 use std::sync::Arc;
 

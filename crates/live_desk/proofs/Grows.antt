@@ -10,7 +10,7 @@ use Rattle.rulings.specs.declared.replies.ReloadRefusal.TheVariants.{NoMemory}
 use Rattle.publisher.proofs.Prefixes.{get_last}
 use Rattle.rulings.specs.declared.replies.Reply.TheVariants.{Reloaded, ReloadRefused}
 use Rattle.rulings.specs.declared.replies.ReloadRefusal.{ReloadRefusal}
-use Rattle.command_reader.specs.declared.commands.Command.{Command}
+use Rattle.gk_commands.specs.declared.commands.Command.{Command}
 use Rattle.rulings.specs.Events.{PlainEvent, Registering, Unregistering, Admitting, Answering, Changing, Releasing, Reloading, put_in_force}
 use Rattle.std.proofs.lemmas.Option.{none-some}
 use Rattle.rulings.specs.declared.replies.Reply.{Reply}

@@ -3,7 +3,7 @@ use Rattle.std.specs.Prelude.{◌≡◌, ◌==◌, ◌-◌, ⊤, Ok, Err, if◌t
 use Rattle.std.specs.Option.{IsSomeAnd}
 use Rattle.std.specs.List.{AllByRecursion, sum_by}
 use mathlib.Core.List.{IsPrefix}
-use Rattle.command_reader.specs.declared.commands.Command.{Command}
+use Rattle.gk_commands.specs.declared.commands.Command.{Command}
 use Rattle.compiler.specs.declared.plans.Routed.{Routed}
 use Rattle.compiler.specs.Plan.{plan_of, target_of}
 use Rattle.rulings.specs.State.{State}

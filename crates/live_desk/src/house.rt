@@ -9,7 +9,7 @@ use std::sync::ledger::Ledger;
 /// another one, since what the parameters of the two stand for differs.
 pub trait House: Ledger + Imprint {
     ghost use Rattle.std.specs.Prelude.{ℕ, List};
-    ghost use Rattle.command_reader.specs.declared.commands.Command.{Command};
+    ghost use Rattle.gk_commands.specs.declared.commands.Command.{Command};
     ghost use Rattle.rulings.specs.declared.limits.Limits.{Limits};
 
     /// All parts of the ledger: one for each seat that there may be.

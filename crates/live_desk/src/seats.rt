@@ -15,8 +15,8 @@ use admission::{
     Event, EventKind, KeptReply, LentEvent, Receipt, Record, ReloadRefusal, Reply, Snapshot,
     receipt_for,
 };
-use command_reader::Commands;
 use compiler::{Routed, Tables};
+use gk_commands::Commands;
 use gk_terms::{Dialled, Version};
 use publisher::{Lost, Reader};
 use std::alloc::{AllocError, Global};

@@ -9,7 +9,7 @@ use Rattle.std.proofs.lemmas.List.{length-take-le, take_all}
 use Rattle.std.proofs.Math.Seq.{take-length}
 use Rattle.gk_terms.specs.Choice.{first_unbeaten}
 use Rattle.gk_terms.specs.Dialled.{IsDialled, is_dialled, is_dialled_byte, dialled_of}
-use Rattle.command_reader.specs.declared.commands.Command.{Command}
+use Rattle.gk_commands.specs.declared.commands.Command.{Command}
 use Rattle.compiler.specs.Technology.{technology_of, prefixes_of, begins_with, is_longer, found_length}
 use Rattle.plan_difference.specs.Blocked.{Blocked, longest_of}
 use Rattle.plan_difference.specs.Walk.{text_of, longer_of, starred}

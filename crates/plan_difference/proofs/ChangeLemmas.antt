@@ -3,7 +3,7 @@ use Rattle.std.proofs.Common.{◌≡◌, ℕ, zero, suc, ◌+◌, ◌<◌, ◌�
 use Rattle.std.specs.Prelude.{Option, Some, None, unwrap_or, IfSome, Result, Ok, Err, OnOk}
 use Rattle.std.specs.Map.{keys_of}
 use Rattle.std.proofs.lemmas.Bool.Decides.{nat_tests}
-use Rattle.command_reader.specs.declared.commands.Command.{Command}
+use Rattle.gk_commands.specs.declared.commands.Command.{Command}
 use Rattle.gk_terms.specs.Dialled.{IsDialled}
 use Rattle.plan_difference.specs.declared.number_sets.NumberSet.{NumberSet}
 use Rattle.plan_difference.specs.Difference.{AreClasses, IsDifference, IsCovered, SamePlan, StandsAt}

@@ -6,7 +6,7 @@ use Rattle.std.specs.List.{list_all}
 use Rattle.std.proofs.lemmas.Bool.{eqb-true}
 use Rattle.std.proofs.lemmas.Bool.Decides.{nat_tests}
 use Rattle.digit_patterns.specs.PatternParts.{PatternParts, IsPattern}
-use Rattle.command_reader.specs.declared.commands.Command.{Command}
+use Rattle.gk_commands.specs.declared.commands.Command.{Command}
 use Rattle.compiler.specs.Technology.{found_length}
 use Rattle.plan_difference.specs.Blocked.{Blocked, BlockedBelow, IsFound, IsTried, IsChosen, AreChosen, has_length, literals_at}
 use Rattle.plan_difference.specs.Gathered.{Has}

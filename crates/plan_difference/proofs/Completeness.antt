@@ -10,7 +10,7 @@ use Rattle.std.proofs.lemmas.List.{length-replicate}
 use Rattle.std.proofs.lemmas.List.Folds.{list_any-append}
 use Rattle.gk_terms.specs.Dialled.{IsDialled, is_dialled_byte}
 use Rattle.digit_patterns.specs.PatternParts.{PatternParts}
-use Rattle.command_reader.specs.declared.commands.Command.{Command}
+use Rattle.gk_commands.specs.declared.commands.Command.{Command}
 use Rattle.compiler.specs.Rows.{ZoneRow, rows_of, row_for}
 use Rattle.compiler.specs.Technology.{technology_of, prefixes_of, longest_beginning, found_length}
 use Rattle.compiler.specs.TablesIndex.{is_among}

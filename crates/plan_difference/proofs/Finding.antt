@@ -1,7 +1,7 @@
 -- What is found of technology prefixes.
 use Rattle.std.proofs.Common.{◌≡◌, ℕ, ◌≤◌, true, List, length, arith}
 use Rattle.std.specs.Prelude.{Option, Some, None}
-use Rattle.command_reader.specs.declared.commands.Command.{Command}
+use Rattle.gk_commands.specs.declared.commands.Command.{Command}
 use Rattle.compiler.specs.Technology.{technology_of, prefixes_of, begins_with, found_length}
 use Rattle.compiler.specs.TablesIndex.{is_among}
 use Rattle.compiler.proofs.TechnologyLemmas.{begins_within}

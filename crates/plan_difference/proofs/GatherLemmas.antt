@@ -27,7 +27,7 @@ use Rattle.std.specs.Bool.{then_some}
 use Rattle.gk_terms.specs.Dialled.{dialled_of, is_dialled_byte}
 use Rattle.gk_terms.specs.TechPrefix.{IsTechPrefix, is_technology_byte}
 use Rattle.digit_patterns.specs.PatternParts.{PatternParts, IsPattern}
-use Rattle.command_reader.specs.declared.commands.Command.{Command}
+use Rattle.gk_commands.specs.declared.commands.Command.{Command}
 use Rattle.compiler.specs.Rows.{ZoneRow, rows_of, row_of}
 use Rattle.compiler.specs.Technology.{prefixes_of, prefix_in}
 use Rattle.compiler.proofs.StepLemmas.{one_or_none, filter_map-more}

@@ -1,6 +1,6 @@
 -- The technology prefixes of the joint group.
 use Rattle.std.proofs.Common.{◌≡◌, List, filter, slice_get, sym, ap, ◌∙◌}
-use Rattle.command_reader.specs.declared.commands.Command.{Command}
+use Rattle.gk_commands.specs.declared.commands.Command.{Command}
 use Rattle.plan_difference.specs.Blocked.{IsStarless, AreJoint}
 use Rattle.plan_difference.specs.Gathered.{is_joint_head, HasPrefixes, AreClean}
 use Rattle.plan_difference.specs.Walk.{Heads}

@@ -7,7 +7,7 @@ use Rattle.std.proofs.lemmas.Bool.Decides.{nat_tests}
 use Rattle.std.proofs.lemmas.List.{length-replicate}
 use Rattle.gk_terms.specs.Dialled.{IsDialled, is_dialled_byte}
 use Rattle.digit_patterns.specs.PatternParts.{PatternParts}
-use Rattle.command_reader.specs.declared.commands.Command.{Command}
+use Rattle.gk_commands.specs.declared.commands.Command.{Command}
 use Rattle.compiler.specs.Technology.{technology_of, found_length}
 use Rattle.compiler.proofs.TechnologyLemmas.{begins_within}
 use Rattle.plan_difference.specs.Blocked.{longest_of, Blocked, IsFree, IsStarless, IsChosen, AreChosen, AreJoint, literals_at}

@@ -3,7 +3,7 @@
 use Rattle.std.proofs.Common.{◌≡◌, ℕ, zero, suc, ◌≤◌, Bool, true, false, cond, List, [], ◌∷◌, ◌++◌, length, drop, slice_get, refl, sym, ap, ◌∙◌, arith}
 use Rattle.std.specs.Prelude.{Option, Some, None, option_map, option_and_then, replicate}
 use Rattle.gk_terms.specs.Choice.{first_unbeaten}
-use Rattle.command_reader.specs.declared.commands.Command.{Command}
+use Rattle.gk_commands.specs.declared.commands.Command.{Command}
 use Rattle.compiler.specs.Rows.{ZoneRow, rows_of, row_for, row_of_pattern}
 use Rattle.compiler.specs.Technology.{technology_of, prefixes_of, begins_with, is_longer, found_length}
 use Rattle.plan_difference.specs.Sets.{hops_off, row_after, pattern_used}

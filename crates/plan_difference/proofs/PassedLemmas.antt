@@ -7,7 +7,7 @@ use Rattle.std.proofs.lemmas.Bool.{eqb-true}
 use Rattle.std.proofs.lemmas.List.{take_all, get_or-set_same, get_or-set_other}
 use Rattle.std.proofs.lemmas.List.Sorted.{Contains-permutation, IsPermutation-sym}
 use Rattle.std.proofs.lemmas.Option.{get_or_from_slice_get, slice_get-get_or}
-use Rattle.command_reader.specs.declared.commands.Command.{Command}
+use Rattle.gk_commands.specs.declared.commands.Command.{Command}
 use Rattle.plan_difference.specs.Blocked.{Blocked, BlockedBefore, ArePassed, AreKept, AreRaised, AreRising, IsFound, IsFreeOrLong, IsTried, IsKept, IsRaised, one_more}
 use Rattle.plan_difference.specs.Walk.{Heads}
 use Rattle.plan_difference.proofs.BlockedLemmas.{blocked_more}

@@ -5,10 +5,10 @@ use Rattle.std.specs.Cmp.Lexicographic.{same_text}
 use Rattle.gk_terms.specs.Address.{AddressParts}
 use Rattle.digit_patterns.specs.PatternParts.{PatternParts}
 use Rattle.digit_patterns.specs.Table.{best_of}
-use Rattle.command_reader.specs.declared.commands.Command.{Command}
-use Rattle.command_reader.specs.declared.zones.ZoneKind.{ZoneKind}
-use Rattle.command_reader.specs.declared.zones.ZoneKind.TheVariants as kinds
-use Rattle.command_reader.specs.Zones.{zone_of}
+use Rattle.gk_commands.specs.declared.commands.Command.{Command}
+use Rattle.gk_commands.specs.declared.zones.ZoneKind.{ZoneKind}
+use Rattle.gk_commands.specs.declared.zones.ZoneKind.TheVariants as kinds
+use Rattle.gk_commands.specs.Zones.{zone_of}
 use Rattle.compiler.specs.Pick.{picked}
 use Rattle.compiler.specs.Plan.{Target, RemoteZone, LocalZone, CallersZone, UnknownPrefix, plan_of, target_in, by_row, by_technology, by_hopoff, rejects_unknown}
 use Rattle.compiler.specs.Rows.{ZoneRow, rows_of, row_for, row_of_pattern, zones_for}

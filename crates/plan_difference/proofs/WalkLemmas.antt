@@ -6,7 +6,7 @@ use Rattle.std.specs.Cmp.Lexicographic.{pointwise}
 use Rattle.std.proofs.lemmas.Bool.Decides.{nat_tests}
 use Rattle.gk_terms.specs.Dialled.{IsDialled, is_dialled, dialled_of}
 use Rattle.digit_patterns.specs.PatternParts.{PatternParts}
-use Rattle.command_reader.specs.declared.commands.Command.{Command}
+use Rattle.gk_commands.specs.declared.commands.Command.{Command}
 use Rattle.compiler.specs.Technology.{technology_of, found_length}
 use Rattle.plan_difference.specs.declared.number_sets.Group.{Group}
 use Rattle.plan_difference.specs.Entries.{Entries, Grows, IsEntered, group_of}

@@ -2,7 +2,7 @@
 use Rattle.std.specs.Prelude.{◌≡◌, ℕ, ◌+◌, ◌==◌, ◌||◌, ◌<◌, ◌≤◌, Bool, true, if◌then◌else◌, List, [], ◌++◌, length, take, slice_get, slice_index_or, Option, Some, None, option_map, unwrap_or, ◌⊎◌}
 use Rattle.gk_terms.specs.Dialled.{IsDialled}
 use Rattle.digit_patterns.specs.PatternParts.{PatternParts}
-use Rattle.command_reader.specs.declared.commands.Command.{Command}
+use Rattle.gk_commands.specs.declared.commands.Command.{Command}
 use Rattle.compiler.specs.Technology.{prefixes_of, technology_of, found_length}
 use Rattle.plan_difference.specs.Gathered.{Has, is_joint_head, has_no_star}
 use Rattle.plan_difference.specs.Walk.{Heads, text_of, longer_of}

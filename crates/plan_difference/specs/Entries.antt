@@ -3,7 +3,7 @@ use Rattle.std.specs.Prelude.{◌≡◌, ℕ, Bool, true, false, ◌&&◌, List,
 use Rattle.std.specs.Map.{lookup}
 use Rattle.std.specs.Option.{option_eq}
 use Rattle.digit_patterns.specs.Pattern.{same_pattern}
-use Rattle.command_reader.specs.declared.commands.Command.{Command}
+use Rattle.gk_commands.specs.declared.commands.Command.{Command}
 use Rattle.plan_difference.specs.declared.number_sets.NumberSet.{NumberSet}
 use Rattle.plan_difference.specs.declared.number_sets.Group.{Group}
 use Rattle.plan_difference.specs.Difference.{SamePlan}

@@ -2,7 +2,7 @@
 use Rattle.std.specs.Prelude.{◌≡◌, ℕ, true, List, [], slice_get, Option, Some, None, cond, ◌==◌, false, Bool, Contains, option_map}
 use Rattle.std.specs.List.{list_all, filter_map}
 use Rattle.digit_patterns.specs.PatternParts.{PatternParts}
-use Rattle.command_reader.specs.declared.commands.Command.{Command}
+use Rattle.gk_commands.specs.declared.commands.Command.{Command}
 use Rattle.compiler.specs.Rows.{ZoneRow, rows_of, row_of}
 use Rattle.compiler.specs.Technology.{prefixes_of, technology_of}
 use Rattle.plan_difference.specs.declared.number_sets.Group.{Group}

@@ -1,7 +1,7 @@
 -- What a set says of the plans of its digits.
 use Rattle.std.specs.Prelude.{◌≡◌, ℕ, List, Option, option_and_then}
 use Rattle.digit_patterns.specs.PatternParts.{PatternParts}
-use Rattle.command_reader.specs.declared.commands.Command.{Command}
+use Rattle.gk_commands.specs.declared.commands.Command.{Command}
 use Rattle.compiler.specs.Plan.{plan_of}
 use Rattle.compiler.specs.Rows.{ZoneRow, row_of_pattern}
 use Rattle.compiler.specs.Technology.{technology_of}

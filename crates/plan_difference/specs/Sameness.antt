@@ -1,6 +1,6 @@
 -- Whether a gateway has the same priority in two configurations, as a test.
 use Rattle.std.specs.Prelude.{ℕ, ◌==◌, Bool, List, Option, None, unwrap_or}
-use Rattle.command_reader.specs.declared.commands.Command.{Command}
+use Rattle.gk_commands.specs.declared.commands.Command.{Command}
 use Rattle.compiler.specs.Plan.{row_meant}
 use Rattle.compiler.specs.Priority.{priority_of}
 use Rattle.compiler.specs.Rows.{ZoneRow}

@@ -3,8 +3,8 @@
 use Rattle.std.specs.Prelude.{◌≡◌, ℕ, Bool, true, false, ◌&&◌, not, List, drop, Option, Some, None, option_map, is_some, bytes_eq, if◌then◌else◌}
 use Rattle.gk_terms.specs.Dialled.{IsDialled}
 use Rattle.digit_patterns.specs.PatternParts.{PatternParts}
-use Rattle.command_reader.specs.declared.commands.Command.{Command}
-use Rattle.command_reader.specs.Zones.{zone_of}
+use Rattle.gk_commands.specs.declared.commands.Command.{Command}
+use Rattle.gk_commands.specs.Zones.{zone_of}
 use Rattle.compiler.specs.Pick.{picked}
 use Rattle.compiler.specs.Plan.{Target, target_in, by_row}
 use Rattle.compiler.specs.Rows.{ZoneRow, row_for}

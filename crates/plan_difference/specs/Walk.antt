@@ -3,7 +3,7 @@
 use Rattle.std.specs.Prelude.{◌≡◌, ℕ, ◌<◌, false, nat_lt, List, [], ◌∷◌, ◌++◌, length, drop, replicate, slice_get, Option, Some, None, ⊤, if◌then◌else◌}
 use Rattle.gk_terms.specs.Dialled.{IsDialled}
 use Rattle.digit_patterns.specs.PatternParts.{PatternParts}
-use Rattle.command_reader.specs.declared.commands.Command.{Command}
+use Rattle.gk_commands.specs.declared.commands.Command.{Command}
 use Rattle.compiler.specs.Technology.{technology_of, found_length}
 use Rattle.plan_difference.specs.declared.number_sets.Group.{Group}
 use Rattle.plan_difference.specs.Entries.{Entries, IsEntered, group_of}

@@ -1,7 +1,7 @@
 //! Where a plan leads, in words that two configurations have in common.
 
 ghost use Rattle.std.specs.Prelude.{◌≡◌, ◌<◌, IfSome, IsSome, Some, length, false};
-ghost use Rattle.command_reader.specs.Zones.{zones_of};
+ghost use Rattle.gk_commands.specs.Zones.{zones_of};
 ghost use Rattle.compiler.specs.Plan.{target_of};
 ghost use Rattle.compiler.specs.Zones.{view_at};
 ghost use Rattle.plan_difference.specs.Destination.{destination_of};

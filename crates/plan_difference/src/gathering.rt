@@ -5,9 +5,9 @@ ghost use Rattle.compiler.specs.Technology.{prefixes_of, prefix_in};
 ghost use Rattle.plan_difference.specs.Gathered.{HasPatterns, HasPrefixes, Has, KeepsAll, pattern_in, patterns_of};
 ghost use Rattle.plan_difference.specs.Order.{IsEachOnce};
 
-use command_reader::Command;
 use compiler::Tables;
 use digit_patterns::Pattern;
+use gk_commands::Command;
 use gk_terms::TechPrefix;
 use std::alloc::{AllocError, Global};
 

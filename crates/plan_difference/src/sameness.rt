@@ -4,7 +4,7 @@ ghost use Rattle.std.specs.Prelude.{◌≡◌, ◌↔◌, List, IfSome, IsSome, 
 ghost use Rattle.std.specs.List.{list_all};
 ghost use Rattle.std.specs.Map.{keys_of};
 ghost use Rattle.std.specs.Option.{option_copied};
-ghost use Rattle.command_reader.specs.declared.commands.Command.{Command};
+ghost use Rattle.gk_commands.specs.declared.commands.Command.{Command};
 ghost use Rattle.compiler.specs.Plan.{target_of, row_meant};
 ghost use Rattle.compiler.specs.Priority.{entries_of};
 ghost use Rattle.plan_difference.specs.Difference.{Same, SamePlan, SamePriorities, Tells};

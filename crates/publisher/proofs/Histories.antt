@@ -5,7 +5,7 @@ use Rattle.std.proofs.lemmas.List.Elements.{filter_map-append}
 use Rattle.std.proofs.lemmas.List.Sums.{fold-append}
 use mathlib.Core.List.{IsPrefix}
 use native.Mathlib.Decide.{dec_le}
-use Rattle.command_reader.specs.declared.commands.Command.{Command}
+use Rattle.gk_commands.specs.declared.commands.Command.{Command}
 use Rattle.publisher.specs.declared.entries.Entry.{Entry}
 use Rattle.std.specs.Arc.{arc_value}
 use Rattle.publisher.specs.declared.publications.Publication.{Publication}

@@ -7,7 +7,7 @@ use lib.ListN.{get_elem?}
 use Rattle.crossbeam_utils.specs.Register.{Admits, TurnsAt, Turns}
 use Rattle.atomic_table.proofs.Lists.{at_set, at_snoc}
 use Rattle.logbook.specs.Pages.{Book}
-use Rattle.command_reader.specs.declared.commands.Command.{Command}
+use Rattle.gk_commands.specs.declared.commands.Command.{Command}
 use Rattle.publisher.specs.declared.publications.Publication.{Publication}
 use Rattle.publisher.specs.Publications.{list_of}
 use Rattle.publisher.specs.Showing.{AllBegin}

@@ -1,7 +1,7 @@
 -- Lists of generations: the commands of each configuration that was put in force, the opening one
 -- first. Version n is the nth. This project's profile.
 use Rattle.std.specs.Prelude.{ℕ, ◌-◌, List, [], slice_index_or}
-use Rattle.command_reader.specs.declared.commands.Command.{Command}
+use Rattle.gk_commands.specs.declared.commands.Command.{Command}
 
 -- what a reader knows
 pub record Known : Type 0 where

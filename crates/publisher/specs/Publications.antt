@@ -1,7 +1,7 @@
 -- What a publication stands for while it is shown.
 use Rattle.std.specs.Prelude.{List, [], ◌∷◌, ◌++◌}
 use Rattle.std.specs.Arc.{arc_value}
-use Rattle.command_reader.specs.declared.commands.Command.{Command}
+use Rattle.gk_commands.specs.declared.commands.Command.{Command}
 use Rattle.publisher.specs.declared.publications.Publication.{Publication}
 use Rattle.publisher.specs.declared.entries.Entry.{Entry}
 use Rattle.publisher.specs.History.{confirmation_of, shown_by}

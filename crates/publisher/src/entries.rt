@@ -1,7 +1,7 @@
 //! The history of publications. It exists in proofs alone: at run time it is one word, its length.
 
-use command_reader::Command;
 use compiler::Tables;
+use gk_commands::Command;
 use logbook::{Gain, Plain, Play, Rule};
 use std::snapshot::Snapshot;
 

@@ -8,8 +8,8 @@ ghost use Rattle.publisher.specs.History.{draft_of, generations_in, last_of, sho
 use crate::blanks::Imprint;
 use crate::entries::{Entry, Law};
 use crate::fronts::{Front, Stem};
-use command_reader::Command;
 use compiler::Tables;
+use gk_commands::Command;
 use gk_terms::Version;
 use left_right::Absorb;
 use logbook::Seen;

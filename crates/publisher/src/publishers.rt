@@ -46,7 +46,7 @@ pub struct Publisher<J: Imprint> {
 impl<J: Imprint> Model for Publisher<J> {
     ghost use Rattle.std.specs.Prelude.{◌≡◌, List, length};
     ghost use mathlib.Core.List.{IsPrefix};
-    ghost use Rattle.command_reader.specs.declared.commands.Command.{Command};
+    ghost use Rattle.gk_commands.specs.declared.commands.Command.{Command};
     ghost use Rattle.publisher.specs.History.{generations_in};
     ghost use Rattle.publisher.specs.Publications.{confirmed_by, list_of};
 

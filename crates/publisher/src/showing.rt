@@ -2,8 +2,8 @@
 
 use crate::blanks::Imprint;
 use crate::publications::Publication;
-use command_reader::Command;
 use crossbeam_utils::rule::{Outcome, Protocol};
+use gk_commands::Command;
 use left_right::reader::Reader;
 use left_right::writer::Writer;
 use std::marker::PhantomData;

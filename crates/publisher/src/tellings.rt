@@ -14,7 +14,7 @@ pub struct Told<J: Imprint> {
 
 impl<J: Imprint> Model for Told<J> {
     ghost use Rattle.std.specs.Prelude.{◌≡◌, List, true};
-    ghost use Rattle.command_reader.specs.declared.commands.Command.{Command};
+    ghost use Rattle.gk_commands.specs.declared.commands.Command.{Command};
     ghost use Rattle.publisher.specs.History.{generations_in, is_in_force};
 
     ghost Value = { List (List Command) };

@@ -13,9 +13,9 @@ use Rattle.std.proofs.lemmas.List.Filters.{length-filter_both}
 use Rattle.std.proofs.lemmas.List.Folds.{find_at}
 use Rattle.std.proofs.lemmas.Map.Keys.{le_from_not_gt}
 use Rattle.std.proofs.lemmas.Option.{none-some, same_Some}
-use Rattle.command_reader.specs.declared.commands.Command.{Command}
-use Rattle.command_reader.specs.declared.zones.ZoneKind.{ZoneKind}
-use Rattle.command_reader.specs.Zones.{is_local, is_local_option, zones_of}
+use Rattle.gk_commands.specs.declared.commands.Command.{Command}
+use Rattle.gk_commands.specs.declared.zones.ZoneKind.{ZoneKind}
+use Rattle.gk_commands.specs.Zones.{is_local, is_local_option, zones_of}
 use Rattle.compiler.specs.declared.zones.ZoneView.{ZoneView}
 use Rattle.compiler.specs.Zones.{number_in, view_of, view_of_name, zone_at}
 use Rattle.registry.specs.Endpoint.{EndpointParts}

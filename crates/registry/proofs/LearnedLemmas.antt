@@ -15,8 +15,8 @@ use Rattle.std.proofs.lemmas.List.{take-take}
 use Rattle.std.proofs.lemmas.Option.{none-some, same_Some}
 use Rattle.std.proofs.lemmas.List.Folds.{list_any-append}
 use Rattle.gk_terms.specs.TechPrefix.{is_tech_prefix}
-use Rattle.command_reader.specs.declared.commands.Command.{Command}
-use Rattle.command_reader.specs.Zones.{is_local}
+use Rattle.gk_commands.specs.declared.commands.Command.{Command}
+use Rattle.gk_commands.specs.Zones.{is_local}
 use Rattle.compiler.specs.Technology.{begins_with, longest_learned}
 use Rattle.compiler.specs.TablesIndex.{is_among}
 use Rattle.compiler.proofs.LearnedLemmas.{among_filter, longest_from, none_from}

@@ -4,8 +4,8 @@ use Rattle.std.specs.Prelude.{Option, Some, None, Result, Ok, Err, if◌then◌e
 use Rattle.std.specs.List.{position_or_len}
 use Rattle.std.proofs.lemmas.Bool.{both_ways}
 use Rattle.std.proofs.lemmas.Bool.Decides.{nat_tests}
-use Rattle.command_reader.specs.declared.commands.Command.{Command}
-use Rattle.command_reader.specs.Zones.{is_local}
+use Rattle.gk_commands.specs.declared.commands.Command.{Command}
+use Rattle.gk_commands.specs.Zones.{is_local}
 use Rattle.compiler.specs.Zones.{zone_meant, local_zone}
 use Rattle.registry.specs.declared.faults.Duplicate.TheVariants.{Id, E164}
 use Rattle.registry.specs.declared.faults.PlacementFault.{PlacementFault}

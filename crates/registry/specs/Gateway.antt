@@ -2,7 +2,7 @@
 -- equal priority the one that registered first. This project's profile.
 use Rattle.std.specs.Prelude.{◌≡◌, ◌<◌, ◌≤◌, ℕ, Bool, true, false, ◌&&◌, nat_lt, IsTrue, List, filter, slice_get, Option, Some, bytes_eq}
 use Rattle.gk_terms.specs.Choice.{first_unbeaten}
-use Rattle.command_reader.specs.declared.commands.Command.{Command}
+use Rattle.gk_commands.specs.declared.commands.Command.{Command}
 use Rattle.compiler.specs.Rows.{ZoneRow}
 use Rattle.compiler.specs.Priority.{priority_of}
 use Rattle.registry.specs.declared.endpoints.EndpointKind.{EndpointKind}

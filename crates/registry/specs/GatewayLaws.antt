@@ -1,6 +1,6 @@
 -- The gateway that is computed is the one that the relation names.
 use Rattle.std.specs.Prelude.{◌≡◌, ℕ, false, List, slice_get, Option, Some, None}
-use Rattle.command_reader.specs.declared.commands.Command.{Command}
+use Rattle.gk_commands.specs.declared.commands.Command.{Command}
 use Rattle.compiler.specs.Rows.{ZoneRow}
 use Rattle.compiler.specs.Priority.{priority_of}
 use Rattle.registry.specs.Endpoint.{EndpointParts}

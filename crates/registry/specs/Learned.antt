@@ -1,6 +1,6 @@
 -- Technology prefixes that are learned from registered gateways. This project's profile.
 use Rattle.std.specs.Prelude.{ℕ, Bool, nat_lt, List, [], length, filter, flat_map, if◌then◌else◌}
-use Rattle.command_reader.specs.declared.commands.Command.{Command}
+use Rattle.gk_commands.specs.declared.commands.Command.{Command}
 use Rattle.registry.specs.Endpoint.{EndpointParts}
 use Rattle.registry.specs.Gateway.{is_gateway}
 use Rattle.registry.specs.Registration.{kept_zones}

@@ -2,8 +2,8 @@
 use Rattle.std.specs.Prelude.{◌≡◌, ◌≤◌, ℕ, ◌+◌, ◌==◌, Bool, true, not, ◌&&◌, nat_le, List, ◌∷◌, ◌++◌, length, take, drop, slice_get, find, filter, Option, Some, None, Result, Ok, Err, bytes_eq, if◌then◌else◌}
 use Rattle.std.specs.List.{list_any, position_or_len}
 use Rattle.gk_terms.specs.Address.{AddressParts}
-use Rattle.command_reader.specs.declared.commands.Command.{Command}
-use Rattle.command_reader.specs.Zones.{is_local}
+use Rattle.gk_commands.specs.declared.commands.Command.{Command}
+use Rattle.gk_commands.specs.Zones.{is_local}
 use Rattle.compiler.specs.Zones.{zone_meant}
 use Rattle.registry.specs.declared.faults.Duplicate.{Duplicate}
 use Rattle.registry.specs.declared.faults.Duplicate.TheVariants.{Id, E164}

@@ -1,7 +1,7 @@
 //! Which endpoints stay when there are other zones.
 
 ghost use Rattle.std.specs.Prelude.{◌≡◌};
-ghost use Rattle.command_reader.specs.Zones.{is_local};
+ghost use Rattle.gk_commands.specs.Zones.{is_local};
 ghost use Rattle.registry.specs.Registration.{kept_zones};
 ghost use Rattle.registry.specs.NumberedEndpoints.{endpoints_of};
 

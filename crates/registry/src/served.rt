@@ -2,7 +2,7 @@
 
 ghost use Rattle.std.specs.Prelude.{◌≡◌, ◌≤◌, ℕ, List, [], length, true, false, Some, OnOk, OnErr, IsOk, IfSome, MatchOption, is_some};
 ghost use Rattle.std.specs.Option.{option_copied};
-ghost use Rattle.command_reader.specs.Zones.{is_local};
+ghost use Rattle.gk_commands.specs.Zones.{is_local};
 ghost use Rattle.gk_terms.specs.TechPrefix.{is_tech_prefix};
 ghost use Rattle.registry.specs.Gateway.{is_gateway};
 ghost use Rattle.registry.specs.NumberedEndpoints.{at_number};

@@ -3,7 +3,7 @@
 ghost use Rattle.std.specs.Prelude.{◌≡◌, ◌≤◌, [], true, false, IfOk, OnOk, OnErr, MatchOption};
 ghost use Rattle.std.specs.List.{list_any};
 ghost use Rattle.std.specs.Map.{keys_of};
-ghost use Rattle.command_reader.specs.Zones.{is_local};
+ghost use Rattle.gk_commands.specs.Zones.{is_local};
 ghost use Rattle.registry.specs.Served.{IsLeastFrom, KeepsOthers, NoneServesIn, PutsIn, SomeServes, found_empty, kept_for, lists_none, serves_in};
 
 use crate::gateway_numbers::GatewayNumbers;

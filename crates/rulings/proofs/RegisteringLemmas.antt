@@ -7,7 +7,7 @@ use Rattle.registry.specs.declared.faults.PlacementFault.{PlacementFault}
 use Rattle.registry.specs.declared.faults.PlacementFault.TheVariants as faults
 use Rattle.registry.specs.declared.faults.RegistryFault.TheVariants.{NotRegistered}
 use Rattle.registry.specs.declared.faults.Duplicate.TheVariants.{Id, E164}
-use Rattle.command_reader.specs.Zones.{is_local}
+use Rattle.gk_commands.specs.Zones.{is_local}
 use Rattle.compiler.specs.Zones.{zone_meant}
 use Rattle.rulings.specs.State.{State}
 use Rattle.rulings.specs.Ruling.{register_refusal}

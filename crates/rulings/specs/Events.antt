@@ -1,7 +1,7 @@
 -- Events as plain values: what a core is asked, and what an entry and a receipt name of it.
 use Rattle.std.specs.Prelude.{ℕ, List, Option, Some, None}
 use Rattle.std.specs.Arc.{arc_value}
-use Rattle.command_reader.specs.declared.commands.Command.{Command}
+use Rattle.gk_commands.specs.declared.commands.Command.{Command}
 use Rattle.registry.specs.Endpoint.{EndpointParts}
 use Rattle.rulings.specs.declared.events.Event.{Event}
 use Rattle.rulings.specs.declared.events.Event.TheVariants as events

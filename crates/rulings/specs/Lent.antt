@@ -1,6 +1,6 @@
 -- Rulings and routes that lend what they name: what each means.
 use Rattle.std.specs.Prelude.{◌≡◌, ℕ, true, List, Some, None, ⊤}
-use Rattle.command_reader.specs.declared.commands.Command.{Command}
+use Rattle.gk_commands.specs.declared.commands.Command.{Command}
 use Rattle.compiler.specs.declared.plans.Plan.{Plan}
 use Rattle.compiler.specs.Plan.{plan_of, target_of}
 use Rattle.gk_terms.specs.Address.{AddressParts}

@@ -1,7 +1,7 @@
 -- Where a call goes: the target of its digits, and then an endpoint of the target zone. This
 -- project's profile, after Cisco's flow for an admission request.
 use Rattle.std.specs.Prelude.{ℕ, List, Option, Some, None, option_map}
-use Rattle.command_reader.specs.declared.commands.Command.{Command}
+use Rattle.gk_commands.specs.declared.commands.Command.{Command}
 use Rattle.compiler.specs.Rows.{ZoneRow}
 use Rattle.compiler.specs.Technology.{default_technology_of}
 use Rattle.compiler.specs.Plan.{Target, RemoteZone, LocalZone, CallersZone, UnknownPrefix, plan_with, zone_of_target}

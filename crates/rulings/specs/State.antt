@@ -1,6 +1,6 @@
 -- The state of a running core, except its record.
 use Rattle.std.specs.Prelude.{ℕ, ◌-◌, List, [], length}
-use Rattle.command_reader.specs.declared.commands.Command.{Command}
+use Rattle.gk_commands.specs.declared.commands.Command.{Command}
 use Rattle.bandwidth.specs.declared.open_call.OpenCall.{OpenCall}
 use Rattle.rulings.specs.declared.limits.Limits.{Limits}
 use Rattle.registry.specs.Endpoint.{EndpointParts}

@@ -1,7 +1,7 @@
 -- One event is one step: its ruling, then the refusals by a count, then what the ruling changes.
 use Rattle.std.specs.Prelude.{ℕ, ◌+◌, Bool, true, false, not, ◌&&◌, nat_lt, nat_le, List, length, Option, Some, None, if◌then◌else◌}
 use Rattle.registry.specs.Endpoint.{EndpointParts}
-use Rattle.command_reader.specs.declared.commands.Command.{Command}
+use Rattle.gk_commands.specs.declared.commands.Command.{Command}
 use Rattle.registry.specs.Registration.{with_endpoint, without_endpoint, is_registered, kept_zones}
 use Rattle.bandwidth.specs.Calls.{with_call, without_call, with_changed}
 use Rattle.std.specs.Option.{option_and_then}

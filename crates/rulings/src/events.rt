@@ -1,7 +1,7 @@
 //! Events: what a core is asked.
 
 ghost use Rattle.std.specs.Prelude.{◌≡◌, IfSome};
-ghost use Rattle.command_reader.specs.Accepted.{IsAccepted};
+ghost use Rattle.gk_commands.specs.Accepted.{IsAccepted};
 ghost use Rattle.rulings.specs.Events.{plain, event_meant, put_in_force};
 
 use compiler::Tables;

@@ -2,7 +2,7 @@
 
 ghost use Rattle.std.specs.Prelude.{◌≡◌, ℕ, List, Some, None, IfSome, IsSome, nat_lt, length, option_and_then};
 ghost use Rattle.std.specs.Option.{option_copied};
-ghost use Rattle.command_reader.specs.declared.commands.Command.{Command};
+ghost use Rattle.gk_commands.specs.declared.commands.Command.{Command};
 ghost use Rattle.compiler.specs.Plan as Plans;
 ghost use Rattle.compiler.specs.Zones.{zone_at};
 ghost use Rattle.compiler.specs.Technology.{default_technology_of, found_length};

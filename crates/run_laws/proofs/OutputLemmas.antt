@@ -2,9 +2,9 @@
 -- lasts and threads are started.
 use Rattle.std.proofs.Common.{◌≡◌, ℕ, Bool, true, false, cond, List, [], ◌∷◌, ◌++◌, refl, sym, ap, subst, ◌∙◌, ⊎_elim, inl, inr}
 use Rattle.std.specs.Prelude.{◌≢◌, ◌⊎◌, Option, Some, None, Result, Ok, Err, MatchBool, option_map}
-use Rattle.command_reader.specs.declared.faults.LineFault.{LineFault}
-use Rattle.command_reader.specs.Configuration.{Configuration}
-use Rattle.command_reader.specs.Reading.{reading_in}
+use Rattle.gk_commands.specs.declared.faults.LineFault.{LineFault}
+use Rattle.gk_commands.specs.Configuration.{Configuration}
+use Rattle.gk_commands.specs.Reading.{reading_in}
 use Rattle.rulings.specs.declared.limits.Limits.{Limits}
 use Rattle.rulings.specs.Events.{PlainEvent, Reloading}
 use Rattle.rulings.specs.Lacks.{no_memory_reply_of}

@@ -3,8 +3,8 @@ use Rattle.std.proofs.Common.{refl}
 use Rattle.std.specs.Fmt.{digits}
 use Rattle.csv.specs.Writing.{escaped, fields_text, is_blank}
 use Rattle.compiler.specs.Plan.{plan_with}
-use Rattle.command_reader.specs.Line.{command_of}
-use Rattle.command_reader.specs.Reading.{line_after}
+use Rattle.gk_commands.specs.Line.{command_of}
+use Rattle.gk_commands.specs.Reading.{line_after}
 use Rattle.rulings.specs.Routing.{route_of}
 use Rattle.bandwidth.specs.Fits.{over_of}
 use Rattle.rulings.specs.Ruling.{ruling_of}

@@ -1,8 +1,8 @@
 -- The figures that the definitions use, as the documents state them.
 use Rattle.std.specs.Prelude.{◌≡◌}
 use Rattle.gk_terms.specs.declared.limits.TheConstants.{MOST_LINE_BYTES, MOST_LINES, MOST_ZONES, MOST_ALIASES, MOST_TECHNOLOGIES, MOST_SEQUENCE, MOST_NAME_BYTES, MOST_DIALLED, MOST_TECHNOLOGY}
-use Rattle.command_reader.specs.declared.bandwidth_lines.TheConstants.{MOST_KBPS, MOST_SESSION_KBPS}
-use Rattle.command_reader.specs.declared.zone_lines.TheConstants.{DEFAULT_RAS_PORT, DEFAULT_COST, DEFAULT_PRIORITY}
+use Rattle.gk_commands.specs.declared.numbers.TheConstants.{MOST_KBPS, MOST_SESSION_KBPS}
+use Rattle.gk_commands.specs.declared.numbers.TheConstants.{DEFAULT_RAS_PORT, DEFAULT_COST, DEFAULT_PRIORITY}
 use Rattle.compiler.specs.declared.plans.TheConstants.{DEFAULT_GATEWAY_PRIORITY}
 use Rattle.gk_protocol.specs.declared.request_fields.TheConstants.{SIGNALLING_PORT}
 

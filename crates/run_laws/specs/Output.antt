@@ -1,8 +1,8 @@
 -- What a run writes if memory lasts and threads are started, computed.
 use Rattle.std.specs.Prelude.{◌≡◌, ◌≢◌, ℕ, List, [], ◌∷◌, ◌++◌, Option, Some, Result, Ok, Err, option_map, flat_map, if◌then◌else◌}
-use Rattle.command_reader.specs.declared.faults.LineFault.{LineFault}
-use Rattle.command_reader.specs.Configuration.{Configuration}
-use Rattle.command_reader.specs.Reading.{reading_in}
+use Rattle.gk_commands.specs.declared.faults.LineFault.{LineFault}
+use Rattle.gk_commands.specs.Configuration.{Configuration}
+use Rattle.gk_commands.specs.Reading.{reading_in}
 use Rattle.rulings.specs.declared.limits.Limits.{Limits}
 use Rattle.rulings.specs.Events.{PlainEvent, Reloading}
 use Rattle.rulings.specs.Lacks.{no_memory_reply_of}

@@ -7,7 +7,7 @@ use Rattle.std.specs.Io.KnownBytes.{Appends}
 use Rattle.gk_lines.specs.Streams.{KnownStep, one_more}
 use Rattle.gk_lines.specs.LineReader.{LineReaderParts, left_of}
 use Rattle.gk_lines.proofs.StreamLemmas.{appends_nothing}
-use Rattle.command_reader.specs.Configuration.{Configuration}
+use Rattle.gk_commands.specs.Configuration.{Configuration}
 use Rattle.gk_protocol.specs.declared.requests.Request.{Request}
 use Rattle.gk_protocol.specs.declared.answers.Answer.{Answer}
 use Rattle.gk_protocol.specs.declared.session_faults.SessionFault.{SessionFault}

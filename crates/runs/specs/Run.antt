@@ -1,7 +1,7 @@
 -- A run: a configuration, and then requests.
 use Rattle.std.specs.Prelude.{◌≡◌, ◌⊎◌, ℕ, Bool, true, false, List, [], ◌++◌, Option, Some, None, Result, Ok, Err}
-use Rattle.command_reader.specs.Configuration.{Configuration}
-use Rattle.command_reader.specs.Reading.{reading_in, MayRead}
+use Rattle.gk_commands.specs.Configuration.{Configuration}
+use Rattle.gk_commands.specs.Reading.{reading_in, MayRead}
 use Rattle.rulings.specs.declared.limits.Limits.{Limits}
 use Rattle.admission.specs.declared.cores.OpeningFault.{OpeningFault}
 use Rattle.admission.specs.declared.cores.OpeningFault.TheVariants as opening

@@ -9,11 +9,11 @@ ghost use Rattle.gk_protocol.specs.Session.{is_read_fault, is_write_fault};
 ghost use Rattle.runs.specs.Run as Spec;
 
 use admission::{Core, Limits, OpeningFault};
-use command_reader::{Commands, LineFault};
 use compiler::Tables;
 use configuration_reader::configuration::{
     ConfigurationFault, MOST_TURNS, Until, read_configuration,
 };
+use gk_commands::{Commands, LineFault};
 use gk_lines::{LineReader, Sink, Source};
 use gk_protocol::{SessionFault, TryingCore, let_go, session, session_from};
 use std::alloc::{AllocError, AllocFailed, Global};

@@ -2,8 +2,8 @@
 -- seat, and by the snapshots that a seat takes.
 use Rattle.std.specs.Prelude.{◌≡◌, ◌+◌, ◌⊎◌, ℕ, true, List, Some, Ok, Err}
 use mathlib.Core.List.{IsPrefix}
-use Rattle.command_reader.specs.Configuration.{Configuration}
-use Rattle.command_reader.specs.Reading.{reading_in}
+use Rattle.gk_commands.specs.Configuration.{Configuration}
+use Rattle.gk_commands.specs.Reading.{reading_in}
 use Rattle.call_rows.specs.Rows.{SnapshotParts}
 use Rattle.rulings.specs.State.{State}
 use Rattle.rulings.specs.Events.{PlainEvent}

@@ -8,11 +8,11 @@ use Rattle.std.proofs.lemmas.Bool.Decides.{same_from_decides, Decides-eqb}
 use Rattle.std.proofs.lemmas.Cmp.{nat_list_eq_equiv}
 use Rattle.std.proofs.lemmas.Option.{same_Some, slice_get-map}
 use Rattle.std.proofs.lemmas.Slice.Eq.{bytes_eq-Decides}
-use Rattle.command_reader.specs.declared.commands.Command.{Command}
-use Rattle.command_reader.specs.declared.zones.ZoneKind.{ZoneKind}
-use Rattle.command_reader.specs.Accepted.{IsAccepted}
-use Rattle.command_reader.specs.Zones.{is_local, is_local_option, zones_of}
-use Rattle.command_reader.proofs.accepted.AcceptedLemmas.{names_differ}
+use Rattle.gk_commands.specs.declared.commands.Command.{Command}
+use Rattle.gk_commands.specs.declared.zones.ZoneKind.{ZoneKind}
+use Rattle.gk_commands.specs.Accepted.{IsAccepted}
+use Rattle.gk_commands.specs.Zones.{is_local, is_local_option, zones_of}
+use Rattle.gk_commands.proofs.AcceptedLemmas.{names_differ}
 use Rattle.compiler.specs.Zones.{number_in, view_of, view_of_name}
 use Rattle.registry.specs.Endpoint.{EndpointParts}
 use Rattle.rulings.specs.declared.routes.Route.{Route}

@@ -6,7 +6,7 @@ use Rattle.std.specs.List.{flat_map}
 use Rattle.std.proofs.Math.Seq.{drop-cons}
 use Rattle.std.specs.Map.{keys_of}
 use Rattle.std.proofs.lemmas.Option.{same_Some}
-use Rattle.command_reader.specs.declared.zones.ZoneKind.{ZoneKind}
+use Rattle.gk_commands.specs.declared.zones.ZoneKind.{ZoneKind}
 use Rattle.trial_run.specs.declared.report_rows.ReportRow.{ReportRow}
 use Rattle.trial_run.specs.Answers.{is_same}
 use Rattle.trial_run.specs.HeldPeaks.{peak_with, peaks_held}

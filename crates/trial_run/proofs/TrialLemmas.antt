@@ -1,9 +1,9 @@
 -- The peaks of zones, by their names.
 use Rattle.std.proofs.Common.{◌≡◌, ℕ, List, length, ap, sym, ◌∙◌}
 use Rattle.std.specs.Map.{keys_of}
-use Rattle.command_reader.specs.declared.commands.Command.{Command}
-use Rattle.command_reader.specs.Accepted.{IsAccepted}
-use Rattle.command_reader.specs.Zones.{zones_of}
+use Rattle.gk_commands.specs.declared.commands.Command.{Command}
+use Rattle.gk_commands.specs.Accepted.{IsAccepted}
+use Rattle.gk_commands.specs.Zones.{zones_of}
 use Rattle.registry.specs.Endpoint.{EndpointParts}
 use Rattle.call_rows.specs.Moves.{moves_of}
 use Rattle.call_rows.specs.Rows.{RowParts, admissions_of}

@@ -1,7 +1,7 @@
 -- What a candidate configuration answers to the admissions of a record.
 use Rattle.std.specs.Prelude.{ℕ, Bool, true, false, List, Option, Some, None, codes, bytes_eq, if◌then◌else◌}
-use Rattle.command_reader.specs.declared.commands.Command.{Command}
-use Rattle.command_reader.specs.Zones.{is_local}
+use Rattle.gk_commands.specs.declared.commands.Command.{Command}
+use Rattle.gk_commands.specs.Zones.{is_local}
 use Rattle.registry.specs.Endpoint.{EndpointParts}
 use Rattle.registry.specs.Registration.{kept_zones}
 use Rattle.rulings.specs.declared.routes.Route.{Route}

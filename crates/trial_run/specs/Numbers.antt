@@ -1,7 +1,7 @@
 -- The zones that the call of an admission touches, by their numbers.
 use Rattle.std.specs.Prelude.{ℕ, List, Option, Some, None, if◌then◌else◌}
-use Rattle.command_reader.specs.declared.commands.Command.{Command}
-use Rattle.command_reader.specs.Zones.{is_local, zones_of}
+use Rattle.gk_commands.specs.declared.commands.Command.{Command}
+use Rattle.gk_commands.specs.Zones.{is_local, zones_of}
 use Rattle.compiler.specs.declared.zones.ZoneView.{ZoneView}
 use Rattle.compiler.specs.Zones.{number_in}
 use Rattle.registry.specs.Endpoint.{EndpointParts}

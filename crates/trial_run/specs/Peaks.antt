@@ -1,6 +1,6 @@
 -- How much bandwidth of the calls that touch a zone is in use at one time.
 use Rattle.std.specs.Prelude.{ℕ, max, Bool, false, ◌&&◌, ◌||◌, List, [], ◌∷◌, Option, Some, None, slice_get, bytes_eq}
-use Rattle.command_reader.specs.declared.commands.Command.{Command}
+use Rattle.gk_commands.specs.declared.commands.Command.{Command}
 use Rattle.registry.specs.Endpoint.{EndpointParts}
 use Rattle.rulings.specs.Routing.{target_zone_of}
 use Rattle.call_rows.specs.declared.rows.AskedCall.{AskedCall}

@@ -1,7 +1,7 @@
 -- The report of a trial.
 use Rattle.std.specs.Prelude.{◌≡◌, ℕ, not, List, length, map, filter}
-use Rattle.command_reader.specs.declared.commands.Command.{Command}
-use Rattle.command_reader.specs.Zones.{zones_of}
+use Rattle.gk_commands.specs.declared.commands.Command.{Command}
+use Rattle.gk_commands.specs.Zones.{zones_of}
 use Rattle.registry.specs.Endpoint.{EndpointParts}
 use Rattle.registry.specs.Registration.{kept_zones}
 use Rattle.call_rows.specs.Rows.{RowParts, admissions_of}

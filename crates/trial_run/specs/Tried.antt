@@ -1,7 +1,7 @@
 -- What a worker makes of a chunk of admissions.
 use Rattle.std.specs.Prelude.{◌≡◌, List, map, vec_items}
 use Rattle.std.specs.List.{flat_map}
-use Rattle.command_reader.specs.declared.commands.Command.{Command}
+use Rattle.gk_commands.specs.declared.commands.Command.{Command}
 use Rattle.registry.specs.Endpoint.{EndpointParts}
 use Rattle.call_rows.specs.declared.rows.NumberedAdmission.{NumberedAdmission}
 use Rattle.trial_run.specs.declared.report_rows.ReportRow.{ReportRow}

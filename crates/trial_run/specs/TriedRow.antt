@@ -1,6 +1,6 @@
 -- What a worker makes of one admission.
 use Rattle.std.specs.Prelude.{◌≡◌, List}
-use Rattle.command_reader.specs.declared.commands.Command.{Command}
+use Rattle.gk_commands.specs.declared.commands.Command.{Command}
 use Rattle.registry.specs.Endpoint.{EndpointParts}
 use Rattle.call_rows.specs.declared.rows.NumberedAdmission.{NumberedAdmission}
 use Rattle.trial_run.specs.declared.tried_rows.TriedRow.{TriedRow}

@@ -1,7 +1,7 @@
 //! What the candidate answers to an admission.
 
 ghost use Rattle.std.specs.Prelude.{◌≡◌, Some, None, IfOk, option_and_then, unwrap_or};
-ghost use Rattle.command_reader.specs.Accepted.{IsAccepted};
+ghost use Rattle.gk_commands.specs.Accepted.{IsAccepted};
 ghost use Rattle.rulings.specs.Lent.{route_meant};
 ghost use Rattle.trial_run.specs.Numbers.{local_number, number_if_local, touched_by};
 ghost use Rattle.trial_run.specs.TriedRow.{IsTried};

@@ -1,7 +1,7 @@
 //! What the candidate answers to the admissions of a snapshot.
 
 ghost use Rattle.std.specs.Prelude.{◌≡◌, ◌≤◌, ◌<◌, ◌+◌, ◌*◌, ◌++◌, ◌∷◌, [], ℕ, IfOk, OnOk, length, take, drop, slice_index_or};
-ghost use Rattle.command_reader.specs.Accepted.{IsAccepted};
+ghost use Rattle.gk_commands.specs.Accepted.{IsAccepted};
 ghost use Rattle.call_rows.specs.Rows.{admissions_of};
 ghost use Rattle.trial_run.specs.Answers.{is_same};
 ghost use Rattle.trial_run.specs.Chunks.{chunk_of};

@@ -1,7 +1,7 @@
 //! A trial: what the calls of a record would be under another configuration.
 
 ghost use Rattle.std.specs.Prelude.{◌≡◌, ◌<◌, ◌≤◌, ◌⊎◌, ◌↔◌, IfOk, Err};
-ghost use Rattle.command_reader.specs.Accepted.{IsAccepted};
+ghost use Rattle.gk_commands.specs.Accepted.{IsAccepted};
 ghost use Rattle.registry.specs.Registration.{kept_zones};
 ghost use Rattle.trial_run.specs.Report.{IsReport, report_among};
 ghost use Rattle.trial_run.specs.declared.trials.TrialFault.TheVariants.{BadWorkers};

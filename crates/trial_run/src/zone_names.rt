@@ -2,9 +2,9 @@
 
 ghost use Rattle.std.specs.Prelude.{◌≡◌, IfOk};
 ghost use Rattle.std.specs.Map.{keys_of};
-ghost use Rattle.command_reader.specs.Zones.{zones_of};
+ghost use Rattle.gk_commands.specs.Zones.{zones_of};
 
-use command_reader::Command;
+use gk_commands::Command;
 use short_texts::KeptName;
 use std::alloc::{AllocError, Global};
 

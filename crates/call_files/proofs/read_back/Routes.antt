@@ -10,7 +10,7 @@ use Rattle.gk_terms.specs.Address.{AddressParts, address_of, address_text}
 use Rattle.gk_terms.specs.Name.{IsName, name_of}
 use Rattle.gk_terms.specs.Spelling.{is_visible}
 use Rattle.gk_terms.specs.Text.{spaced, words_of}
-use Rattle.command_reader.specs.Accepted.{is_word}
+use Rattle.gk_commands.specs.Accepted.{is_word}
 use Rattle.command_reader.proofs.read_back.Words.{word_from, words_back}
 use Rattle.rulings.specs.Routes.{destination_text, route_text}
 use Rattle.rulings.specs.declared.routes.Destination.{Destination}

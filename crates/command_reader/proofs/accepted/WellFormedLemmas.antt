@@ -6,10 +6,10 @@ use Rattle.std.proofs.lemmas.List.Folds.{Any-from_list_any}
 use Rattle.std.proofs.lemmas.Map.Made.{AllPairs-from_IsDistinct}
 use Rattle.std.proofs.lemmas.Map.Views.{Contains-from_any}
 use Rattle.std.proofs.lemmas.Slice.Eq.{bytes_eq-Decides}
-use Rattle.command_reader.specs.declared.commands.Command.{Command}
-use Rattle.command_reader.specs.Zones.{zones_of, is_declared, named_by, is_local_command}
-use Rattle.command_reader.specs.Accepted.{PrintsBack, IsAccepted, zone_names, NamesDeclared, HasNumbersInRange, IsWellFormed}
-use Rattle.command_reader.proofs.accepted.AcceptedLemmas.{named_among, names_differ, zones_few, named_declared, has_local}
+use Rattle.gk_commands.specs.declared.commands.Command.{Command}
+use Rattle.gk_commands.specs.Zones.{zones_of, is_declared, named_by, is_local_command}
+use Rattle.gk_commands.specs.Accepted.{PrintsBack, IsAccepted, zone_names, NamesDeclared, HasNumbersInRange, IsWellFormed}
+use Rattle.gk_commands.proofs.AcceptedLemmas.{named_among, names_differ, zones_few, named_declared, has_local}
 use Rattle.command_reader.proofs.accepted.LocalZones.{some_local}
 use Rattle.command_reader.proofs.read_back.Ranges.{in_range}
 

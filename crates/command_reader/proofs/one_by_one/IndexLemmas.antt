@@ -7,14 +7,14 @@ use Rattle.std.specs.List.Sorted.{IsPermutation}
 use Rattle.std.proofs.lemmas.List.Elements.{filter_map-append}
 use Rattle.std.proofs.lemmas.List.Folds.{list_any-append}
 use Rattle.std.proofs.lemmas.List.Sorted.{list_any-IsPermutation, length_permutation}
-use Rattle.command_reader.specs.declared.commands.Command.{Command}
-use Rattle.command_reader.specs.declared.commands.Command.TheVariants.{ZoneLocal, ZoneRemote, ZonePrefix, GwTypePrefix, RejectUnknownPrefix, BandwidthDefault, BandwidthZone, BandwidthRemote}
-use Rattle.command_reader.specs.declared.zones.ZoneKind.{ZoneKind}
-use Rattle.command_reader.specs.Zones.{zones_of, declared_by, is_declared}
-use Rattle.command_reader.specs.declared.faults.FaultKind.{FaultKind}
-use Rattle.command_reader.specs.declared.faults.FaultKind.TheVariants.{NoMemory}
-use Rattle.command_reader.specs.Progress.{Progress, commands_in}
-use Rattle.command_reader.specs.Reading.{fault_of_name, zone_fault, command_fault, unless_fault, with_command, said_after}
+use Rattle.gk_commands.specs.declared.commands.Command.{Command}
+use Rattle.gk_commands.specs.declared.commands.Command.TheVariants.{ZoneLocal, ZoneRemote, ZonePrefix, GwTypePrefix, RejectUnknownPrefix, BandwidthDefault, BandwidthZone, BandwidthRemote}
+use Rattle.gk_commands.specs.declared.zones.ZoneKind.{ZoneKind}
+use Rattle.gk_commands.specs.Zones.{zones_of, declared_by, is_declared}
+use Rattle.gk_commands.specs.declared.faults.FaultKind.{FaultKind}
+use Rattle.gk_commands.specs.declared.faults.FaultKind.TheVariants.{NoMemory}
+use Rattle.gk_commands.specs.Progress.{Progress, commands_in}
+use Rattle.gk_commands.specs.Reading.{fault_of_name, zone_fault, command_fault, unless_fault, with_command, said_after}
 use Rattle.command_reader.specs.Index.{AreDeclared, AddsDeclared, MayRefuseCommand, fault_by_names}
 
 fault_of_zone : (names : List (List ℕ)) (lines : List Command) (name : List ℕ) → AreDeclared names

@@ -4,15 +4,15 @@ use Rattle.std.specs.Prelude.{◌⊎◌, cond}
 use Rattle.std.specs.HashSet.{keys}
 use Rattle.std.proofs.lemmas.Bool.{lt-leb}
 use Rattle.gk_terms.specs.declared.limits.TheConstants.{MOST_LINES}
-use Rattle.command_reader.specs.declared.commands.Command.{Command}
-use Rattle.command_reader.specs.declared.faults.FaultKind.{FaultKind}
-use Rattle.command_reader.specs.declared.faults.FaultKind.TheVariants.{TooMany, NoMemory}
+use Rattle.gk_commands.specs.declared.commands.Command.{Command}
+use Rattle.gk_commands.specs.declared.faults.FaultKind.{FaultKind}
+use Rattle.gk_commands.specs.declared.faults.FaultKind.TheVariants.{TooMany, NoMemory}
 use Rattle.command_reader.specs.declared.kept.Kept.{Kept}
 use Rattle.command_reader.specs.Index.{AreDeclared}
 use Rattle.command_reader.specs.Kept.{AddsCommand, KeepsAll, AddsSaid, Adds, RefusesCommand}
-use Rattle.command_reader.specs.Line.{command_of}
-use Rattle.command_reader.specs.Progress.{Progress, line_count, commands_in}
-use Rattle.command_reader.specs.Reading.{said_after, line_after, with_command, with_passed, LacksMemoryFor}
+use Rattle.gk_commands.specs.Line.{command_of}
+use Rattle.gk_commands.specs.Progress.{Progress, line_count, commands_in}
+use Rattle.gk_commands.specs.Reading.{said_after, line_after, with_command, with_passed, LacksMemoryFor}
 use Rattle.command_reader.proofs.one_by_one.IndexLemmas.{faulty_line, ok_line}
 
 -- with room for one more line it counts what the line says

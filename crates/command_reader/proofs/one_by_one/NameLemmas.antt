@@ -4,10 +4,10 @@ use Rattle.std.specs.Prelude.{Result, Ok, Err, MatchResult, IsErr}
 use Rattle.std.specs.Option.{ok_or}
 use Rattle.std.specs.declared.alloc.AllocError.{AllocError}
 use Rattle.gk_terms.specs.Name.{name_of}
-use Rattle.command_reader.specs.declared.faults.FaultKind.{FaultKind}
-use Rattle.command_reader.specs.declared.faults.FaultKind.TheVariants.{BadName}
+use Rattle.gk_commands.specs.declared.faults.FaultKind.{FaultKind}
+use Rattle.gk_commands.specs.declared.faults.FaultKind.TheVariants.{BadName}
 use Rattle.gk_terms.specs.Fields.{◌>>=◌}
-use Rattle.command_reader.specs.Fields.{with_name, names_in}
+use Rattle.gk_commands.specs.Fields.{with_name, names_in}
 use Rattle.command_reader.specs.Memory.{HoldsNames}
 use Rattle.command_reader.proofs.one_by_one.HeldLemmas.{held_more}
 

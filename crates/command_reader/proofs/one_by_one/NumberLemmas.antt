@@ -2,10 +2,10 @@
 use Rattle.std.proofs.Common.{◌≡◌, ℕ, ◌+◌, suc, Bool, true, false, List, [], ◌∷◌, ◌++◌, length, refl, sym, ap, ◌∙◌, arith}
 use Rattle.std.specs.Prelude.{map, find, option_map, slice_get}
 use Rattle.std.specs.List.{position_or_len}
-use Rattle.command_reader.specs.declared.commands.Command.{Command}
-use Rattle.command_reader.specs.declared.faults.FaultKind.TheVariants.{UnknownZone}
-use Rattle.command_reader.specs.Progress.{Progress, line_count, commands_in, with_numbers}
-use Rattle.command_reader.specs.Reading.{fault_at, with_command, names_unknown, unknown_zone}
+use Rattle.gk_commands.specs.declared.commands.Command.{Command}
+use Rattle.gk_commands.specs.declared.faults.FaultKind.TheVariants.{UnknownZone}
+use Rattle.gk_commands.specs.Progress.{Progress, line_count, commands_in, with_numbers}
+use Rattle.gk_commands.specs.Reading.{fault_at, with_command, names_unknown, unknown_zone}
 
 -- the commands alone
 pub commands_with_numbers : (numbers : List ℕ) (commands : List Command) → length numbers ≡ length

@@ -5,18 +5,18 @@ use Rattle.std.specs.Option.{ok_or}
 use Rattle.gk_terms.specs.Name.{name_of}
 use Rattle.gk_terms.specs.TechPrefix.{tech_prefix_of}
 use Rattle.gk_terms.specs.Fields.{◌>>=◌, field}
-use Rattle.command_reader.specs.declared.faults.FaultKind.{FaultKind}
-use Rattle.command_reader.specs.declared.faults.FaultKind.TheVariants.{Unsupported, Missing, Extra, BadName, BadPattern}
+use Rattle.gk_commands.specs.declared.faults.FaultKind.{FaultKind}
+use Rattle.gk_commands.specs.declared.faults.FaultKind.TheVariants.{Unsupported, Missing, Extra, BadName, BadPattern}
 use Rattle.command_reader.specs.declared.technology_lines.TechnologyOption.{TechnologyOption}
 use Rattle.command_reader.specs.declared.technology_lines.TechnologyOption.TheVariants.{Hopoff, HopoffName, Hunt, DefaultTechnology}
 use Rattle.command_reader.specs.declared.technology_lines.Expected.{Expected}
 use Rattle.command_reader.specs.declared.technology_lines.Expected.TheVariants.{AnOption, AName, OptionOrName}
 use Rattle.command_reader.specs.declared.technology_lines.OpenOptions.{OpenOptions}
-use Rattle.command_reader.specs.declared.commands.Command.{Command}
-use Rattle.command_reader.specs.declared.commands.Command.TheVariants.{GwTypePrefix}
-use Rattle.command_reader.specs.Fields.{is_one_of}
-use Rattle.command_reader.specs.ZoneLine.{hunt_words}
-use Rattle.command_reader.specs.TechnologyLine.{TechnologyOptions, with_default, with_hopoff, options_at, hopoff_at, gw_type_prefix_at}
+use Rattle.gk_commands.specs.declared.commands.Command.{Command}
+use Rattle.gk_commands.specs.declared.commands.Command.TheVariants.{GwTypePrefix}
+use Rattle.gk_commands.specs.Fields.{is_one_of}
+use Rattle.gk_commands.specs.ZoneLine.{hunt_words}
+use Rattle.gk_commands.specs.TechnologyLine.{TechnologyOptions, with_default, with_hopoff, options_at, hopoff_at, gw_type_prefix_at}
 use Rattle.command_reader.specs.Options.{hopoff_name_of, option_or, option_at, expected_after, names_of, is_default_option, AddsOption, hopoffs_and_default}
 use Rattle.command_reader.specs.Memory.{MayRefuse, Any, DeclaresNone, HoldsNames}
 use Rattle.command_reader.proofs.one_by_one.HeldLemmas.{held_more}

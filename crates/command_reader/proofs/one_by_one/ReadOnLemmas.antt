@@ -2,14 +2,14 @@
 use Rattle.std.proofs.Common.{◌≡◌, ℕ, ◌+◌, true, cond, List, [], ◌∷◌, refl, sym, ap, subst, ◌∙◌, inl, inr}
 use Rattle.std.specs.Prelude.{◌⊎◌, Result, Ok, Err}
 use Rattle.gk_terms.specs.Text.{words_of, is_too_long}
-use Rattle.command_reader.specs.declared.commands.Command.{Command}
-use Rattle.command_reader.specs.declared.faults.FaultKind.{FaultKind}
-use Rattle.command_reader.specs.declared.faults.FaultKind.TheVariants.{NoMemory, TooLong}
-use Rattle.command_reader.specs.declared.faults.LineFault.{LineFault}
-use Rattle.command_reader.specs.Configuration.{Configuration}
-use Rattle.command_reader.specs.Line.{command_of, command_at}
-use Rattle.command_reader.specs.Progress.{Progress, line_count}
-use Rattle.command_reader.specs.Reading.{nothing_read, line_after, lines_after, line_then, with_command, fault_at, finished, finished_of, reading_in, MayReadLine, MayReadOn, MayRead}
+use Rattle.gk_commands.specs.declared.commands.Command.{Command}
+use Rattle.gk_commands.specs.declared.faults.FaultKind.{FaultKind}
+use Rattle.gk_commands.specs.declared.faults.FaultKind.TheVariants.{NoMemory, TooLong}
+use Rattle.gk_commands.specs.declared.faults.LineFault.{LineFault}
+use Rattle.gk_commands.specs.Configuration.{Configuration}
+use Rattle.gk_commands.specs.Line.{command_of, command_at}
+use Rattle.gk_commands.specs.Progress.{Progress, line_count}
+use Rattle.gk_commands.specs.Reading.{nothing_read, line_after, lines_after, line_then, with_command, fault_at, finished, finished_of, reading_in, MayReadLine, MayReadOn, MayRead}
 
 -- ---- one line, and then others
 read_on : (before read : Progress) (line : List ℕ) (lines : List (List ℕ)) → line_after before line

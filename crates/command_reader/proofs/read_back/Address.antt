@@ -9,7 +9,7 @@ use Rattle.std.proofs.lemmas.List.Folds.{list_all-append}
 use Rattle.std.proofs.lemmas.List.Splits.{join_with_byte-slice_split}
 use Rattle.gk_terms.specs.Spelling.{is_visible}
 use Rattle.gk_terms.specs.Address.{octet_of, with_octet, octets_of, octets_of_four, ip_of, ip_text}
-use Rattle.command_reader.specs.Accepted.{is_word}
+use Rattle.gk_commands.specs.Accepted.{is_word}
 use Rattle.command_reader.proofs.read_back.Words.{word_from, word_some, word_visible}
 use Rattle.command_reader.proofs.read_back.Numbers.{number_spelled, IsSpelled}
 

@@ -4,16 +4,16 @@ use Rattle.std.specs.Prelude.{codes, bytes_eq}
 use Rattle.std.proofs.lemmas.Bool.{and_from}
 use Rattle.gk_terms.specs.Name.{name_of}
 use Rattle.gk_terms.specs.Number.{number_of}
-use Rattle.command_reader.specs.declared.bandwidth_lines.TheConstants.{MOST_KBPS}
-use Rattle.command_reader.specs.declared.faults.FaultKind.TheVariants.{BadName, BadNumber, Missing, Extra}
-use Rattle.command_reader.specs.declared.commands.Command.{Command}
-use Rattle.command_reader.specs.declared.commands.Command.TheVariants.{BandwidthDefault, BandwidthZone, BandwidthRemote}
-use Rattle.command_reader.specs.declared.commands.LimitKind.{LimitKind}
-use Rattle.command_reader.specs.declared.commands.LimitKind.TheVariants.{Session, Total, Interzone}
+use Rattle.gk_commands.specs.declared.numbers.TheConstants.{MOST_KBPS}
+use Rattle.gk_commands.specs.declared.faults.FaultKind.TheVariants.{BadName, BadNumber, Missing, Extra}
+use Rattle.gk_commands.specs.declared.commands.Command.{Command}
+use Rattle.gk_commands.specs.declared.commands.Command.TheVariants.{BandwidthDefault, BandwidthZone, BandwidthRemote}
+use Rattle.gk_commands.specs.declared.commands.LimitKind.{LimitKind}
+use Rattle.gk_commands.specs.declared.commands.LimitKind.TheVariants.{Session, Total, Interzone}
 use Rattle.gk_terms.specs.Fields.{◌>>=◌, field, nothing_more}
-use Rattle.command_reader.specs.BandwidthLine.{most_of, default_limit_at, zone_limit_at, limit_at, remote_limit_at, bandwidth_at}
-use Rattle.command_reader.specs.Printing.{command_words, limit_word}
-use Rattle.command_reader.specs.Accepted.{is_word}
+use Rattle.gk_commands.specs.BandwidthLine.{most_of, default_limit_at, zone_limit_at, limit_at, remote_limit_at, bandwidth_at}
+use Rattle.gk_commands.specs.Printing.{command_words, limit_word}
+use Rattle.gk_commands.specs.Accepted.{is_word}
 use Rattle.command_reader.proofs.read_back.Words.{AreWords}
 use Rattle.command_reader.proofs.read_back.Numbers.{number_spelled}
 use Rattle.command_reader.proofs.read_back.Fields.{bound, chosen, same_word, field_read, nothing_more_read, name_read}

@@ -2,11 +2,11 @@
 use Rattle.std.proofs.Common.{◌≡◌, ℕ, ◌≤◌, Bool, true, false, cond, List, [], ◌∷◌, length, Some, Ok, Err, refl, sym, ap, subst, ◌∙◌, arith}
 use Rattle.std.proofs.lemmas.Bool.{le-ltb, ltb-false}
 use Rattle.gk_terms.specs.Text.{words_of, is_too_long, spaced}
-use Rattle.command_reader.specs.declared.faults.FaultKind.TheVariants.{TooLong}
-use Rattle.command_reader.specs.declared.commands.Command.{Command}
-use Rattle.command_reader.specs.Line.{command_at, command_of}
-use Rattle.command_reader.specs.Accepted.{PrintsBack}
-use Rattle.command_reader.specs.Printing.{command_words}
+use Rattle.gk_commands.specs.declared.faults.FaultKind.TheVariants.{TooLong}
+use Rattle.gk_commands.specs.declared.commands.Command.{Command}
+use Rattle.gk_commands.specs.Line.{command_at, command_of}
+use Rattle.gk_commands.specs.Accepted.{PrintsBack}
+use Rattle.gk_commands.specs.Printing.{command_words}
 use Rattle.command_reader.proofs.read_back.Words.{AreWords, words_back}
 use Rattle.command_reader.proofs.read_back.Lengths.{cost, cost_read, length_spaced_some}
 

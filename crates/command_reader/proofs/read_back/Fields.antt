@@ -7,11 +7,11 @@ use Rattle.std.specs.Cmp.Lexicographic.{same_text}
 use Rattle.std.proofs.lemmas.Bool.{and_parts, leb-true}
 use Rattle.gk_terms.specs.Name.{is_name, name_of}
 use Rattle.gk_terms.specs.Spelling.{is_visible}
-use Rattle.command_reader.specs.declared.faults.FaultKind.{FaultKind}
-use Rattle.command_reader.specs.declared.faults.FaultKind.TheVariants.{Unsupported, Extra}
+use Rattle.gk_commands.specs.declared.faults.FaultKind.{FaultKind}
+use Rattle.gk_commands.specs.declared.faults.FaultKind.TheVariants.{Unsupported, Extra}
 use Rattle.gk_terms.specs.Fields.{◌>>=◌, with_rest}
-use Rattle.command_reader.specs.Fields.{is_one_of, value_but, field_but, nothing_more_but}
-use Rattle.command_reader.specs.Accepted.{is_word}
+use Rattle.gk_commands.specs.Fields.{is_one_of, value_but, field_but, nothing_more_but}
+use Rattle.gk_commands.specs.Accepted.{is_word}
 use Rattle.command_reader.proofs.read_back.Words.{word_from}
 use Rattle.command_reader.proofs.read_back.Numbers.{then_some-parts}
 

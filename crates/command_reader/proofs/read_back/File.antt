@@ -1,23 +1,25 @@
 -- The canonical lines of accepted commands read back as those commands.
 use Rattle.std.proofs.Common.{◌≡◌, ℕ, ◌+◌, ◌<◌, Bool, true, false, cond, List, [], ◌∷◌, ◌++◌, length, Option, Some, None, Result, Ok, Err, refl, sym, ap, subst, ◌∙◌, arith}
-use Rattle.std.specs.Prelude.{◌||◌, map, find, option_map, is_some}
+use Rattle.std.specs.Prelude.{◌||◌, map, find, option_map, is_some, IfSome}
 use Rattle.std.specs.List.{AllByRecursion, list_all, list_any}
 use Rattle.std.proofs.lemmas.Bool.{and_from, lt-leb}
 use Rattle.std.proofs.lemmas.List.{map-append, length-map}
 use Rattle.std.proofs.lemmas.List.Elements.{All-nil, All-push, recursion_from_All}
 use Rattle.gk_terms.specs.declared.limits.TheConstants.{MOST_LINES}
 use Rattle.gk_terms.specs.Text.{lines_of}
-use Rattle.command_reader.specs.declared.faults.FaultKind.{FaultKind}
-use Rattle.command_reader.specs.declared.faults.FaultKind.TheVariants.{UnknownZone, NoLocalZone, TooMany}
-use Rattle.command_reader.specs.declared.faults.LineFault.{LineFault}
-use Rattle.command_reader.specs.declared.commands.Command.{Command}
-use Rattle.command_reader.specs.Configuration.{Configuration}
-use Rattle.command_reader.specs.Line.{command_of}
-use Rattle.command_reader.specs.Progress.{NumberedCommand, Progress, line_count, commands_in}
-use Rattle.command_reader.specs.Zones.{first_local_of}
-use Rattle.command_reader.specs.Reading.{command_fault, with_command, unless_fault, said_after, line_after, line_then, lines_after, names_unknown, fault_at, unknown_zone, local_zone_checked, zones_checked, finished, finished_of, nothing_read, reading_in, reading_of}
-use Rattle.command_reader.specs.Printing.{command_words, text_of}
-use Rattle.command_reader.specs.Accepted.{is_word, canonical_line, PrintsBack, LinesSay, IsPrintable, IsAccepted}
+use Rattle.gk_commands.specs.declared.faults.FaultKind.{FaultKind}
+use Rattle.gk_commands.specs.declared.faults.FaultKind.TheVariants.{UnknownZone, NoLocalZone, TooMany}
+use Rattle.gk_commands.specs.declared.faults.LineFault.{LineFault}
+use Rattle.gk_commands.specs.declared.commands.Command.{Command}
+use Rattle.gk_commands.specs.Configuration.{Configuration}
+use Rattle.gk_commands.specs.Line.{command_of}
+use Rattle.gk_commands.specs.Progress.{NumberedCommand, Progress, line_count, commands_in}
+use Rattle.gk_commands.specs.Zones.{first_local_of}
+use Rattle.gk_commands.specs.Reading.{command_fault, with_command, unless_fault, said_after, line_after, line_then, lines_after, names_unknown, fault_at, unknown_zone, local_zone_checked, zones_checked, finished, finished_of, nothing_read, reading_of}
+use Rattle.gk_commands.specs.Printing.{command_words, text_of}
+use Rattle.gk_commands.specs.Accepted.{is_word, canonical_line, PrintsBack, LinesSay, IsPrintable, IsAccepted}
+use Rattle.gk_commands.specs.WholeLines.{KeepsLine}
+use Rattle.gk_commands.proofs.WholeLinesLemmas.{said_again}
 use Rattle.command_reader.proofs.read_back.Words.{lines_back}
 
 -- ---- lines one after another
@@ -86,6 +88,19 @@ one_more_said lines line commands command says room said free =
       none_passed = says.none_passed;
     }
 
+-- the lines that are kept, and one more
+pub one_more_kept : (before : Option (List (List ℕ))) (line : List ℕ)
+    (after : Option (List (List ℕ))) (commands : List Command) (command : Command)
+    → IfSome before (λ lines. LinesSay lines commands) → KeepsLine before line after → length
+    commands < MOST_LINES
+    → command_of line ≡ Ok (Some command) → command_fault commands command ≡ None → IfSome after
+    (λ lines. LinesSay lines (commands ++ command ∷ []))
+one_more_kept before line None commands command says keeps room said free = tt
+one_more_kept None line (Some after) commands command says keeps room said free = absurd keeps
+one_more_kept (Some before) line (Some after) commands command says keeps room said free =
+    subst (λ lines. LinesSay lines (commands ++ command ∷ [])) (sym keeps)
+    (one_more_said before line commands command says room said free)
+
 -- ---- printable commands
 pub none_printable : IsPrintable []
 none_printable = record { each = All-nil PrintsBack; again = none_said }
@@ -124,19 +139,6 @@ found_none p (n ∷ kept) f h = by (λ g. found_none p kept f g) (p n.command) h
         (map (λ n. n.command) kept) ≡ false) → (b : Bool)
         → option_map f (cond b (Some n) (find (λ n. p n.command) kept)) ≡ None → b || list_any p
         (map (λ n. n.command) kept) ≡ false
-    by rest true g = absurd (let no : ⊥ = cc in no)
-    by rest false g = rest g
-
-none_found : (p : Command → Bool) (kept : List NumberedCommand) (f : NumberedCommand → LineFault)
-    → list_any p (map (λ n. n.command) kept) ≡ false → option_map f (find (λ n. p n.command) kept) ≡
-    None
-none_found p [] f h = refl
-none_found p (n ∷ kept) f h = by (λ g. none_found p kept f g) (p n.command) h
-  where
-    by : (list_any p (map (λ n. n.command) kept) ≡ false → option_map f
-        (find (λ n. p n.command) kept) ≡ None) → (b : Bool)
-        → b || list_any p (map (λ n. n.command) kept) ≡ false → option_map f
-        (cond b (Some n) (find (λ n. p n.command) kept)) ≡ None
     by rest true g = absurd (let no : ⊥ = cc in no)
     by rest false g = rest g
 
@@ -202,26 +204,6 @@ lines_printed : (lines : List Command) → IsPrintable lines → lines_of (text_
     canonical_line lines
 lines_printed lines p = lines_back command_words lines (words_of_each lines
     (recursion_from_All PrintsBack lines p.each))
-
--- lines that say accepted commands are read as a configuration of them
-pub said_again : (lines : List (List ℕ)) (commands : List Command) → IsAccepted commands → LinesSay
-    lines commands
-    → reading_in lines ≡ Ok (record { commands = commands; passed = 0 })
-said_again lines commands a says =
-    let read : Progress = says.read in
-    let declared : list_any (names_unknown (commands_in read)) (commands_in read) ≡ false = ap
-    (λ cs. list_any (names_unknown cs) cs) says.same ∙ a.declared in
-    let has_local : is_some (first_local_of (commands_in read)) ≡ true = ap
-    (λ cs. is_some (first_local_of cs)) says.same ∙ a.has_local in
-    let configuration : Configuration = record { commands = commands_in read; passed = read.passed }
-    in
-    ap finished_of says.whole
-    ∙ ap (zones_checked read) (none_found (names_unknown (commands_in read)) read.kept
-    (λ n. fault_at n.line UnknownZone) declared)
-    ∙ ap (λ b. cond b (Ok configuration) (Err (fault_at (line_count read + 1) NoLocalZone)))
-    has_local
-    ∙ ap (λ cs. Ok (record { commands = cs; passed = read.passed })) says.same
-    ∙ ap (λ n. Ok (record { commands = commands; passed = n })) says.none_passed
 
 -- what is printed of accepted commands reads as those commands, with nothing passed over
 pub file_back : (commands : List Command) → IsAccepted commands → reading_of (text_of commands) ≡ Ok

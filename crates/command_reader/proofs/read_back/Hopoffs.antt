@@ -3,12 +3,12 @@ use Rattle.std.proofs.Common.{◌≡◌, ℕ, ◌+◌, ◌≤◌, Bool, true, fa
 use Rattle.std.specs.Prelude.{Result, codes, bytes_eq, flat_map}
 use Rattle.std.specs.Option.{ok_or}
 use Rattle.gk_terms.specs.Name.{name_of}
-use Rattle.command_reader.specs.declared.faults.FaultKind.{FaultKind}
-use Rattle.command_reader.specs.declared.faults.FaultKind.TheVariants.{BadName, Extra}
-use Rattle.command_reader.specs.Fields.{is_one_of}
-use Rattle.command_reader.specs.ZoneLine.{hunt_words}
-use Rattle.command_reader.specs.TechnologyLine.{TechnologyOptions, is_option_word, no_options, with_hopoff, options_at, hopoff_at}
-use Rattle.command_reader.specs.Printing.{further_words, hopoff_words, default_words}
+use Rattle.gk_commands.specs.declared.faults.FaultKind.{FaultKind}
+use Rattle.gk_commands.specs.declared.faults.FaultKind.TheVariants.{BadName, Extra}
+use Rattle.gk_commands.specs.Fields.{is_one_of}
+use Rattle.gk_commands.specs.ZoneLine.{hunt_words}
+use Rattle.gk_commands.specs.TechnologyLine.{TechnologyOptions, is_option_word, no_options, with_hopoff, options_at, hopoff_at}
+use Rattle.gk_commands.specs.Printing.{further_words, hopoff_words, default_words}
 use Rattle.command_reader.proofs.read_back.Fields.{bound, chosen, same_word, ok_or-some, name_read, IsNamed}
 use Rattle.command_reader.proofs.read_back.Lengths.{cost, cost-append}
 

@@ -2,16 +2,16 @@
 use Rattle.std.proofs.Common.{◌≡◌, ℕ, ◌≤◌, List, [], ◌∷◌, Some, None, Result, Ok, Err, refl, sym, ap, subst, ◌∙◌}
 use Rattle.std.specs.Prelude.{codes, bytes_eq}
 use Rattle.gk_terms.specs.Text.{words_of, spaced}
-use Rattle.command_reader.specs.declared.faults.FaultKind.{FaultKind}
-use Rattle.command_reader.specs.declared.commands.Command.{Command}
-use Rattle.command_reader.specs.declared.commands.Command.TheVariants.{RejectUnknownPrefix}
-use Rattle.command_reader.specs.Fields.{is_one_of}
-use Rattle.command_reader.specs.ZoneLine.{left_out_of_zone, zone_line_at}
-use Rattle.command_reader.specs.TechnologyLine.{gw_type_prefix_at}
-use Rattle.command_reader.specs.BandwidthLine.{bandwidth_at}
-use Rattle.command_reader.specs.Line.{arq_at, no_at, kept_command_of, is_remark, passed_alone, passed_whole, left_out_commands, passed_at, named_command_at, command_at, command_of}
-use Rattle.command_reader.specs.Accepted.{PrintsBack}
-use Rattle.command_reader.specs.Printing.{command_words}
+use Rattle.gk_commands.specs.declared.faults.FaultKind.{FaultKind}
+use Rattle.gk_commands.specs.declared.commands.Command.{Command}
+use Rattle.gk_commands.specs.declared.commands.Command.TheVariants.{RejectUnknownPrefix}
+use Rattle.gk_commands.specs.Fields.{is_one_of}
+use Rattle.gk_commands.specs.ZoneLine.{left_out_of_zone, zone_line_at}
+use Rattle.gk_commands.specs.TechnologyLine.{gw_type_prefix_at}
+use Rattle.gk_commands.specs.BandwidthLine.{bandwidth_at}
+use Rattle.gk_commands.specs.Line.{arq_at, no_at, kept_command_of, is_remark, passed_alone, passed_whole, left_out_commands, passed_at, named_command_at, command_at, command_of}
+use Rattle.gk_commands.specs.Accepted.{PrintsBack}
+use Rattle.gk_commands.specs.Printing.{command_words}
 use Rattle.command_reader.proofs.read_back.Words.{AreWords}
 use Rattle.command_reader.proofs.read_back.Fields.{chosen, same_word, nothing_more_read}
 use Rattle.command_reader.proofs.read_back.Lengths.{cost}

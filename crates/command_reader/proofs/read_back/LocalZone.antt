@@ -4,15 +4,15 @@ use Rattle.std.specs.Prelude.{Option, codes}
 use Rattle.std.proofs.lemmas.Bool.{and_from}
 use Rattle.gk_terms.specs.Name.{name_of}
 use Rattle.gk_terms.specs.Address.{ip_of, ip_text, port_of}
-use Rattle.command_reader.specs.declared.faults.FaultKind.{FaultKind}
-use Rattle.command_reader.specs.declared.faults.FaultKind.TheVariants.{BadName, BadNumber, BadAddress, Missing}
-use Rattle.command_reader.specs.declared.commands.Command.{Command}
-use Rattle.command_reader.specs.declared.commands.Command.TheVariants.{ZoneLocal}
-use Rattle.command_reader.specs.declared.commands.LocalAddress.{LocalAddress}
+use Rattle.gk_commands.specs.declared.faults.FaultKind.{FaultKind}
+use Rattle.gk_commands.specs.declared.faults.FaultKind.TheVariants.{BadName, BadNumber, BadAddress, Missing}
+use Rattle.gk_commands.specs.declared.commands.Command.{Command}
+use Rattle.gk_commands.specs.declared.commands.Command.TheVariants.{ZoneLocal}
+use Rattle.gk_commands.specs.declared.commands.LocalAddress.{LocalAddress}
 use Rattle.gk_terms.specs.Fields.{◌>>=◌, field}
-use Rattle.command_reader.specs.Fields.{value_but, nothing_more_but}
-use Rattle.command_reader.specs.ZoneLine.{left_out_of_local, local_port_at, local_address_at, zone_local_at}
-use Rattle.command_reader.specs.Printing.{command_words, local_words}
+use Rattle.gk_commands.specs.Fields.{value_but, nothing_more_but}
+use Rattle.gk_commands.specs.ZoneLine.{left_out_of_local, local_port_at, local_address_at, zone_local_at}
+use Rattle.gk_commands.specs.Printing.{command_words, local_words}
 use Rattle.command_reader.proofs.read_back.Words.{AreWords}
 use Rattle.command_reader.proofs.read_back.Numbers.{number_spelled}
 use Rattle.command_reader.proofs.read_back.Address.{ip_spelled}

@@ -11,7 +11,7 @@ use Rattle.std.proofs.lemmas.Str.Parse.{IsDigitsTest, FoldsDigits, IsNumeralMode
 use Rattle.gk_terms.specs.Spelling.{is_visible}
 use Rattle.gk_terms.specs.Text.{is_empty}
 use Rattle.gk_terms.specs.Number.{is_numeral, value_of, number_of}
-use Rattle.command_reader.specs.Accepted.{is_word}
+use Rattle.gk_commands.specs.Accepted.{is_word}
 use Rattle.command_reader.proofs.read_back.Words.{word_from}
 
 -- what a test lets through

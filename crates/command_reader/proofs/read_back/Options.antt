@@ -5,13 +5,13 @@ use Rattle.std.specs.Option.{ok_or}
 use Rattle.std.proofs.lemmas.Bool.{and_from}
 use Rattle.std.proofs.lemmas.List.Folds.{list_all-append}
 use Rattle.gk_terms.specs.Fields.{◌>>=◌}
-use Rattle.command_reader.specs.declared.faults.FaultKind.{FaultKind}
-use Rattle.command_reader.specs.declared.faults.FaultKind.TheVariants.{BadName}
-use Rattle.command_reader.specs.Fields.{is_one_of}
-use Rattle.command_reader.specs.ZoneLine.{hunt_words}
-use Rattle.command_reader.specs.TechnologyLine.{TechnologyOptions, is_option_word, with_hopoff, options_at}
-use Rattle.command_reader.specs.Printing.{further_words, hopoff_words, default_words}
-use Rattle.command_reader.specs.Accepted.{is_word}
+use Rattle.gk_commands.specs.declared.faults.FaultKind.{FaultKind}
+use Rattle.gk_commands.specs.declared.faults.FaultKind.TheVariants.{BadName}
+use Rattle.gk_commands.specs.Fields.{is_one_of}
+use Rattle.gk_commands.specs.ZoneLine.{hunt_words}
+use Rattle.gk_commands.specs.TechnologyLine.{TechnologyOptions, is_option_word, with_hopoff, options_at}
+use Rattle.gk_commands.specs.Printing.{further_words, hopoff_words, default_words}
+use Rattle.gk_commands.specs.Accepted.{is_word}
 use Rattle.command_reader.proofs.read_back.Words.{AreWords}
 use Rattle.command_reader.proofs.read_back.Fields.{IsNamed}
 use Rattle.command_reader.proofs.read_back.Hopoffs.{AreNamed}

@@ -10,7 +10,7 @@ use Rattle.gk_terms.specs.Spelling.{is_visible}
 use Rattle.digit_patterns.specs.PatternParts.{PatternParts, IsPattern, character_count}
 use Rattle.digit_patterns.specs.Pattern.{pattern_text, pattern_of}
 use Rattle.digit_patterns.proofs.ReadBack.{pattern_of-spelled}
-use Rattle.command_reader.specs.Accepted.{is_word}
+use Rattle.gk_commands.specs.Accepted.{is_word}
 use Rattle.command_reader.proofs.read_back.Words.{word_from}
 use Rattle.command_reader.proofs.read_back.Numbers.{visible_digits}
 

@@ -7,17 +7,17 @@ use Rattle.gk_terms.specs.Name.{name_of}
 use Rattle.gk_terms.specs.Number.{number_of}
 use Rattle.digit_patterns.specs.PatternParts.{PatternParts}
 use Rattle.digit_patterns.specs.Pattern.{pattern_text, pattern_of}
-use Rattle.command_reader.specs.declared.faults.FaultKind.{FaultKind}
-use Rattle.command_reader.specs.declared.faults.FaultKind.TheVariants.{BadName, BadNumber, BadPattern, Missing}
-use Rattle.command_reader.specs.declared.commands.Command.{Command}
-use Rattle.command_reader.specs.declared.commands.Command.TheVariants.{ZonePrefix}
-use Rattle.command_reader.specs.declared.commands.GatewayPriority.{GatewayPriority}
+use Rattle.gk_commands.specs.declared.faults.FaultKind.{FaultKind}
+use Rattle.gk_commands.specs.declared.faults.FaultKind.TheVariants.{BadName, BadNumber, BadPattern, Missing}
+use Rattle.gk_commands.specs.declared.commands.Command.{Command}
+use Rattle.gk_commands.specs.declared.commands.Command.TheVariants.{ZonePrefix}
+use Rattle.gk_commands.specs.declared.commands.GatewayPriority.{GatewayPriority}
 use Rattle.gk_terms.specs.Fields.{◌>>=◌, field}
-use Rattle.command_reader.specs.Fields.{is_one_of, with_name, names_in, some_names_in}
-use Rattle.command_reader.specs.ZoneLine.{hunt_words, after_hunt_word, with_gateways, gateways_at, zone_prefix_at}
-use Rattle.command_reader.specs.Line.{kept_command_of, command_at}
-use Rattle.command_reader.specs.Printing.{command_words, gateway_words}
-use Rattle.command_reader.specs.Accepted.{is_word}
+use Rattle.gk_commands.specs.Fields.{is_one_of, with_name, names_in, some_names_in}
+use Rattle.gk_commands.specs.ZoneLine.{hunt_words, after_hunt_word, with_gateways, gateways_at, zone_prefix_at}
+use Rattle.gk_commands.specs.Line.{kept_command_of, command_at}
+use Rattle.gk_commands.specs.Printing.{command_words, gateway_words}
+use Rattle.gk_commands.specs.Accepted.{is_word}
 use Rattle.command_reader.proofs.read_back.Words.{AreWords}
 use Rattle.command_reader.proofs.read_back.Numbers.{number_spelled}
 use Rattle.command_reader.proofs.read_back.Pattern.{pattern_read}

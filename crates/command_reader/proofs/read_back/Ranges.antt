@@ -7,20 +7,20 @@ use Rattle.gk_terms.specs.Number.{is_numeral, value_of, number_of}
 use Rattle.gk_terms.specs.Address.{ip_of, port_of}
 use Rattle.gk_terms.specs.Fields.{field}
 use Rattle.digit_patterns.specs.Pattern.{pattern_of, pattern_text}
-use Rattle.command_reader.specs.declared.bandwidth_lines.TheConstants.{MOST_KBPS}
-use Rattle.command_reader.specs.declared.faults.FaultKind.TheVariants.{BadName, BadNumber, BadAddress, BadPattern, Missing}
-use Rattle.command_reader.specs.declared.commands.Command.{Command}
-use Rattle.command_reader.specs.declared.commands.Command.TheVariants.{ZoneLocal, ZoneRemote, ZonePrefix, GwTypePrefix, RejectUnknownPrefix, BandwidthDefault, BandwidthZone, BandwidthRemote}
-use Rattle.command_reader.specs.declared.commands.LimitKind.{LimitKind}
-use Rattle.command_reader.specs.declared.commands.LimitKind.TheVariants.{Session, Total, Interzone}
-use Rattle.command_reader.specs.declared.commands.LocalAddress.{LocalAddress}
-use Rattle.command_reader.specs.declared.commands.GatewayPriority.{GatewayPriority}
-use Rattle.command_reader.specs.Fields.{value_but, some_names_in}
-use Rattle.command_reader.specs.ZoneLine.{left_out_of_local, local_port_at, local_address_at, zone_local_at, after_hunt_word, gateways_at, zone_prefix_at, zone_remote_at}
-use Rattle.command_reader.specs.BandwidthLine.{most_of, default_limit_at, zone_limit_at, remote_limit_at}
-use Rattle.command_reader.specs.Line.{command_at}
-use Rattle.command_reader.specs.Printing.{command_words, local_words, remote_words, gateway_words}
-use Rattle.command_reader.specs.Accepted.{PrintsBack, canonical_line, IsWithin, IsPort, IsSizeOf, HasNumbersInRange}
+use Rattle.gk_commands.specs.declared.numbers.TheConstants.{MOST_KBPS}
+use Rattle.gk_commands.specs.declared.faults.FaultKind.TheVariants.{BadName, BadNumber, BadAddress, BadPattern, Missing}
+use Rattle.gk_commands.specs.declared.commands.Command.{Command}
+use Rattle.gk_commands.specs.declared.commands.Command.TheVariants.{ZoneLocal, ZoneRemote, ZonePrefix, GwTypePrefix, RejectUnknownPrefix, BandwidthDefault, BandwidthZone, BandwidthRemote}
+use Rattle.gk_commands.specs.declared.commands.LimitKind.{LimitKind}
+use Rattle.gk_commands.specs.declared.commands.LimitKind.TheVariants.{Session, Total, Interzone}
+use Rattle.gk_commands.specs.declared.commands.LocalAddress.{LocalAddress}
+use Rattle.gk_commands.specs.declared.commands.GatewayPriority.{GatewayPriority}
+use Rattle.gk_commands.specs.Fields.{value_but, some_names_in}
+use Rattle.gk_commands.specs.ZoneLine.{left_out_of_local, local_port_at, local_address_at, zone_local_at, after_hunt_word, gateways_at, zone_prefix_at, zone_remote_at}
+use Rattle.gk_commands.specs.BandwidthLine.{most_of, default_limit_at, zone_limit_at, remote_limit_at}
+use Rattle.gk_commands.specs.Line.{command_at}
+use Rattle.gk_commands.specs.Printing.{command_words, local_words, remote_words, gateway_words}
+use Rattle.gk_commands.specs.Accepted.{PrintsBack, canonical_line, IsWithin, IsPort, IsSizeOf, HasNumbersInRange}
 use Rattle.command_reader.proofs.read_back.Words.{words_back}
 use Rattle.command_reader.proofs.read_back.Numbers.{then_some-parts}
 use Rattle.command_reader.proofs.read_back.Fields.{bound, chosen, field_read, value_read, nothing_more_read}

@@ -7,17 +7,17 @@ use Rattle.std.proofs.lemmas.Fmt.{length-decimal-le}
 use Rattle.gk_terms.specs.Name.{name_of}
 use Rattle.gk_terms.specs.Number.{number_of}
 use Rattle.gk_terms.specs.Address.{ip_of, ip_text, port_of}
-use Rattle.command_reader.specs.declared.zone_lines.TheConstants.{DEFAULT_RAS_PORT, DEFAULT_COST, DEFAULT_PRIORITY}
-use Rattle.command_reader.specs.declared.faults.FaultKind.{FaultKind}
-use Rattle.command_reader.specs.declared.faults.FaultKind.TheVariants.{BadName, BadNumber, BadAddress, Missing}
-use Rattle.command_reader.specs.declared.commands.Command.{Command}
-use Rattle.command_reader.specs.declared.commands.Command.TheVariants.{ZoneRemote}
+use Rattle.gk_commands.specs.declared.numbers.TheConstants.{DEFAULT_RAS_PORT, DEFAULT_COST, DEFAULT_PRIORITY}
+use Rattle.gk_commands.specs.declared.faults.FaultKind.{FaultKind}
+use Rattle.gk_commands.specs.declared.faults.FaultKind.TheVariants.{BadName, BadNumber, BadAddress, Missing}
+use Rattle.gk_commands.specs.declared.commands.Command.{Command}
+use Rattle.gk_commands.specs.declared.commands.Command.TheVariants.{ZoneRemote}
 use Rattle.gk_terms.specs.Fields.{◌>>=◌, field, with_rest}
-use Rattle.command_reader.specs.Fields.{field_but, value_but, nothing_more_but}
-use Rattle.command_reader.specs.ZoneLine.{left_out_of_remote, cost_of, remote_port_at, remote_priority_at, with_priority, remote_cost_at, zone_remote_at}
-use Rattle.command_reader.specs.Line.{kept_command_of, command_at}
-use Rattle.command_reader.specs.Printing.{command_words, remote_words}
-use Rattle.command_reader.specs.Accepted.{is_word}
+use Rattle.gk_commands.specs.Fields.{field_but, value_but, nothing_more_but}
+use Rattle.gk_commands.specs.ZoneLine.{left_out_of_remote, cost_of, remote_port_at, remote_priority_at, with_priority, remote_cost_at, zone_remote_at}
+use Rattle.gk_commands.specs.Line.{kept_command_of, command_at}
+use Rattle.gk_commands.specs.Printing.{command_words, remote_words}
+use Rattle.gk_commands.specs.Accepted.{is_word}
 use Rattle.command_reader.proofs.read_back.Words.{AreWords}
 use Rattle.command_reader.proofs.read_back.Numbers.{number_spelled}
 use Rattle.command_reader.proofs.read_back.Address.{IsOwnIp, ip_back}

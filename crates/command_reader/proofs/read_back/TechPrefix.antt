@@ -8,7 +8,7 @@ use Rattle.std.proofs.lemmas.Bool.Decides.{nat_tests}
 use Rattle.std.proofs.lemmas.List.{length-take-le}
 use Rattle.gk_terms.specs.TechPrefix.{is_technology_byte, is_tech_prefix, without_star, tech_prefix_of}
 use Rattle.gk_terms.proofs.Visible.{visible_from_tech_prefix}
-use Rattle.command_reader.specs.Accepted.{is_word}
+use Rattle.gk_commands.specs.Accepted.{is_word}
 use Rattle.command_reader.proofs.read_back.Words.{word_from}
 use Rattle.command_reader.proofs.read_back.Numbers.{then_some-parts}
 

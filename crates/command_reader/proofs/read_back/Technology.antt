@@ -3,15 +3,15 @@ use Rattle.std.proofs.Common.{◌≡◌, ℕ, ◌≤◌, true, false, List, [], 
 use Rattle.std.specs.Prelude.{codes}
 use Rattle.std.proofs.lemmas.Bool.{and_from}
 use Rattle.gk_terms.specs.TechPrefix.{tech_prefix_of}
-use Rattle.command_reader.specs.declared.faults.FaultKind.{FaultKind}
-use Rattle.command_reader.specs.declared.faults.FaultKind.TheVariants.{BadPattern, Missing}
-use Rattle.command_reader.specs.declared.commands.Command.{Command}
-use Rattle.command_reader.specs.declared.commands.Command.TheVariants.{GwTypePrefix}
+use Rattle.gk_commands.specs.declared.faults.FaultKind.{FaultKind}
+use Rattle.gk_commands.specs.declared.faults.FaultKind.TheVariants.{BadPattern, Missing}
+use Rattle.gk_commands.specs.declared.commands.Command.{Command}
+use Rattle.gk_commands.specs.declared.commands.Command.TheVariants.{GwTypePrefix}
 use Rattle.gk_terms.specs.Fields.{◌>>=◌, field}
-use Rattle.command_reader.specs.TechnologyLine.{TechnologyOptions, options_at, gw_type_prefix_at}
-use Rattle.command_reader.specs.Line.{kept_command_of, command_at}
-use Rattle.command_reader.specs.Printing.{command_words, hopoff_words, default_words}
-use Rattle.command_reader.specs.Accepted.{is_word}
+use Rattle.gk_commands.specs.TechnologyLine.{TechnologyOptions, options_at, gw_type_prefix_at}
+use Rattle.gk_commands.specs.Line.{kept_command_of, command_at}
+use Rattle.gk_commands.specs.Printing.{command_words, hopoff_words, default_words}
+use Rattle.gk_commands.specs.Accepted.{is_word}
 use Rattle.command_reader.proofs.read_back.Words.{AreWords}
 use Rattle.command_reader.proofs.read_back.Fields.{bound, bind_at, field_read, field_again}
 use Rattle.command_reader.proofs.read_back.Lengths.{cost}

@@ -1,17 +1,16 @@
 -- Words with a space between each two read back as those words, and lines of them as those lines.
-use Rattle.std.proofs.Common.{◌≡◌, ℕ, ◌<◌, Bool, true, false, cond, zero, suc, List, [], ◌∷◌, ◌++◌, length, length-append, take, get_or, refl, ap, ◌∙◌, arith}
+use Rattle.std.proofs.Common.{◌≡◌, ℕ, ◌≤◌, ◌<◌, Bool, true, false, cond, zero, suc, List, [], ◌∷◌, ◌++◌, length, length-append, take, get_or, refl, ap, ◌∙◌, arith}
 use Rattle.std.specs.Prelude.{◌-◌, not, ◌||◌, ◌==◌, filter, map, flat_map, slice_index}
-use Rattle.std.specs.List.{list_all, slice_split, AllByRecursion}
+use Rattle.std.specs.List.{list_all, position_or_len, slice_split, AllByRecursion}
 use Rattle.std.proofs.lemmas.Bool.{and_parts, and_from}
 use Rattle.std.proofs.lemmas.Bool.Decides.{nat_tests}
 use Rattle.std.proofs.lemmas.List.{append-nil}
 use Rattle.std.proofs.lemmas.List.Elements.{All-from_recursion}
 use Rattle.std.proofs.lemmas.List.Splits.{slice_split_at, slice_split_none}
 use Rattle.std.proofs.Math.Seq.{take-append_seam}
-use Rattle.gk_lines.specs.LineReader.{HasNoFeed}
-use Rattle.gk_lines.proofs.LinesRead.{whole_line_first}
 use Rattle.gk_terms.specs.Spelling.{is_visible}
-use Rattle.command_reader.specs.Accepted.{is_word}
+use Rattle.gk_commands.specs.Accepted.{is_word}
+use Rattle.gk_commands.proofs.LinesLemmas.{feed_later, line_first}
 use Rattle.gk_terms.specs.Text.{is_blank, is_empty, words_of, strip_carriage_return, content_of, lines_of, spaced, line_text}
 
 pub word_from : (text : List ℕ) → 0 < length text → list_all is_visible text ≡ true → is_word text ≡
@@ -107,10 +106,13 @@ no_feed b h = grind (arith, nat_tests)
 no_return : (b : ℕ) → is_printed b ≡ true → (b == 13) ≡ false
 no_return b h = grind (arith, nat_tests)
 
--- no byte of such a line is a line feed
-no_feeds : (line : List ℕ) → list_all is_printed line ≡ true → HasNoFeed line
-no_feeds [] h = tt
-no_feeds (b ∷ bs) h = let p = and_parts _ _ h in (no_feed b p.0, no_feeds bs p.1)
+-- no line feed is found in such a line
+no_feeds : (line : List ℕ) → list_all is_printed line ≡ true → length line ≤ position_or_len
+    (λ b. b == 10) line
+no_feeds [] h = omega arith
+no_feeds (b ∷ bs) h =
+    let p = and_parts _ _ h in
+    omega (arith, no_feeds bs p.1, feed_later b bs (no_feed b p.0))
 
 -- no byte of such a line is a carriage return
 no_return_at : (line : List ℕ) (i : ℕ) → list_all is_printed line ≡ true →
@@ -118,31 +120,6 @@ no_return_at : (line : List ℕ) (i : ℕ) → list_all is_printed line ≡ true
 no_return_at [] i h = refl
 no_return_at (b ∷ bs) zero h = no_return b (and_parts _ _ h).0
 no_return_at (b ∷ bs) (suc i) h = no_return_at bs i (and_parts _ _ h).1
-
-last_is_feed : (line : List ℕ) → get_or (line ++ (10 ∷ [])) (length line) 0 ≡ 10
-last_is_feed [] = refl
-last_is_feed (b ∷ bs) = last_is_feed bs
-
-content_back : (line : List ℕ) → (slice_index line (length line - 1) == 13) ≡ false → content_of
-    (line ++ (10 ∷ [])) ≡ line
-content_back line other =
-    let raw : List ℕ = line ++ (10 ∷ []) in
-    let last : length raw - 1 ≡ length line = omega (arith, length-append {A = ℕ}) in
-    let feed : slice_index raw (length raw - 1) ≡ 10 = ap (λ k. get_or raw k 0) last ∙ last_is_feed
-    line in
-    let front : take (length raw - 1) raw ≡ line = ap (λ k. take k raw) last ∙ take-append_seam line
-    (10 ∷ []) in
-    ap (λ b. cond (b == 10) (strip_carriage_return (take (length raw - 1) raw)) raw) feed
-    ∙ ap strip_carriage_return front
-    ∙ ap (λ t. cond t (take (length line - 1) line) line) other
-
--- a line without a line feed, and without a carriage return at its end, in front of others
-pub line_first : (line rest : List ℕ) → HasNoFeed line → (slice_index line (length line - 1) == 13)
-    ≡ false
-    → lines_of ((line ++ (10 ∷ [])) ++ rest) ≡ line ∷ lines_of rest
-line_first line rest free other =
-    ap (map content_of) (whole_line_first (line ++ (10 ∷ [])) rest (line, free, refl))
-    ∙ ap (λ content. content ∷ lines_of rest) (content_back line other)
 
 -- lines of words, each with its line feed, are the lines of their text
 pub lines_back : {X : Type 0} (words : X → List (List ℕ)) (xs : List X) → list_all

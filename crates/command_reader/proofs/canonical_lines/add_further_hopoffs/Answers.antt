@@ -1,7 +1,7 @@
 use Rattle.std.proofs.Common.{take, ap, ◌∙◌}
 use Rattle.std.specs.Prelude.{flat_map}
 use Rattle.gk_lines.specs.LineBuffer.{with_words}
-use Rattle.command_reader.specs.Printing.{further_words}
+use Rattle.gk_commands.specs.Printing.{further_words}
 use Rattle.command_reader.proofs.CanonicalLemmas.{further_more}
 use Rattle.command_reader.proofs.canonical_lines.add_further_hopoffs.Goals as goal
 

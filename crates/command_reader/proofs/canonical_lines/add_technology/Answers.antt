@@ -1,5 +1,5 @@
 use Rattle.std.proofs.Common.{sym}
-use Rattle.command_reader.specs.Printing.{hopoff_words, default_words}
+use Rattle.gk_commands.specs.Printing.{hopoff_words, default_words}
 use Rattle.gk_lines.proofs.LineBufferLemmas.{words_twice}
 use Rattle.command_reader.proofs.canonical_lines.add_technology.Goals as goal
 

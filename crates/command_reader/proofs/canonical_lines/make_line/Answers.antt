@@ -1,4 +1,4 @@
-use Rattle.command_reader.specs.Printing.{command_words}
+use Rattle.gk_commands.specs.Printing.{command_words}
 use Rattle.gk_lines.proofs.LineBufferLemmas.{line_whole}
 use Rattle.command_reader.proofs.CanonicalLemmas.{line_fits}
 use Rattle.command_reader.proofs.canonical_lines.make_line.Goals as goal

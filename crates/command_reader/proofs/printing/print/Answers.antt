@@ -1,6 +1,6 @@
 use Rattle.std.proofs.Common.{sym, subst}
 use Rattle.std.specs.List.{All}
-use Rattle.command_reader.specs.Accepted.{PrintsBack}
+use Rattle.gk_commands.specs.Accepted.{PrintsBack}
 use Rattle.command_reader.proofs.read_back.File.{file_back}
 use Rattle.command_reader.proofs.printing.print.Goals as goal
 

@@ -2,7 +2,7 @@ use Rattle.std.proofs.Common.{ap, subst, ◌∙◌}
 use Rattle.std.specs.Io.KnownBytes.{Appends}
 use Rattle.std.proofs.lemmas.List.{take_all}
 use Rattle.gk_lines.specs.Streams.{AppendsFront}
-use Rattle.command_reader.specs.Printing.{text_of}
+use Rattle.gk_commands.specs.Printing.{text_of}
 use Rattle.command_reader.proofs.PrintingLemmas.{line_of_command, line_more, front_of_all, OnErr-from}
 use Rattle.command_reader.proofs.printing.print_lines.Goals as goal
 

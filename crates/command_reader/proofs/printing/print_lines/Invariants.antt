@@ -1,6 +1,6 @@
 use Rattle.std.proofs.Common.{◌≡◌, take}
 use Rattle.std.specs.Io.KnownBytes.{Appends}
-use Rattle.command_reader.specs.Printing.{text_of}
+use Rattle.gk_commands.specs.Printing.{text_of}
 use Rattle.command_reader.proofs.printing.print_lines.Given as goal
 
 abbrev pub invariant-loop-command : goal.invariant-loop-command

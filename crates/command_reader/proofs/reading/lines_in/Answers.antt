@@ -1,7 +1,7 @@
 use Rattle.std.proofs.Common.{rules, ◌≡◌, ◌∷◌, Ok, Err, map, ap}
 use Rattle.std.proofs.lemmas.Result.{err_from_is_err_and}
 use Rattle.gk_terms.specs.Text.{lines_of, content_of}
-use Rattle.command_reader.specs.Reading.{MayReadLine}
+use Rattle.gk_commands.specs.Reading.{MayReadLine}
 use Rattle.command_reader.proofs.one_by_one.ReadOnLemmas.{one_line, refused_line, no_more_lines}
 use Rattle.command_reader.proofs.reading.lines_in.Goals as goal
 

@@ -1,8 +1,8 @@
 use Rattle.std.specs.Prelude.{Result}
 use Rattle.gk_terms.specs.Text.{lines_of}
-use Rattle.command_reader.specs.declared.faults.LineFault.{LineFault}
-use Rattle.command_reader.specs.Progress.{Progress}
-use Rattle.command_reader.specs.Reading.{nothing_read, MayReadOn}
+use Rattle.gk_commands.specs.declared.faults.LineFault.{LineFault}
+use Rattle.gk_commands.specs.Progress.{Progress}
+use Rattle.gk_commands.specs.Reading.{nothing_read, MayReadOn}
 use Rattle.command_reader.proofs.reading.lines_in.Given as goal
 
 -- whatever may be answered of the lines that are left, after those read, may be answered of all

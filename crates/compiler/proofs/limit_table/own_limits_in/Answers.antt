@@ -1,7 +1,7 @@
 use Rattle.std.proofs.Common.{◌≡◌, List, [], ◌∷◌, ◌++◌, ◌+◌, length, take, drop, replicate, ap, sym, subst, ◌∙◌}
 use Rattle.std.specs.Prelude.{option_map}
 use Rattle.std.proofs.lemmas.List.{take_all, length-replicate}
-use Rattle.command_reader.specs.declared.commands.Command.{Command}
+use Rattle.gk_commands.specs.declared.commands.Command.{Command}
 use Rattle.compiler.specs.declared.limits.ZoneLimits.{ZoneLimits}
 use Rattle.compiler.specs.TablesIndex.{no_limits, limits_or, limits_said, kept_limits, AreOwnLimits}
 use Rattle.compiler.proofs.LimitLemmas.{own_limits_begin, own_limits_more, written_back}

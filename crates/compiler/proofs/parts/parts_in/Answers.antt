@@ -1,4 +1,4 @@
-use Rattle.command_reader.proofs.accepted.AcceptedLemmas.{names_differ}
+use Rattle.gk_commands.proofs.AcceptedLemmas.{names_differ}
 use Rattle.compiler.proofs.TableLemmas.{few_zones}
 use Rattle.compiler.proofs.parts.parts_in.Goals as goal
 

@@ -1,5 +1,5 @@
 use Rattle.std.proofs.Common.{◌≡◌, take}
-use Rattle.command_reader.specs.Zones.{zones_of}
+use Rattle.gk_commands.specs.Zones.{zones_of}
 use Rattle.compiler.proofs.zone_table.zones_in.Given as goal
 
 abbrev pub invariant-loop-command : goal.invariant-loop-command

@@ -1,6 +1,6 @@
 use Rattle.std.proofs.Common.{◌≡◌, None, take, fold}
 use Rattle.std.specs.Option.{option_or}
-use Rattle.command_reader.specs.Zones.{declared_by}
+use Rattle.gk_commands.specs.Zones.{declared_by}
 use Rattle.explanation.specs.Lists.{kind_if}
 use Rattle.explanation.proofs.others.kind_in.Given as goal
 

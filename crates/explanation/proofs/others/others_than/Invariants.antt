@@ -1,5 +1,5 @@
 use Rattle.std.proofs.Common.{◌≡◌, [], take, fold}
-use Rattle.command_reader.specs.Zones.{declared_by}
+use Rattle.gk_commands.specs.Zones.{declared_by}
 use Rattle.explanation.specs.Lists.{with_declared}
 use Rattle.explanation.proofs.others.others_than.Given as goal
 

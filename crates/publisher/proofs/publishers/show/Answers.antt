@@ -1,7 +1,7 @@
 use Rattle.std.proofs.Common.{◌≡◌, ◌∙◌, List, ap, drop, sym, subst}
 use Rattle.std.specs.Arc.{arc_value}
 use mathlib.Core.List.{IsPrefix}
-use Rattle.command_reader.specs.declared.commands.Command.{Command}
+use Rattle.gk_commands.specs.declared.commands.Command.{Command}
 use Rattle.publisher.specs.declared.publications.Publication.{Publication}
 use Rattle.publisher.specs.History.{shown_by}
 use Rattle.publisher.specs.Publications.{list_of}

@@ -1,5 +1,5 @@
 use Rattle.std.proofs.Common.{sym, ap, ◌∙◌}
-use Rattle.command_reader.specs.Zones.{is_local}
+use Rattle.gk_commands.specs.Zones.{is_local}
 use Rattle.registry.proofs.KeepingLemmas.{one_goes, all_looked_at}
 use Rattle.registry.proofs.keeping.keep_zones.Goals as goal
 

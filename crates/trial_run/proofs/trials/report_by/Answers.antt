@@ -3,10 +3,10 @@ use Rattle.std.specs.Prelude.{vec_items}
 use Rattle.std.specs.List.{flat_map}
 use Rattle.std.proofs.lemmas.List.{length-map}
 use Rattle.std.specs.Map.{keys_of}
-use Rattle.command_reader.specs.declared.commands.Command.{Command}
-use Rattle.command_reader.specs.declared.zones.ZoneKind.{ZoneKind}
-use Rattle.command_reader.specs.Accepted.{IsAccepted}
-use Rattle.command_reader.specs.Zones.{zones_of}
+use Rattle.gk_commands.specs.declared.commands.Command.{Command}
+use Rattle.gk_commands.specs.declared.zones.ZoneKind.{ZoneKind}
+use Rattle.gk_commands.specs.Accepted.{IsAccepted}
+use Rattle.gk_commands.specs.Zones.{zones_of}
 use Rattle.call_rows.specs.Moves.{IsSound, Move}
 use Rattle.call_rows.specs.Rows.{admissions_of}
 use Rattle.call_rows.proofs.MoveLemmas.{moves_sound}

@@ -1,6 +1,6 @@
 use Rattle.std.proofs.Common.{◌≡◌, ap, sym, ◌∙◌, take, ◌+◌, ◌++◌, ◌∷◌, []}
 use Rattle.std.specs.Map.{keys_of}
-use Rattle.command_reader.specs.Zones.{zones_of}
+use Rattle.gk_commands.specs.Zones.{zones_of}
 use Rattle.compiler.proofs.StepLemmas.{take_with}
 use Rattle.trial_run.proofs.ZoneLemmas.{name_more, names_same}
 use Rattle.trial_run.proofs.zone_names.zone_names.Goals as goal

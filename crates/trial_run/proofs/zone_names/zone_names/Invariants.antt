@@ -1,6 +1,6 @@
 use Rattle.std.proofs.Common.{◌≡◌, take}
 use Rattle.std.specs.Map.{keys_of}
-use Rattle.command_reader.specs.Zones.{zones_of}
+use Rattle.gk_commands.specs.Zones.{zones_of}
 use Rattle.trial_run.proofs.zone_names.zone_names.Given as goal
 
 abbrev pub invariant-loop-command : goal.invariant-loop-command

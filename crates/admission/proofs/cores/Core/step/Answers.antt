@@ -1,7 +1,7 @@
 use Rattle.std.proofs.Common.{◌≡◌, true, length, refl, sym, ap, subst, ◌∙◌, arith}
 use Rattle.std.specs.Prelude.{IfSome}
 use Rattle.std.specs.Option.{option_copied}
-use Rattle.command_reader.specs.Accepted.{IsAccepted}
+use Rattle.gk_commands.specs.Accepted.{IsAccepted}
 use Rattle.rulings.specs.Events.{event_meant}
 use Rattle.rulings.specs.Founded.{IsFallible}
 use Rattle.rulings.specs.Lent.{IsPlanOf, ruling_meant}

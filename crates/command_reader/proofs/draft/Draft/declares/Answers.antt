@@ -1,5 +1,5 @@
 use Rattle.std.proofs.Common.{sym, ap, ◌∙◌}
-use Rattle.command_reader.specs.Zones.{is_declared}
+use Rattle.gk_commands.specs.Zones.{is_declared}
 use Rattle.command_reader.proofs.one_by_one.NumberLemmas.{held_commands}
 use Rattle.command_reader.proofs.draft.Draft.declares.Goals as goal
 

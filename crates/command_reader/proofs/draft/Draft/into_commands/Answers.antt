@@ -1,7 +1,7 @@
 use Rattle.std.proofs.Common.{sym, ap, subst, ◌∙◌, ◌≡◌}
-use Rattle.command_reader.specs.Accepted.{IsAccepted, IsPrintable}
-use Rattle.command_reader.specs.Configuration.{Configuration}
-use Rattle.command_reader.specs.Progress.{Progress, commands_in}
+use Rattle.gk_commands.specs.Accepted.{IsAccepted, IsPrintable}
+use Rattle.gk_commands.specs.Configuration.{Configuration}
+use Rattle.gk_commands.specs.Progress.{Progress, commands_in}
 use Rattle.command_reader.proofs.read_back.File.{accepted_lines}
 use Rattle.command_reader.proofs.one_by_one.NumberLemmas.{held_commands}
 use Rattle.command_reader.proofs.draft.Draft.into_commands.Goals as goal

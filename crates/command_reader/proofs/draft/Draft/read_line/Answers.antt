@@ -3,14 +3,13 @@ use Rattle.std.specs.HashSet.{keys}
 use Rattle.gk_terms.specs.declared.limits.TheConstants.{MOST_LINES}
 use Rattle.command_reader.specs.declared.kept.Kept.{Kept}
 use Rattle.command_reader.specs.Index.{AreDeclared}
-use Rattle.command_reader.specs.Progress.{Progress, line_count}
-use Rattle.command_reader.proofs.read_back.File.{one_more_printable}
+use Rattle.gk_commands.specs.Progress.{Progress, line_count}
+use Rattle.command_reader.proofs.read_back.File.{one_more_kept, one_more_printable}
 use Rattle.command_reader.proofs.read_back.Line.{command_back}
 use Rattle.command_reader.proofs.one_by_one.IndexLemmas.{same_fault, one_more_declared}
 use Rattle.command_reader.proofs.one_by_one.KeptLemmas.{line_kept, line_passed, line_refused}
 use Rattle.command_reader.proofs.one_by_one.NumberLemmas.{held_commands, held_count, held_more}
-use Rattle.command_reader.specs.WholeLines.{KeepsLine}
-use Rattle.command_reader.proofs.WholeLinesLemmas.{one_more_kept}
+use Rattle.gk_commands.specs.WholeLines.{KeepsLine}
 use Rattle.command_reader.proofs.draft.Draft.read_line.Goals as goal
 
 pub returns-in-Err : goal.returns-in-Err

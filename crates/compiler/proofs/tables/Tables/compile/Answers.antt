@@ -1,7 +1,7 @@
 use Rattle.std.proofs.Common.{sym, subst, ◌∙◌, List}
-use Rattle.command_reader.specs.declared.commands.Command.{Command}
-use Rattle.command_reader.specs.Accepted.{IsAccepted}
-use Rattle.command_reader.proofs.accepted.AcceptedLemmas.{named_declared}
+use Rattle.gk_commands.specs.declared.commands.Command.{Command}
+use Rattle.gk_commands.specs.Accepted.{IsAccepted}
+use Rattle.gk_commands.proofs.AcceptedLemmas.{named_declared}
 use Rattle.compiler.specs.TablesIndex.{IsIndex}
 use Rattle.compiler.proofs.tables.Tables.compile.Goals as goal
 

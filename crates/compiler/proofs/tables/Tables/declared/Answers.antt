@@ -1,5 +1,5 @@
 use Rattle.std.proofs.Common.{◌≡◌, sym, subst, None, Some}
-use Rattle.command_reader.specs.Configuration.{Configuration}
+use Rattle.gk_commands.specs.Configuration.{Configuration}
 use Rattle.compiler.specs.Technology.{technology_of}
 use Rattle.compiler.proofs.TableLemmas.{index_longest_none, index_longest}
 use Rattle.compiler.proofs.tables.Tables.declared.Goals as goal

@@ -2,7 +2,7 @@ use Rattle.std.proofs.Common.{◌≡◌, List, ℕ, sym, ap, subst, ◌∙◌, S
 use Rattle.std.specs.Prelude.{IfSome, nat_eq}
 use Rattle.std.specs.Map.{lookup}
 use Rattle.std.specs.Option.{option_copied}
-use Rattle.command_reader.specs.Configuration.{Configuration}
+use Rattle.gk_commands.specs.Configuration.{Configuration}
 use Rattle.compiler.specs.Plan.{row_meant}
 use Rattle.compiler.specs.Priority.{entries_of, AreNamedFor}
 use Rattle.compiler.proofs.TableLemmas.{kept_priorities}

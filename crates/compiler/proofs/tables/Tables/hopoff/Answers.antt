@@ -1,7 +1,7 @@
 use Rattle.std.proofs.Common.{◌≡◌, ℕ, ap, subst, ◌∙◌}
 use Rattle.std.specs.Prelude.{Option, option_map, option_and_then}
-use Rattle.command_reader.specs.Configuration.{Configuration}
-use Rattle.command_reader.specs.Zones.{zones_of}
+use Rattle.gk_commands.specs.Configuration.{Configuration}
+use Rattle.gk_commands.specs.Zones.{zones_of}
 use Rattle.compiler.specs.Pick.{picked}
 use Rattle.compiler.specs.Technology.{hopoffs_of}
 use Rattle.compiler.specs.TablesIndex.{hopoff_at}

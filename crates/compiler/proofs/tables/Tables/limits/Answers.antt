@@ -1,6 +1,6 @@
 use Rattle.std.proofs.Common.{◌≡◌, ap, subst, ◌∙◌}
 use Rattle.std.specs.Prelude.{unwrap_or}
-use Rattle.command_reader.specs.Configuration.{Configuration}
+use Rattle.gk_commands.specs.Configuration.{Configuration}
 use Rattle.compiler.specs.Limit.{limits_of}
 use Rattle.compiler.specs.TablesIndex.{kept_limits, no_limits}
 use Rattle.compiler.proofs.LimitLemmas.{limits_found}

@@ -1,7 +1,7 @@
 use Rattle.std.proofs.Common.{cond, Some, None, sym, ap, ◌∙◌}
 use Rattle.std.specs.Option.{option_copied}
-use Rattle.command_reader.specs.Configuration.{Configuration}
-use Rattle.command_reader.specs.Zones.{zones_of}
+use Rattle.gk_commands.specs.Configuration.{Configuration}
+use Rattle.gk_commands.specs.Zones.{zones_of}
 use Rattle.compiler.proofs.TableLemmas.{local_zone_by}
 use Rattle.compiler.proofs.tables.Tables.local_zone.Goals as goal
 

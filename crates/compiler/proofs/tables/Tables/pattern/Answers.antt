@@ -1,7 +1,7 @@
 use Rattle.std.proofs.Common.{◌≡◌, ap, sym, subst, ◌∙◌, Some}
 use Rattle.std.specs.Prelude.{Option, option_map, slice_get}
 use Rattle.digit_patterns.specs.PatternParts.{PatternParts}
-use Rattle.command_reader.specs.Configuration.{Configuration}
+use Rattle.gk_commands.specs.Configuration.{Configuration}
 use Rattle.compiler.specs.Plan.{row_at}
 use Rattle.compiler.specs.Rows.{ZoneRow}
 use Rattle.compiler.specs.TablesIndex.{NumberedRow}

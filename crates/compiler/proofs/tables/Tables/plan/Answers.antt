@@ -1,6 +1,6 @@
 use Rattle.std.proofs.Common.{◌≡◌, ap, sym, subst, ◌∙◌, None, Some}
-use Rattle.command_reader.specs.Configuration.{Configuration}
-use Rattle.command_reader.specs.Zones.{zones_of}
+use Rattle.gk_commands.specs.Configuration.{Configuration}
+use Rattle.gk_commands.specs.Zones.{zones_of}
 use Rattle.compiler.specs.Technology.{technology_of, hopoffs_of}
 use Rattle.compiler.specs.TablesIndex.{best_number}
 use Rattle.compiler.proofs.PlanLemmas.{plan_without_technology}

@@ -1,7 +1,7 @@
 use Rattle.std.proofs.Common.{◌≡◌, ap, sym, subst, ◌∙◌, Some}
 use Rattle.std.specs.Prelude.{IfSome, slice_get}
-use Rattle.command_reader.specs.Configuration.{Configuration}
-use Rattle.command_reader.specs.Zones.{zones_of}
+use Rattle.gk_commands.specs.Configuration.{Configuration}
+use Rattle.gk_commands.specs.Zones.{zones_of}
 use Rattle.compiler.specs.Plan.{row_meant, target_of, by_row}
 use Rattle.compiler.specs.TablesIndex.{plan_to, kind_at}
 use Rattle.compiler.proofs.TableLemmas.{index_plan_of_place, index_no_row}

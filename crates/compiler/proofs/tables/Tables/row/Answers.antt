@@ -1,5 +1,5 @@
 use Rattle.std.proofs.Common.{◌≡◌, ap, sym, subst, ◌∙◌, None, Some, drop}
-use Rattle.command_reader.specs.Configuration.{Configuration}
+use Rattle.gk_commands.specs.Configuration.{Configuration}
 use Rattle.compiler.specs.Plan.{row_meant}
 use Rattle.compiler.specs.Rows.{row_for}
 use Rattle.compiler.proofs.TableLemmas.{index_no_hit, index_row_of_hit}

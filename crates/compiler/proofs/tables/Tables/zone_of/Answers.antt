@@ -1,6 +1,6 @@
 use Rattle.std.proofs.Common.{◌≡◌, ap, sym, subst, ◌∙◌, None}
-use Rattle.command_reader.specs.Configuration.{Configuration}
-use Rattle.command_reader.specs.Zones.{zones_of}
+use Rattle.gk_commands.specs.Configuration.{Configuration}
+use Rattle.gk_commands.specs.Zones.{zones_of}
 use Rattle.compiler.specs.Zones.{view_at, view_of_name, number_in}
 use Rattle.compiler.proofs.TableLemmas.{no_view, number_found}
 use Rattle.compiler.proofs.tables.Tables.zone_of.Goals as goal

@@ -1,7 +1,7 @@
 use Rattle.std.proofs.Common.{◌++◌, ◌∷◌, ap, ◌∙◌}
 use Rattle.std.specs.Prelude.{codes}
 use Rattle.digit_patterns.specs.Pattern.{pattern_text}
-use Rattle.command_reader.specs.Printing.{gateway_words}
+use Rattle.gk_commands.specs.Printing.{gateway_words}
 use Rattle.explanation.proofs.WordLemmas.{ok_then, row_said}
 use Rattle.explanation.proofs.text.Text.add_row_line.Goals as goal
 

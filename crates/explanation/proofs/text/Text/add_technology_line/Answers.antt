@@ -1,6 +1,6 @@
 use Rattle.std.proofs.Common.{◌++◌, ◌∷◌, ap, ◌∙◌}
 use Rattle.std.specs.Prelude.{codes}
-use Rattle.command_reader.specs.Printing.{default_words, hopoff_words}
+use Rattle.gk_commands.specs.Printing.{default_words, hopoff_words}
 use Rattle.explanation.specs.Lists.{with_words}
 use Rattle.explanation.proofs.WordLemmas.{line_said, ok_then}
 use Rattle.explanation.proofs.text.Text.add_technology_line.Goals as goal

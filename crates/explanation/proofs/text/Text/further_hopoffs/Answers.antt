@@ -1,6 +1,6 @@
 use Rattle.std.proofs.Common.{take, ap, ◌∙◌}
 use Rattle.std.specs.Prelude.{flat_map}
-use Rattle.command_reader.specs.Printing.{further_words}
+use Rattle.gk_commands.specs.Printing.{further_words}
 use Rattle.explanation.specs.Lists.{with_words}
 use Rattle.explanation.proofs.WordLemmas.{further_more}
 use Rattle.explanation.proofs.text.Text.further_hopoffs.Goals as goal

@@ -1,6 +1,6 @@
 use Rattle.std.proofs.Common.{◌≡◌, ◌<◌, ◌≤◌, ◌-◌, length, ap, subst, ◌∙◌, arith}
 use Rattle.std.specs.Prelude.{min}
-use Rattle.command_reader.specs.Zones.{is_local}
+use Rattle.gk_commands.specs.Zones.{is_local}
 use Rattle.compiler.proofs.TechnologyLemmas.{most_is}
 use Rattle.registry.specs.Served.{AreWithin}
 use Rattle.registry.proofs.LearnedLemmas.{longest_found, may_be, none_found}

@@ -1,5 +1,5 @@
 use Rattle.std.proofs.Common.{◌<◌, ◌≤◌, ◌+◌, ℕ, take}
-use Rattle.command_reader.specs.Zones.{is_local}
+use Rattle.gk_commands.specs.Zones.{is_local}
 use Rattle.registry.specs.Served.{IsServed}
 use Rattle.registry.proofs.served.Served.longest_local.Given as goal
 

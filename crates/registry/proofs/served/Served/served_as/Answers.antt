@@ -1,5 +1,5 @@
 use Rattle.std.proofs.Common.{◌≡◌, Some, subst, ap, ◌∙◌}
-use Rattle.command_reader.specs.Zones.{is_local}
+use Rattle.gk_commands.specs.Zones.{is_local}
 use Rattle.registry.specs.Served.{IsServed, kept_for}
 use Rattle.registry.proofs.ServedLemmas.{served_from, served_nowhere}
 use Rattle.registry.proofs.served.Served.served_as.Goals as goal

@@ -1,0 +1,3 @@
+pub mod AcceptedLemmas
+pub mod LinesLemmas
+pub mod WholeLinesLemmas

@@ -1,0 +1,12 @@
+pub mod Accepted
+pub mod BandwidthLine
+pub mod Configuration
+pub mod Fields
+pub mod Line
+pub mod Printing
+pub mod Progress
+pub mod Reading
+pub mod TechnologyLine
+pub mod WholeLines
+pub mod ZoneLine
+pub mod Zones
