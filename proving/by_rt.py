@@ -9,8 +9,8 @@ FOLDERS = ("", "by_turn", "by_rt")
 
 
 def try_by_rt(root, names):
-    """Tries all edits of these crates, or of all that have some, on the last commit, in a clone that
-    is removed at the end, and returns the status."""
+    """Tries all edits of these crates, or of all that have some, on the last commit, in a clone
+    that is removed at the end, and returns the status."""
     status = 0
     with tempfile.TemporaryDirectory(prefix="wrong-bodies-") as room:
         clone = f"{room}/clone"

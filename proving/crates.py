@@ -62,8 +62,8 @@ def text_of(path):
 def crates_of(root):
     """The crates of the repository at this folder by their names, each after those below it."""
     lines = [it.partition("#")[0] for it in text_of(f"{root}/crates.txt").splitlines()]
-    named = {head.split()[0]: rest.split() for head, _, rest in (it.partition(":") for it in lines) if head.strip()}
-    made = {}
+    parts = [it.partition(":") for it in lines if it.strip()]
+    named, made = {name.split()[0]: needs.split() for name, _, needs in parts}, {}
 
     def make(name):
         if name not in made:

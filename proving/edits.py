@@ -1,8 +1,8 @@
 """Wrong bodies: edits of a crate's files that the prover has to refuse.
 
-An edit is a text with lines `file: PATH`, `old: TEXT` and `new: TEXT`. Each old text stands once in
-the file that the last `file:` line named, as the pairs before it left it, and the new text takes its
-place. No other line is read. `rt must-fail` takes the same form.
+An edit is a text with lines `file: PATH`, `old: TEXT` and `new: TEXT`. Each old text stands once
+in the file that the last `file:` line named, as the pairs before it left it, and the new text takes
+its place. No other line is read. `rt must-fail` takes the same form.
 """
 
 import dataclasses

@@ -21,11 +21,11 @@ def edits_to_try(root, names, every):
     turn, found = turn_of(root), {}
     for crate in [crates[it] for it in names] or crates.values():
         folder = f"{root}/wrong_bodies/{crate.name}"
-        edits = [it for it in edits_in(f"{crate.folder}/must-fail") if is_of_one_function(crate, it)]
-        edits += edits_in(folder)
+        of_rt = edits_in(f"{crate.folder}/must-fail")
+        edits = [it for it in of_rt if is_of_one_function(crate, it)] + edits_in(folder)
         others = edits_in(f"{folder}/by_turn")
         whole = every or has_changed(root, crate)
-        edits += others if whole else [it for at, it in enumerate(others) if at % TURNS == turn]
+        edits += others if whole else others[turn::TURNS]
         if edits:
             found[crate.name] = edits
     return found

@@ -83,7 +83,8 @@ def results_of(said, copies):
     for control in (it for it in copies if it.edit is None):
         outcome, why = said.outcome(control)
         if outcome != Outcome.MISSED:
-            unproved[control.function] = f"{control.function.name} as it stands is not proved: {why}"
+            name = control.function.name
+            unproved[control.function] = f"{name} as it stands is not proved: {why}"
     results = []
     for copy in (it for it in copies if it.edit is not None):
         outcome, why = said.outcome(copy)

@@ -53,8 +53,9 @@ def parts_of(edits):
 
 def are_proved(crate, gate):
     """Whether the libraries below the crate are there."""
-    names = {it.name for it in crate.below()}
-    return names <= gate.proved() if gate else all(os.path.isdir(it.library) for it in crate.below())
+    if gate:
+        return {it.name for it in crate.below()} <= gate.proved()
+    return all(os.path.isdir(it.library) for it in crate.below())
 
 
 def most_at_once(gate):
@@ -77,7 +78,8 @@ def tell(tried):
 
 def tell_all(root, tried, left, gate, seconds):
     """Says what became of all, and returns the status."""
-    refused = {(it.crate, r.edit) for it in tried for r in it.results if r.outcome == Outcome.REFUSED}
+    results = [(it.crate, result) for it in tried for result in it.results]
+    refused = {(name, it.edit) for name, it in results if it.outcome == Outcome.REFUSED}
     failed = sum(len(it.failures()) for it in tried) + sum(len(part) for _, part in left)
     for crate, part in left:
         lacking = [it.name for it in crate.below() if not os.path.isdir(it.library)]
