@@ -6,34 +6,20 @@
 //! `gkd serve FILE` serves many sessions over TCP.
 #![tactic(auto)]
 
-mod command_line;
-mod differing;
-mod explaining;
-mod files;
-mod run_files;
-mod saying;
 mod serving;
-mod trial_files;
 
-use clap::error::ErrorKind;
-use command_line::{BadNumber, BadWord, Task, task_of};
-use configuration_reader::check;
-use configuration_reader::check::CheckFault;
-use differing::{diff_files, form_of, listing_of};
-use explaining::explain_file;
-use gk_lines::Noted;
-use run_files::{run_file, run_input};
-use saying::{UNWRITTEN, cannot_read, fail, refuse_configuration};
 use serving::serve_file;
 use std::alloc::AllocGlobal;
-use std::io::{BufWriter, Write};
 use std::net::{Net, TcpListener, TcpStream};
 use std::process::ExitCode;
 use std::rt::Runtime;
 use std::sync::Wait;
 use std::thread::Threads;
-use std::{env, fs, io};
-use trial_files::{TrialFiles, try_files};
+use std::{env, io};
+use tasks::{
+    Task, TrialFiles, check_file, diff_files, explain_file, fail, form_of, listing_of,
+    refuse_command_line, refuse_number, refuse_word, run_file, run_input, task_of, try_files,
+};
 
 fn main(rt: HostRuntime) -> io::Result<ExitCode> {
     let words = match words(&rt) {
@@ -42,7 +28,7 @@ fn main(rt: HostRuntime) -> io::Result<ExitCode> {
     };
     match task_of(rt.alloc(), &words) {
         Ok(task) => carry_out(&rt, &task),
-        Err(error) => refuse(&rt, &error),
+        Err(error) => refuse_command_line(&rt, &error),
     }
 }
 
@@ -101,55 +87,4 @@ fn refuse_words(rt: &HostRuntime, error: &io::Error) -> io::Result<ExitCode> {
     }
     eprintln!(rt; "gkd: the command line is not valid UTF-8")?;
     Ok(ExitCode::from(2))
-}
-
-/// Prints the help that was asked for, or what is wrong with the command line.
-fn refuse(rt: &HostRuntime, error: &clap::Error) -> io::Result<ExitCode> {
-    if error.kind() == ErrorKind::OutOfMemory {
-        return fail(rt, "no memory");
-    }
-    if error.print(rt).is_err() {
-        return fail(rt, UNWRITTEN);
-    }
-    Ok(ExitCode::from(error.exit_code() as u8))
-}
-
-/// Says that a word is not a number in the range of its option.
-fn refuse_number<R: Eprint>(rt: &R, bad: &BadNumber<'_>) -> io::Result<ExitCode> {
-    let BadNumber { word, option, most } = *bad;
-    eprintln!(rt; "error: invalid value '{word}' for '{option}': not a number from 1 to {most}")?;
-    Ok(ExitCode::from(2))
-}
-
-/// Says that a word is not what its place asks for.
-fn refuse_word<R: Eprint>(rt: &R, bad: &BadWord<'_>) -> io::Result<ExitCode> {
-    let BadWord { word, place, what } = *bad;
-    eprintln!(rt; "error: invalid value '{word}' for '{place}': not {what}")?;
-    Ok(ExitCode::from(2))
-}
-
-/// Checks the configuration in a file, and prints to standard output.
-fn check_file<R: Runtime + AllocGlobal>(rt: &R, file: &str, prints: bool) -> io::Result<ExitCode> {
-    let Ok(opened) = fs::open(rt, file) else {
-        return cannot_read(rt, file);
-    };
-    let mut reader = Noted::new(opened);
-    // Up to 20,000 lines are printed, each by a call of its own.
-    let Ok(mut printed) = BufWriter::new(rt.alloc(), io::writer(rt)) else {
-        return fail(rt, "no memory");
-    };
-    let checked = check::check(
-        rt.alloc(),
-        &mut reader,
-        &mut Noted::new(&mut printed),
-        prints,
-    );
-    let is_written = printed.flush().is_ok();
-    match checked {
-        Ok(()) if is_written => Ok(ExitCode::SUCCESS),
-        Ok(()) => fail(rt, UNWRITTEN),
-        Err(CheckFault::Config(fault)) => refuse_configuration(rt, fault),
-        Err(CheckFault::ReadFault(_)) => cannot_read(rt, file),
-        Err(CheckFault::WriteFault) => fail(rt, UNWRITTEN),
-    }
 }

@@ -1,7 +1,5 @@
 //! `gkd serve`: sessions over TCP under the configuration in a file.
 
-use crate::files::{Uncompiled, tables_in};
-use crate::saying::{UNWRITTEN, fail, refuse_tables};
 use compiler::Tables;
 use seat_sessions::{ServeFault, Served, serve_tables};
 use std::alloc::AllocGlobal;
@@ -11,6 +9,7 @@ use std::process::ExitCode;
 use std::rt::Runtime;
 use std::sync::{Arc, Wait};
 use std::thread::Threads;
+use tasks::{UNWRITTEN, fail, refuse_tables, shared_tables};
 
 /// Serves so many sessions from a port of this machine under the configuration in a file, and
 /// prints how many there were and how many events were recorded; or says the first fault: of the
@@ -26,14 +25,6 @@ pub fn serve_file<
     match shared_tables(rt, file) {
         Ok(tables) => serve_under(rt, tables, port, seats),
         Err(why) => refuse_tables(rt, file, why),
-    }
-}
-
-/// The tables of the configuration in a file, as a server shares them.
-fn shared_tables<R: Runtime + AllocGlobal>(rt: &R, file: &str) -> Result<Arc<Tables>, Uncompiled> {
-    match tables_in(rt, file) {
-        Ok(tables) => Arc::new(rt.alloc(), tables).map_err(|_| Uncompiled::NoMemory),
-        Err(why) => Err(why),
     }
 }
 

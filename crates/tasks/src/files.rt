@@ -12,6 +12,7 @@ use registry::Registry;
 use std::alloc::{AllocGlobal, Global};
 use std::io::Read;
 use std::rt::Runtime;
+use std::sync::Arc;
 use std::{fs, io};
 
 /// How often a file is read from.
@@ -55,6 +56,17 @@ pub fn tables_in<R: Runtime + AllocGlobal>(rt: &R, file: &str) -> Result<Tables,
             Err(_) => Err(Uncompiled::NoMemory),
         },
         Err(fault) => Err(Uncompiled::Config(fault)),
+    }
+}
+
+/// The tables of the configuration in a file, as a server shares them; or why there are none.
+pub fn shared_tables<R: Runtime + AllocGlobal>(
+    rt: &R,
+    file: &str,
+) -> Result<Arc<Tables>, Uncompiled> {
+    match tables_in(rt, file) {
+        Ok(tables) => Arc::new(rt.alloc(), tables).map_err(|_| Uncompiled::NoMemory),
+        Err(why) => Err(why),
     }
 }
 

@@ -16,7 +16,8 @@ use std::sync::Wait;
 use std::thread::Threads;
 use std::{fs, io};
 
-/// A run over standard input and output, within the stated limits.
+/// A run over standard input and output, within the stated limits; or says at its end why it did
+/// not come to the end of the input.
 pub fn run_input<R: Runtime + AllocGlobal + Threads + Wait>(rt: &R) -> io::Result<ExitCode> {
     let mut reader = Noted::new(rt.reader());
     let mut writer = Noted::new(io::writer(rt));
@@ -25,7 +26,8 @@ pub fn run_input<R: Runtime + AllocGlobal + Threads + Wait>(rt: &R) -> io::Resul
 }
 
 /// A run under the configuration in a file, over standard input and output, within the stated
-/// limits; and then, if a file is named for them, its calls.
+/// limits; and then, if a file is named for them, its calls. It says the first fault: of the
+/// configuration, of the run, and then of that file.
 pub fn run_file<R: Runtime + AllocGlobal + Threads + Wait>(
     rt: &R,
     file: &str,

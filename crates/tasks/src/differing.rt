@@ -11,10 +11,11 @@ use std::io;
 use std::process::ExitCode;
 use std::rt::Runtime;
 
-/// The status of `gkd diff` if it cannot tell whether the configurations differ, as that of diff(1).
+/// The status of `gkd diff` if it cannot tell whether the configurations differ, as that of
+/// diff(1).
 const TROUBLE: u8 = 2;
 
-/// Which sets are listed.
+/// Which sets of digits are listed: all, or those that are planned otherwise.
 pub fn listing_of(lists_all: bool) -> Listing {
     if lists_all {
         Listing::All
@@ -23,7 +24,7 @@ pub fn listing_of(lists_all: bool) -> Listing {
     }
 }
 
-/// How they are written.
+/// How the sets are written: as rows of comma-separated fields, or as lines.
 pub fn form_of(as_csv: bool) -> Form {
     if as_csv { Form::Rows } else { Form::Lines }
 }
