@@ -3,6 +3,7 @@
 import os
 import shutil
 import subprocess
+import sys
 import tempfile
 
 FOLDERS = ("", "by_turn", "by_rt")
@@ -15,7 +16,11 @@ def try_by_rt(root, names):
     with tempfile.TemporaryDirectory(prefix="wrong-bodies-") as room:
         clone = f"{room}/clone"
         subprocess.run(["git", "clone", "--quiet", root, clone], check=True)
-        for name in names or sorted(os.listdir(f"{clone}/crates")):
+        every = sorted(os.listdir(f"{clone}/crates"))
+        for name in names:
+            if name not in every:
+                sys.exit(f"wrong_bodies/try: there is no crate {name}")
+        for name in names or every:
             folder = f"{clone}/crates/{name}/must-fail"
             for part in FOLDERS:
                 copy_edits(f"{clone}/wrong_bodies/{name}/{part}", folder)

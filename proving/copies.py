@@ -1,8 +1,9 @@
 """Wrong bodies as copies of their functions, all of a crate in one check.
 
 Beside each function that an edit names stands a copy of it with the edit, under the function's own
-clauses, and its proof files stand beside the function's. Every other function's proof is a hole, so
-nothing is proved but the copies, each from the contracts of what it calls. Beside the edited copies
+clauses, and its proof files stand beside the function's. The proofs of the crate's functions are
+holes, but for those of traits and of functions that may call themselves, so little is proved but
+the copies, each from the contracts of what it calls. Beside the edited copies
 of a function stands one without an edit, its control: it shows that the function is proved here, so
 that what refuses an edited copy is the edit.
 """
@@ -21,14 +22,16 @@ PROOF_FILES = ("Answers.antt", "Invariants.antt", "Proof.antt")
 
 @dataclasses.dataclass(frozen=True)
 class Copy:
-    """A copy of a function: its name, the edit that it has, or none if it is the control, and where
-    it stands in its file, as the numbers of its first and last line, counted from 1."""
+    """A copy of a function: its name, the edit that it has, or none if it is the control; where it
+    stands in its file, as the numbers of its first and last line, counted from 1; and the goals for
+    which answers stand in its proof files."""
 
     function: object
     edit: object
     name: str
     first_line: int = 0
     last_line: int = 0
+    answered: frozenset = frozenset()
 
     @property
     def path(self):
@@ -45,21 +48,24 @@ def edited_function(crate, edit):
     """The one function whose body, and perhaps proof files, the edit changes."""
     found = set()
     for file in edit.files():
-        if not file.startswith("src/"):
-            continue
-        text = text_of(f"{crate.folder}/{file}")
+        if not os.path.isfile(f"{crate.folder}/{file}"):
+            raise BadEdit(f"there is no file {file}")
+        text = was = text_of(f"{crate.folder}/{file}")
         for pair in (it for it in edit.pairs if it.file == file):
-            before, own, _ = text.partition(pair.old)
-            if not own:
-                raise BadEdit(f"an old text stands in {file} 0 times, and not once")
+            line = text.partition(pair.old)[0].count("\n")
             text = replaced(text, pair)
-            found.add(function_at(crate, file, before.count("\n")))
+            if file.startswith("src/"):
+                found.add(function_at(crate, file, line))
+        if text == was:
+            raise BadEdit(f"it changes nothing in {file}")
+    if not edit.pairs:
+        raise BadEdit("it has no pairs of an old and a new text, or other lines beside them")
     if len(found) != 1:
         raise BadEdit(f"it changes {len(found)} functions, and a copy is of one")
     function = found.pop()
     proofs = "/".join(["proofs", *function.path])
     for file in edit.files():
-        if not file.startswith("src/") and os.path.dirname(file) != proofs:
+        if not file.startswith("src/") and file not in [f"{proofs}/{it}" for it in PROOF_FILES]:
             raise BadEdit(f"it changes {file}, which is no part of a function")
     return function
 
@@ -70,7 +76,7 @@ def function_at(crate, file, line):
     if not around:
         raise BadEdit(f"it changes line {line + 1} of {file}, where no function is")
     function = max(around, key=lambda it: it.first)
-    if line < function.body:
+    if line < function.body or line == function.head:
         raise BadEdit(f"it changes what {function.name} promises, and not its body")
     if function.is_of_trait:
         raise BadEdit(f"{function.name} is a trait's method, of which there can be no copy")
@@ -80,14 +86,14 @@ def function_at(crate, file, line):
 
 
 def copies_of(crate, edits):
-    """The copies that try these edits, with a control for each function, and why the other edits
-    have none, by their names."""
-    copies, bad, controls = [], {}, {}
+    """The copies that try these edits, with a control for each function; and of each other edit
+    its name and why it has none."""
+    copies, bad, controls = [], [], {}
     for number, edit in enumerate(edits):
         try:
             function = edited_function(crate, edit)
         except BadEdit as why:
-            bad[edit.name] = str(why)
+            bad.append((edit.name, str(why)))
             continue
         if function not in controls:
             controls[function] = Copy(function, None, f"{function.name}_control{len(controls)}")
@@ -107,8 +113,7 @@ class Room:
         self.copies = []
         for file in sorted({it.function.file for it in copies}):
             self.write_copies(file, [it for it in copies if it.function.file == file])
-        for copy in self.copies:
-            self.copy_proofs(copy)
+        self.copies = [self.with_proofs(it) for it in self.copies]
         cycles = in_cycles(crate)
         for function in functions_of(crate):
             if not function.is_of_trait and function not in cycles and function.name != "main":
@@ -144,8 +149,9 @@ class Room:
                 text = replaced(text, pair)
         return text.split("\n")
 
-    def copy_proofs(self, copy):
-        """Writes the function's proof files once more, for the copy, with the edit's pairs."""
+    def with_proofs(self, copy):
+        """Writes the function's proof files once more, for the copy, with the edit's pairs, and
+        gives the copy with the goals that they answer."""
         proofs = f"{self.folder}/proofs"
         of, to = "/".join(copy.function.path), "/".join(copy.path)
         was = ".".join(["Rattle", self.crate.name, "proofs", *copy.function.path])
@@ -162,6 +168,10 @@ class Room:
             os.makedirs(f"{proofs}/{to}", exist_ok=True)
             with open(f"{proofs}/{to}/{name}", "w", encoding="utf-8") as out:
                 out.write(text)
+            if name == "Answers.antt":
+                answered = frozenset(re.findall(r"^pub (\S+) : goal\.\1$", text, re.M))
+                copy = dataclasses.replace(copy, answered=answered)
+        return copy
 
     def leave_open(self, function):
         """Makes the function's proof a hole."""

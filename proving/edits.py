@@ -36,19 +36,24 @@ class BadEdit(Exception):
 
 
 def read_edit(path):
-    """The edit in this file."""
+    """The edit in this file; one without pairs if an old text has no new one, or the reverse."""
     file, old, pairs = None, None, []
+    name = os.path.basename(path).removesuffix(".edit")
     for line in text_of(path).splitlines():
         word, _, rest = line.partition(":")
         rest = rest.removeprefix(" ")
+        if word not in ("file", "old", "new"):
+            continue
+        if (word == "new") != (old is not None) or word == "old" and not (file and rest):
+            return Edit(name, ())
         if word == "file":
             file = rest.strip()
         elif word == "old":
             old = rest
-        elif word == "new" and file and old:
+        else:
             pairs.append(Pair(file, old, rest))
             old = None
-    return Edit(os.path.basename(path).removesuffix(".edit"), tuple(pairs))
+    return Edit(name, tuple(pairs) if old is None else ())
 
 
 def edits_in(folder):

@@ -37,10 +37,6 @@ class Function:
         """The segments of its path in the crate, by which its proofs are found too."""
         return (*self.modules, *([self.type_name] if self.type_name else []), self.name)
 
-    def calls(self, text, name):
-        """Whether this text of a body names the function of this name as if to call it."""
-        return re.search(rf"(?<![\w.:]){name}\(|\b(?:self\.|Self::){name}\(", text) is not None
-
 
 def indentation(line):
     return len(line) - len(line.lstrip(" "))
@@ -141,6 +137,7 @@ def functions_of(crate):
     return made
 
 
+@functools.lru_cache(maxsize=None)
 def in_cycles(crate):
     """The functions that may call themselves, by way of others or not, as far as names tell."""
     every = functions_of(crate)

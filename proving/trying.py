@@ -7,7 +7,7 @@ import shutil
 import signal
 import subprocess
 import tempfile
-import time
+import threading
 
 from copies import Room, copies_of
 from crates import rattle, words
@@ -17,13 +17,12 @@ from verdicts import Outcome, Result, Said, results_of
 @dataclasses.dataclass(frozen=True)
 class Tried:
     """What became of the edits of a crate that were tried together, how many functions were proved
-    beside them without an edit, and what it took, in seconds of a processor and of a clock."""
+    beside them without an edit, and what it took, in seconds of a processor."""
 
     crate: str
     results: tuple
     controls: int
     spent: float
-    seconds: float
 
     def failures(self):
         return [it for it in self.results if it.outcome != Outcome.REFUSED]
@@ -32,9 +31,9 @@ class Tried:
 def try_edits(crate, edits, library=lambda crate: crate.library, jobs=1, log=None):
     """What becomes of these edits of the crate, in a check with so many jobs. The log, a file's
     path, gets what is said."""
-    begun, spent = time.monotonic(), 0.0
+    spent = 0.0
     copies, bad = copies_of(crate, edits)
-    results = [Result(name, Outcome.BAD, why) for name, why in bad.items()]
+    results = [Result(name, Outcome.BAD, why) for name, why in bad]
     controls = 0
     while any(it.edit for it in copies):
         with tempfile.TemporaryDirectory(prefix=f"wrong-bodies-{crate.name}-") as folder:
@@ -45,13 +44,14 @@ def try_edits(crate, edits, library=lambda crate: crate.library, jobs=1, log=Non
             with open(log, "a", encoding="utf-8") as out:
                 out.write(text)
         said = Said(crate, text)
-        if said.verdicts:
+        if said.verdicts and status in (0, 1):
             results += results_of(said, room.copies)
             controls = sum(it.edit is None for it in room.copies)
             break
         copies, more = without_errors(said, room.copies, status, text)
         results += more
-    return Tried(crate.name, tuple(results), controls, spent, time.monotonic() - begun)
+    assert sorted(it.edit for it in results) == sorted(it.name for it in edits)
+    return Tried(crate.name, tuple(results), controls, spent)
 
 
 def check(room, library, jobs):
@@ -60,19 +60,21 @@ def check(room, library, jobs):
     only = [word for name in names for word in ("--only", name)]
     whole = [rattle(), "check", *words(room.crate, jobs, library), "--allow-holes", *only]
     status, text, spent = ran(whole, room.folder)
-    if status == -signal.SIGKILL:
+    if status == -signal.SIGKILL and not ENDING.is_set():
         # most likely for memory, of which there may be more now
         status, text, more = ran(whole, room.folder)
         spent += more
     return status, text, spent
 
 
-# The commands that run, and the folders that they run in.
+# The commands that run, and the folders that they run in; and whether a signal ended them.
 RUNNING = {}
+ENDING = threading.Event()
 
 
 def end_all(number, _frame):
     """Ends this program and all that it runs, as a signal of this number asks."""
+    ENDING.set()
     for process, folder in list(RUNNING.items()):
         process.kill()
         shutil.rmtree(folder, ignore_errors=True)
@@ -98,7 +100,7 @@ def without_errors(said, copies, status, text):
     became of the others: those in which an error stands, or else all of them."""
     wrong = {it: said.errors_in(it) for it in copies if said.errors_in(it)}
     left = [it for it in copies if it not in wrong]
-    if wrong and 0 <= status:
+    if wrong and status == 1:
         found = wrong.items()
         return left, [Result(it.edit.name, Outcome.BAD, why[0]) for it, why in found if it.edit]
     how = f"the check ended with status {status}: {text[-600:].strip()}"

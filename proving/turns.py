@@ -1,5 +1,6 @@
 """Which wrong bodies are tried: those of each time, and those whose turn it is."""
 
+import hashlib
 import os
 import subprocess
 import sys
@@ -10,25 +11,45 @@ from edits import BadEdit, edits_in
 
 # Of a crate that has not changed, one edit in so many is tried.
 TURNS = 10
+# What makes copies and judges them: where it changes, all are tried.
+JUDGE = tuple(f"proving/{it}.py" for it in ("edits", "functions", "copies", "verdicts", "trying"))
 
 
 def edits_to_try(root, names, every):
     """The edits to try of these crates, or of all if none is named, by the crates' names."""
-    crates = crates_of(root)
-    unknown = [it for it in names if it not in crates]
-    if unknown:
-        sys.exit(f"wrong_bodies/try: crates.txt names no crate {unknown[0]}")
-    turn, found = turn_of(root), {}
+    crates, found = crates_of(root), {}
+    stop_on_unread(root, crates)
+    for name in names:
+        if name not in crates:
+            sys.exit(f"wrong_bodies/try: crates.txt names no crate {name}")
     for crate in [crates[it] for it in names] or crates.values():
-        folder = f"{root}/wrong_bodies/{crate.name}"
         of_rt = edits_in(f"{crate.folder}/must-fail")
-        edits = [it for it in of_rt if is_of_one_function(crate, it)] + edits_in(folder)
-        others = edits_in(f"{folder}/by_turn")
-        whole = every or has_changed(root, crate)
-        edits += others if whole else others[turn::TURNS]
+        edits = [it for it in of_rt if is_of_one_function(crate, it)]
+        edits += edits_in(f"{root}/wrong_bodies/{crate.name}")
+        others = edits_in(f"{root}/wrong_bodies/{crate.name}/by_turn")
+        whole = every or others and has_changed(root, crate)
+        edits += [it for it in others if whole or has_turn(root, crate, it)]
         if edits:
             found[crate.name] = edits
     return found
+
+
+def stop_on_unread(root, crates):
+    """Stops if an edit stands where nothing reads it."""
+    top = f"{root}/wrong_bodies"
+    for name in sorted(os.listdir(top)):
+        if name in ("try", "tried", "tests"):
+            continue
+        if name not in crates:
+            sys.exit(f"wrong_bodies/{name}: crates.txt names no such crate")
+        for at, folders, files in os.walk(f"{top}/{name}"):
+            place = os.path.relpath(at, top)
+            for it in folders:
+                if place != name or it not in ("by_turn", "by_rt"):
+                    sys.exit(f"wrong_bodies/{place}/{it}: nothing reads this folder")
+            for it in files:
+                if not it.endswith(".edit"):
+                    sys.exit(f"wrong_bodies/{place}/{it}: nothing reads a file of this name")
 
 
 def is_of_one_function(crate, edit):
@@ -46,15 +67,18 @@ def git(root, *words):
     return ran.stdout.strip() if ran.returncode == 0 else None
 
 
-def turn_of(root):
-    """Which tenth is tried: the next one with each commit."""
-    return int(git(root, "rev-list", "--count", "HEAD") or 0) % TURNS
+def has_turn(root, crate, edit):
+    """Whether the edit is in the tenth that the last commit draws."""
+    drawn = f"{git(root, 'rev-parse', 'HEAD')} {crate.name}/{edit.name}"
+    return int.from_bytes(hashlib.sha256(drawn.encode()).digest()[:4], "big") % TURNS == 0
 
 
 def has_changed(root, crate):
-    """Whether the crate, or one below it, may differ from the commit at which all were tried."""
+    """Whether the crate, one below it, its edits, or what judges them may differ from the commit at
+    which all were tried."""
     file = f"{root}/wrong_bodies/tried"
     commit = open(file, encoding="utf-8").read().split()[0] if os.path.isfile(file) else ""
     names = [it.name for it in [crate, *crate.below()]]
     parts = [f"crates/{name}/{part}" for name in names for part in PARTS]
+    parts += [f"wrong_bodies/{crate.name}", *JUDGE]
     return git(root, "diff", "--quiet", commit or "none", "--", *parts) is None

@@ -11,7 +11,9 @@ ERROR = re.compile(r"(?:\./)?((?:src|specs|proofs)/\S+?):(\d+):\d+: (error\b.*)"
 ANSWER = re.compile(r"error: `([^`]+)`: (.*)")
 NAMES = re.compile(
     r"module `|`goal\.|is not in scope|has no field|has no `|is no name|was not admitted"
+    r"|operand is missing|expected the end|cannot continue"
 )
+BY_ANSWER = "its answer does not prove"
 # What is said of a function that is proved where other functions' proofs are holes.
 PROVED = ("no holes", "depends on a hole")
 
@@ -50,12 +52,13 @@ class Said:
         return self.verdicts.get("::".join([self.crate.name, *copy.path]))
 
     def goals_in(self, copy):
-        """The goals of the copy that stay open: those that the search leaves, and those whose
-        answers are no proofs of them for what they say, and not for a name alone."""
+        """The goals of the copy that stay open, and why: those that the search leaves, and those
+        whose answers are no proofs of them for what they say, and not for a name alone."""
         found = [why for file, line, why in self.goals if copy.holds(file, line)]
         answers = [ANSWER.match(why) for file, _, why in self.errors if copy.has_proofs_in(file)]
-        wrong = [it for it in answers if it and not NAMES.search(it[2])]
-        return found + [f"the answer to `{it[1]}` does not prove it: {it[2]}" for it in wrong]
+        answers = [it for it in answers if it and it[1] in copy.answered]
+        wrong = [it for it in answers if not NAMES.search(it[2])]
+        return found + [f"{BY_ANSWER} `{it[1]}`: {it[2]}" for it in wrong]
 
     def errors_in(self, copy):
         """The errors in the copy itself, and in its proof files."""
@@ -67,7 +70,7 @@ class Said:
         verdict, goals, errors = self.verdict(copy), self.goals_in(copy), self.errors_in(copy)
         if verdict is None:
             return Outcome.BAD, errors[0] if errors else "the check does not speak of its copy"
-        if verdict.startswith(PROVED):
+        if verdict.startswith(PROVED) and f".{copy.name}." not in verdict:
             return Outcome.MISSED, "its copy is proved"
         if verdict.startswith("could not tell"):
             return Outcome.UNKNOWN, verdict
@@ -77,18 +80,16 @@ class Said:
 
 
 def results_of(said, copies):
-    """What became of the edits that these copies have. Where a control is not proved, the copies
-    of its function show nothing."""
-    unproved = {}
-    for control in (it for it in copies if it.edit is None):
-        outcome, why = said.outcome(control)
-        if outcome != Outcome.MISSED:
-            name = control.function.name
-            unproved[control.function] = f"{name} as it stands is not proved: {why}"
+    """What became of the edits that these copies have. Where a function has no control that is
+    proved, its other copies show nothing."""
+    found = {it: said.outcome(it) for it in copies}
+    controls = {it.function: found[it] for it in copies if it.edit is None}
     results = []
     for copy in (it for it in copies if it.edit is not None):
-        outcome, why = said.outcome(copy)
-        if copy.function in unproved and outcome != Outcome.UNKNOWN:
-            outcome, why = Outcome.BAD, unproved[copy.function]
+        outcome, why = found[copy]
+        control, of_control = controls.get(copy.function, (Outcome.BAD, "it has no control"))
+        if control != Outcome.MISSED and outcome != Outcome.UNKNOWN:
+            name = copy.function.name
+            outcome, why = Outcome.BAD, f"{name} as it stands is not proved: {of_control}"
         results.append(Result(copy.edit.name, outcome, why))
     return results

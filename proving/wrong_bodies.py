@@ -8,7 +8,7 @@ from concurrent.futures import FIRST_COMPLETED, ThreadPoolExecutor, wait
 from crates import crates_of
 from edits import edits_in
 from trying import try_edits
-from verdicts import Outcome
+from verdicts import BY_ANSWER, Outcome
 
 # More edits of one crate than these are tried in several checks, so that they run side by side.
 MOST_TOGETHER = 30
@@ -17,7 +17,7 @@ MOST_TOGETHER = 30
 def try_crates(root, edits, gate, log):
     """Tries these edits, by crates' names, says what became of them, and returns the status. Beside
     a gate it leaves the processors to that, begins with a crate once the gate has proved those
-    below it, and compares with what the gate says of the edits that both try."""
+    below it, and waits for what the gate says of the edits that it tries itself."""
     crates = crates_of(root)
     tasks = [(crates[name], part) for name, all in edits.items() for part in parts_of(all)]
     tasks.sort(key=lambda task: -len(task[1]))
@@ -42,7 +42,10 @@ def try_crates(root, edits, gate, log):
                 running.remove(it)
                 tried.append(it.result())
                 tell(tried[-1])
-    return tell_all(root, tried, left, gate, time.monotonic() - begun)
+    seconds = time.monotonic() - begun
+    while gate and not gate.has_ended():
+        time.sleep(2)
+    return tell_all(root, tried, left, gate, seconds)
 
 
 def parts_of(edits):
@@ -68,37 +71,40 @@ def tell(tried):
     """Says what became of the edits of a check."""
     for it in tried.failures():
         print(f"wrong bodies: {tried.crate}/{it.edit}: {it.outcome.value}: {it.why}")
-    refused = len(tried.results) - len(tried.failures())
+    refused = [it for it in tried.results if it.outcome == Outcome.REFUSED]
+    answers = sum(it.why.startswith(BY_ANSWER) for it in refused)
     print(
-        f"wrong bodies: {tried.crate}: {refused} of {len(tried.results)} refused, "
-        f"{tried.controls} functions as they stand beside them, {tried.spent:.0f} core-seconds",
+        f"wrong bodies: {tried.crate}: {len(refused)} of {len(tried.results)} refused ({answers} "
+        f"by answers alone), {tried.controls} functions as they stand beside them, "
+        f"{tried.spent:.0f} core-seconds",
         flush=True,
     )
 
 
 def tell_all(root, tried, left, gate, seconds):
     """Says what became of all, and returns the status."""
-    results = [(it.crate, result) for it in tried for result in it.results]
-    refused = {(name, it.edit) for name, it in results if it.outcome == Outcome.REFUSED}
-    failed = sum(len(it.failures()) for it in tried) + sum(len(part) for _, part in left)
+    count = sum(len(it.results) for it in tried)
+    failed = sum(len(it.failures()) for it in tried)
+    refused, failed = count - failed, failed + sum(len(part) for _, part in left)
     for crate, part in left:
         lacking = [it.name for it in crate.below() if not os.path.isdir(it.library)]
         why = f"{lacking[0] if lacking else 'a library below it'} is not proved"
         print(f"wrong bodies: {crate.name}: {len(part)} NOT TRIED: {why}")
     spent = sum(it.spent for it in tried)
     print(f"wrong bodies: {seconds / 60:.0f} minutes, {spent:.0f} core-seconds")
-    for name, edit in disagreed(root, tried, refused, gate):
-        print(f"wrong bodies: {name}/{edit}: rt ci and this script do not say the same of it")
+    for name, edit in not_refused_by(gate, root) if gate else ():
+        print(f"wrong bodies: {name}/{edit}: rt ci does not say that it is refused")
         failed += 1
-    print(f"{len(refused)} passed, {failed} failed", flush=True)
+    if not count:
+        print("wrong bodies: none was tried")
+        failed += 1
+    print(f"{refused} passed, {failed} failed", flush=True)
     return 1 if failed else 0
 
 
-def disagreed(root, tried, refused, gate):
-    """The edits that the gate and this script both tried, and one of them alone saw refused."""
-    if not gate:
-        return []
-    by_gate, tried_here = gate.refused(), {(it.crate, r.edit) for it in tried for r in it.results}
+def not_refused_by(gate, root):
+    """The edits that the gate tries itself, and of which it does not say that they are refused.
+    Those that this script tries too are refused by both, or one of them has failed."""
     crates = crates_of(root).values()
-    both = [(it.name, edit.name) for it in crates for edit in edits_in(f"{it.folder}/must-fail")]
-    return [it for it in both if it in tried_here and (it in by_gate) != (it in refused)]
+    every = {(it.name, edit.name) for it in crates for edit in edits_in(f"{it.folder}/must-fail")}
+    return sorted(every - gate.refused())
