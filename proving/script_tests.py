@@ -11,6 +11,7 @@ WANTED = {
     "comma_for_a_dot": Outcome.REFUSED,
     # the same meaning in other words
     "comment": Outcome.MISSED,
+    "comment_beside_answers": Outcome.MISSED,
     "renamed_local": Outcome.MISSED,
     "lets_in_the_other_order": Outcome.MISSED,
     # what errs by a name alone, or in no function's body

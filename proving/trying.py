@@ -76,7 +76,7 @@ def end_all(number, _frame):
     """Ends this program and all that it runs, as a signal of this number asks."""
     ENDING.set()
     for process, folder in list(RUNNING.items()):
-        process.kill()
+        os.killpg(process.pid, signal.SIGKILL)
         shutil.rmtree(folder, ignore_errors=True)
     os._exit(128 + number)
 
@@ -84,9 +84,8 @@ def end_all(number, _frame):
 def ran(whole, folder):
     """Runs a command, and gives its status, what it said, and the processor's seconds it took."""
     with tempfile.TemporaryFile("w+", errors="replace") as said:
-        process = subprocess.Popen(
-            whole, cwd=folder, stdin=subprocess.DEVNULL, stdout=said, stderr=subprocess.STDOUT
-        )
+        how = {"stdin": subprocess.DEVNULL, "stdout": said, "stderr": subprocess.STDOUT}
+        process = subprocess.Popen(whole, cwd=folder, process_group=0, **how)
         RUNNING[process] = folder
         _, status, used = os.wait4(process.pid, 0)
         RUNNING.pop(process, None)
