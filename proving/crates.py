@@ -58,12 +58,18 @@ def text_of(path):
         return file.read()
 
 
+def lines_of(root):
+    """The name and the words of each line of crates.txt."""
+    lines = [it.partition("#")[0] for it in text_of(f"{root}/crates.txt").splitlines()]
+    parts = [it.partition(":") for it in lines if it.strip()]
+    return {head.split()[0]: rest.split() for head, _, rest in parts}
+
+
 @functools.lru_cache(maxsize=None)
 def crates_of(root):
     """The crates of the repository at this folder by their names, each after those below it."""
-    lines = [it.partition("#")[0] for it in text_of(f"{root}/crates.txt").splitlines()]
-    parts = [it.partition(":") for it in lines if it.strip()]
-    named, made = {name.split()[0]: needs.split() for name, _, needs in parts}, {}
+    named = lines_of(root)
+    made = {}
 
     def make(name):
         if name not in made:
@@ -91,6 +97,12 @@ def rattle():
 def words(crate, jobs, library=lambda crate: crate.library):
     """What follows `rattle check` or `rattle build` for this crate, whose folder it runs in, over
     the libraries below as they were built: `library` tells where each lies."""
+    logic = ["--logic-built", f"{kit()}/logic_built", "--jobs", str(jobs)]
+    return [*words_of_parts(crate, library), *logic]
+
+
+def words_of_parts(crate, library):
+    """The words that name the crate's own files, the libraries below and the logic."""
     given = ["--crate-name", crate.name, crate.root_file]
     for name in ("std", *crate.kit):
         given += ["--extern", f"{name}={kit()}/rlibs/{name}.rlib"]
@@ -99,5 +111,4 @@ def words(crate, jobs, library=lambda crate: crate.library):
     for folder in [f"{kit()}/rlibs", *[os.path.dirname(library(it)) for it in crate.below()]]:
         given += ["-L", f"dependency={folder}"]
     given += ["--antt-project", f"{kit()}/rattle/logic/antt-project.json"]
-    given += ["--logic-built", f"{kit()}/logic_built"]
-    return [*given, "--links", f"{crate.name}=", "--jobs", str(jobs)]
+    return [*given, "--links", f"{crate.name}="]
