@@ -1,19 +1,13 @@
 //! Two clients of one desk.
 
-ghost use Rattle.std.specs.Prelude.{◌≡◌};
-ghost use Rattle.std.specs.Arc.{arc_value};
-
-use admission::{Limits, STATED_LIMITS};
-use command_reader::read;
-use compiler::Tables;
-use live_desk::{Blank, Desk, House};
+use crate::desks::{Steps, opened};
+use admission::STATED_LIMITS;
+use live_desk::{Desk, House};
 use seat_sessions::{Sitting, serve_sessions};
 use std::alloc::Global;
 use std::io::{Read, Write};
-use std::marker::Brand;
 use std::net::{Net, Shutdown, TcpListener, TcpStream};
-use std::sync::{Arc, Wait};
-use std::test::Fail;
+use std::sync::Wait;
 use std::thread::{Threads, join};
 
 const TEXT: &[u8] = b"zone local gk-a d\nzone remote gk-x d 10.9.0.1\nzone prefix gk-x 9*\n";
@@ -28,91 +22,64 @@ const SECOND: &[u8] = b"ARQ 1 ta 1001 9123 640\nDRQ 2 ta 1001\n";
 
 const SECOND_REPLIES: &[u8] = b"ARJ 1 1001 undefinedReason call-open\nDCF 2 1001\n";
 
-/// Whether each client got its replies.
-#[derive(Clone, Copy, Debug, PartialEq, Eq)]
-struct Got {
-    first: bool,
-    second: bool,
-}
-
 #[test]
-fn two_clients_ask_one_desk(rt: HostRuntime) -> Result<(), Fail> {
-    let tables = tables_of(rt.alloc()).ok_or("no tables")?;
-    let blank = Blank {
-        ledger: std::sync::ledger::Blank::new(2),
-        publisher: publisher::Blank::new(),
-    };
-    let got = served::<Brand, _>(&rt, rt.alloc(), blank, tables, STATED_LIMITS, 2);
-    let wanted = Got {
-        first: true,
-        second: true,
-    };
-    assert!(&rt; got == Some(wanted));
-    Ok(())
+fn two_clients_ask_one_desk(rt: HostRuntime) {
+    assert!(&rt; opened(&rt, rt.alloc(), TEXT, STATED_LIMITS, 2, Steps::Clients) == Some(Ok(true)));
 }
 
-fn tables_of(alloc: Global) -> Option<Arc<Tables>> {
-    let Ok(commands) = read(alloc, TEXT) else {
-        return None;
-    };
-    let Ok(tables) = Tables::compile(alloc, commands) else {
-        return None;
-    };
-    Arc::new(alloc, tables).ok()
-}
-
-/// Serves two clients on a desk of two seats. None if something was lacking.
-fn served<
+/// Whether two clients get their replies on two seats of this desk, while they ask in another
+/// thread.
+pub(crate) fn both_are_replied<
     J: House + Send + Sync,
     R: Net<Listener = TcpListener, Stream = TcpStream> + Threads + Wait + Sync,
->(
-    rt: &R,
+>(rt: &R, alloc: Global, desk: &Desk<J>) -> bool {
+    let mut sittings = sittings_at(rt, alloc, desk);
+    sittings.len() == 2 && are_served(rt, alloc, sittings.as_mut_slice())
+}
+
+/// Two sittings at the desk, if it has the seats.
+fn sittings_at<'d, J: House, R: Wait>(
+    rt: &'d R,
     alloc: Global,
-    blank: Blank,
-    tables: Arc<Tables>,
-    limits: Limits,
-    seats: u32,
-) -> Option<Got>
-    requires ledger { (blank.ledger.name ≡ J.name) × (blank.ledger.parts ≡ J.parts) }
-    requires parts { (J.all ≡ J.parts) × (seats ≡ J.all) }
-    requires publisher { blank.publisher ≡ J.book }
-    requires opening { (J.begun ≡ (arc_value tables).commands) × (J.limits ≡ limits) }
-{
-    let Ok(desk) = Desk::<J>::open(alloc, blank, tables, limits, seats) else {
-        return None;
-    };
-    let got = served_at(rt, alloc, &desk);
-    desk.close(rt);
-    got
-}
-
-/// Serves two clients on seats of this desk, while they ask in another thread.
-fn served_at<
-    J: House + Send + Sync,
-    R: Net<Listener = TcpListener, Stream = TcpStream> + Threads + Wait + Sync,
->(rt: &R, alloc: Global, desk: &Desk<J>) -> Option<Got> {
+    desk: &'d Desk<J>,
+) -> Vec<Sitting<'d, J, R>> {
     let mut sittings = Vec::new(alloc);
     for _ in 0..2 {
-        let seat = desk.seat(rt).ok()?;
-        sittings.push(Sitting::new(seat, desk, rt)).ok()?;
+        if let Ok(seat) = desk.seat(rt) {
+            let _kept = sittings.push(Sitting::new(seat, desk, rt));
+        }
     }
-    let listener = TcpListener::bind(rt, "127.0.0.1:0").ok()?;
-    let port = listener.local_addr().ok()?.port();
-    let ((), got) = join(
-        rt,
-        || serve_sessions(rt, alloc, &listener, sittings.as_mut_slice()),
-        || ask_both(rt, alloc, port),
-    );
-    got
+    sittings
 }
 
-/// Both clients connect; then the first one asks and goes, and then the second one asks.
-fn ask_both<R: Net<Stream = TcpStream>>(rt: &R, alloc: Global, port: u16) -> Option<Got> {
+/// Whether both clients get their replies from these sittings.
+fn are_served<
+    J: House + Send + Sync,
+    R: Net<Listener = TcpListener, Stream = TcpStream> + Threads + Wait + Sync,
+>(rt: &R, alloc: Global, sittings: &mut [Sitting<'_, J, R>]) -> bool {
+    let Ok(listener) = TcpListener::bind(rt, "127.0.0.1:0") else {
+        return false;
+    };
+    let Ok(address) = listener.local_addr() else {
+        return false;
+    };
+    let port = address.port();
+    let ((), replied) = join(
+        rt,
+        || serve_sessions(rt, alloc, &listener, sittings),
+        || ask_both(rt, alloc, port),
+    );
+    replied == Some((true, true))
+}
+
+/// Both clients connect; then the first one asks and goes, and then the second one asks. Whether
+/// each of them got its replies.
+fn ask_both<R: Net<Stream = TcpStream>>(rt: &R, alloc: Global, port: u16) -> Option<(bool, bool)> {
     let first = TcpStream::connect(rt, ("127.0.0.1", port)).ok()?;
     let second = TcpStream::connect(rt, ("127.0.0.1", port)).ok()?;
     let first = is_replied(alloc, &first, FIRST, FIRST_REPLIES)?;
     let second = is_replied(alloc, &second, SECOND, SECOND_REPLIES)?;
-    Some(Got { first, second })
+    Some((first, second))
 }
 
 /// Whether a client that sends this, and then no more, gets just these replies.

@@ -1,12 +1,12 @@
-//! What the tests are given: a configuration, what a desk is made of, and the names in it.
+//! What the tests are given: a configuration, what a desk is made of, and what is asked on a seat.
 
 ghost use Rattle.std.specs.Prelude.{◌≡◌};
 
-use admission::{Destination, Event, ReloadRefusal, Reply};
+use admission::{Destination, Event, Receipt, ReloadRefusal, Reply};
 use command_reader::read;
 use compiler::Tables;
 use gk_commands::Commands;
-use gk_terms::{Address, Dialled, Name, TechPrefix, Units};
+use gk_terms::{Address, Dialled, Name, TechPrefix, Units, Version};
 use live_desk::{Blank, Desk, House, Seat};
 use registry::{Endpoint, EndpointKind};
 use std::alloc::Global;
@@ -39,7 +39,7 @@ pub(crate) fn blank_of(seats: u32) -> Blank
 }
 
 /// The commands of a text.
-pub(crate) fn commands_of(alloc: Global, text: &[u8]) -> Option<Commands> {
+fn commands_of(alloc: Global, text: &[u8]) -> Option<Commands> {
     match read(alloc, text) {
         Ok(commands) => Some(commands),
         Err(_) => None,
@@ -57,33 +57,37 @@ pub(crate) fn tables_of(alloc: Global, text: &[u8]) -> Option<Arc<Tables>> {
 
 /// The registration of the terminal `ta` in the zone `gk-a`.
 pub(crate) fn terminal(alloc: Global) -> Option<Event> {
-    let id = Name::read(b"ta").ok()?;
-    let zone = Name::read(b"gk-a").ok()?;
-    let address = Address::read(b"10.0.1.1", 1720).ok()?;
-    let terminal = Endpoint::new(alloc, EndpointKind::Terminal, id, zone, address);
-    Some(Event::Register(terminal))
+    registration(alloc, EndpointKind::Terminal, b"ta", b"10.0.1.1", b"")
 }
 
-/// The registration of the gateway `ga` in the zone `gk-a`, which serves the technology prefix 1#.
-pub(crate) fn gateway(alloc: Global) -> Option<Event> {
-    gateway_with(alloc, b"ga", b"1#")
-}
-
-/// The registration of a gateway of this ID in the zone `gk-a`, which serves this technology
+/// The registration of the gateway of this ID in the zone `gk-a`, which serves this technology
 /// prefix.
-pub(crate) fn gateway_with(alloc: Global, id: &[u8], served: &[u8]) -> Option<Event> {
-    let id = Name::read(id).ok()?;
-    let zone = Name::read(b"gk-a").ok()?;
-    let address = Address::read(b"10.0.1.2", 1720).ok()?;
-    let served = TechPrefix::read(served).ok()?;
-    let mut gateway = Endpoint::new(alloc, EndpointKind::Gateway, id, zone, address);
-    gateway.add_technology(served).ok()?;
-    Some(Event::Register(gateway))
+pub(crate) fn gateway(alloc: Global, id: &[u8], served: &[u8]) -> Option<Event> {
+    registration(alloc, EndpointKind::Gateway, id, b"10.0.1.2", served)
 }
 
-/// An admission of this call by the endpoint of this ID.
-pub(crate) fn admission(id: &[u8], call: u32, digits: &[u8]) -> Option<Event> {
+/// The registration of an endpoint in the zone `gk-a`. It serves what is given, if that is a
+/// technology prefix.
+pub(crate) fn registration(
+    alloc: Global,
+    kind: EndpointKind,
+    id: &[u8],
+    address: &[u8],
+    served: &[u8],
+) -> Option<Event> {
     let id = Name::read(id).ok()?;
+    let zone = Name::read(b"gk-a").ok()?;
+    let address = Address::read(address, 1720).ok()?;
+    let mut endpoint = Endpoint::new(alloc, kind, id, zone, address);
+    if let Ok(prefix) = TechPrefix::read(served) {
+        let _added = endpoint.add_technology(prefix);
+    }
+    Some(Event::Register(endpoint))
+}
+
+/// An admission of this call by the terminal `ta`.
+pub(crate) fn admission(call: u32, digits: &[u8]) -> Option<Event> {
+    let id = Name::read(b"ta").ok()?;
     let digits = Dialled::read(digits).ok()?;
     let units = Units::new(640);
     Some(Event::Admit {
@@ -94,58 +98,89 @@ pub(crate) fn admission(id: &[u8], call: u32, digits: &[u8]) -> Option<Event> {
     })
 }
 
-/// Two seats of the desk.
-pub(crate) fn two_seats<J: House, R: Wait>(rt: &R, desk: &Desk<J>) -> Option<(Seat<J>, Seat<J>)> {
-    let first = desk.seat(rt).ok()?;
-    let second = desk.seat(rt).ok()?;
-    Some((first, second))
+/// Asks an event, if there is one, and gives the reply to it, if it is recorded.
+pub(crate) fn asked<J: House, R: Wait>(
+    rt: &R,
+    desk: &Desk<J>,
+    seat: &mut Seat<J>,
+    event: Option<Event>,
+) -> Option<(Reply, Receipt)> {
+    seat.ask(rt, desk, event?).ok()
 }
 
-/// The name of the gateway or zone to which the call of the terminal `ta` to these digits is
-/// admitted.
-pub(crate) fn name_led_to<J: House, R: Wait>(
+/// Whether the call of the terminal `ta` to these digits is admitted to the gateway or zone of this
+/// name.
+pub(crate) fn leads_to<J: House, R: Wait>(
     rt: &R,
     desk: &Desk<J>,
     seat: &mut Seat<J>,
     call: u32,
     digits: &[u8],
-) -> Option<Name> {
-    let event = admission(b"ta", call, digits)?;
-    let answer = seat.ask(rt, desk, event);
-    match &answer {
-        Ok((reply, _)) => name_in(reply),
-        Err(_) => None,
+    name: &[u8],
+) -> bool {
+    match asked(rt, desk, seat, admission(call, digits)) {
+        Some((reply, _)) => is_led_to(&reply, name),
+        None => false,
     }
 }
 
-/// The name of the destination in a reply that admits a call.
-pub(crate) fn name_in(reply: &Reply) -> Option<Name> {
+/// Whether a reply admits a call to the gateway or zone of this name.
+pub(crate) fn is_led_to(reply: &Reply, name: &[u8]) -> bool {
     match reply {
-        Reply::Admitted { destination, .. } => name_of(destination),
-        _ => None,
+        Reply::Admitted { destination, .. } => is_named(destination, name),
+        _ => false,
     }
 }
 
-/// The name of a gateway or of a zone.
-fn name_of(destination: &Destination) -> Option<Name> {
+/// Whether this is the gateway or the zone of this name.
+fn is_named(destination: &Destination, wanted: &[u8]) -> bool {
     match destination {
-        Destination::Gateway { id, .. } => Some(*id),
-        Destination::Terminal { .. } => None,
-        Destination::Zone { name, .. } => Some(*name),
+        Destination::Gateway { id, .. } => id.as_bytes() == wanted,
+        Destination::Terminal { .. } => false,
+        Destination::Zone { name, .. } => name.as_bytes() == wanted,
     }
 }
 
-/// Why a reload is refused, if it is.
-pub(crate) fn refusal_of_reload<J: House, R: Wait>(
+/// A reload to this text: the version that is put in force, and the receipt.
+pub(crate) fn reloaded<J: House, R: Wait>(
     rt: &R,
     alloc: Global,
     desk: &Desk<J>,
     seat: &mut Seat<J>,
-) -> Option<ReloadRefusal> {
-    let commands = commands_of(alloc, TEXT)?;
-    match seat.reload(rt, alloc, desk, commands) {
-        Ok(_) => None,
-        Err(refusal) => Some(refusal),
+    text: &[u8],
+) -> Result<(Version, Receipt), ReloadRefusal> {
+    match commands_of(alloc, text) {
+        Some(commands) => seat.reload(rt, alloc, desk, commands),
+        None => Err(ReloadRefusal::NoMemory),
+    }
+}
+
+/// Whether a reload to this text puts this version in force.
+pub(crate) fn reloads_to<J: House, R: Wait>(
+    rt: &R,
+    alloc: Global,
+    desk: &Desk<J>,
+    seat: &mut Seat<J>,
+    text: &[u8],
+    wanted: u32,
+) -> bool {
+    match reloaded(rt, alloc, desk, seat, text) {
+        Ok((version, _)) => version.value() == wanted,
+        Err(_) => false,
+    }
+}
+
+/// Whether a reload is refused for this.
+pub(crate) fn is_refused<J: House, R: Wait>(
+    rt: &R,
+    alloc: Global,
+    desk: &Desk<J>,
+    seat: &mut Seat<J>,
+    wanted: ReloadRefusal,
+) -> bool {
+    match reloaded(rt, alloc, desk, seat, TEXT) {
+        Ok(_) => false,
+        Err(refusal) => refusal == wanted,
     }
 }
 

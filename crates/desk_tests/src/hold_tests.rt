@@ -1,18 +1,11 @@
 //! A held lock: routing goes on beside it, and an event waits for it.
 
-ghost use Rattle.std.specs.Prelude.{◌≡◌};
-ghost use Rattle.std.specs.Arc.{arc_value};
-
-use crate::given::{TEXT, blank_of, tables_of};
-use admission::{Event, Limits, STATED_LIMITS};
-use compiler::Tables;
+use crate::desks::{Steps, goes_right};
+use admission::{Event, STATED_LIMITS};
 use gk_terms::{Dialled, Gate, Name};
-use live_desk::{Blank, Desk, House, Seat};
-use std::alloc::Global;
-use std::marker::Brand;
+use live_desk::{Desk, House, Seat};
+use std::sync::Wait;
 use std::sync::atomic::{AtomicU64, Ordering};
-use std::sync::{Arc, Wait};
-use std::test::Fail;
 use std::thread::{Threads, join, yield_now};
 
 /// How often one looks for what the other is about to do. At each look other threads may run, so
@@ -61,69 +54,20 @@ fn is_set(signal: &AtomicU64, turns: u32) -> bool {
     false
 }
 
-/// The number that the gate was given, and whether whoever held the lock saw that a plan was made,
-/// and that an event was answered; and what came of the seat's plan and event.
-#[derive(Clone, Copy, Debug, PartialEq, Eq)]
-struct Seen {
-    worker: u64,
-    plan: bool,
-    answer: bool,
-    done: Option<Done>,
-}
-
-/// Whether a seat saw that the lock was held, and then made a plan; and whether its event was
-/// recorded.
-#[derive(Clone, Copy, Debug, PartialEq, Eq)]
-struct Done {
-    planned: bool,
-    recorded: bool,
-}
-
+/// No event may be answered while a gate holds the lock, though a plan is made, and the event is
+/// recorded once the lock is let go. The gate is given the number 0.
 #[test]
-fn a_held_lock_lets_plans_be_made_and_no_event_be_answered(rt: HostRuntime) -> Result<(), Fail> {
-    let tables = tables_of(rt.alloc(), TEXT).ok_or("no tables")?;
-    let seen = seen_at::<Brand, _>(&rt, rt.alloc(), blank_of(1), tables, STATED_LIMITS, 1);
-    let wanted = Seen {
-        worker: 0,
-        plan: true,
-        answer: false,
-        done: Some(Done {
-            planned: true,
-            recorded: true,
-        }),
-    };
-    assert!(&rt; seen == Some(wanted));
-    Ok(())
+fn a_held_lock_lets_plans_be_made_and_no_event_be_answered(rt: HostRuntime) {
+    assert!(&rt; goes_right(&rt, rt.alloc(), STATED_LIMITS, 1, Steps::Hold));
 }
 
-fn seen_at<J: House + Send + Sync, R: Threads + Wait + Sync>(
-    rt: &R,
-    alloc: Global,
-    blank: Blank,
-    tables: Arc<Tables>,
-    limits: Limits,
-    seats: u32,
-) -> Option<Seen>
-    requires ledger { (blank.ledger.name ≡ J.name) × (blank.ledger.parts ≡ J.parts) }
-    requires parts { (J.all ≡ J.parts) × (seats ≡ J.all) }
-    requires publisher { blank.publisher ≡ J.book }
-    requires opening { (J.begun ≡ (arc_value tables).commands) × (J.limits ≡ limits) }
-{
-    let Ok(desk) = Desk::<J>::open(alloc, blank, tables, limits, seats) else {
-        return None;
-    };
-    let seen = seen_on(rt, &desk);
-    desk.close(rt);
-    seen
-}
-
-fn seen_on<J: House + Send + Sync, R: Threads + Wait + Sync>(
+/// Whether whoever held the lock was given the number 0, and saw that a plan was made, and that no
+/// event was answered; and whether the seat made its plan, and its event was recorded.
+pub(crate) fn waits_for_the_lock<J: House + Send + Sync, R: Threads + Wait + Sync>(
     rt: &R,
     desk: &Desk<J>,
-) -> Option<Seen> {
-    let digits = Dialled::read(b"4085551234").ok()?;
-    let id = Name::read(b"nobody").ok()?;
-    let mut seat = desk.seat(rt).ok()?;
+    seat: &mut Seat<J>,
+) -> bool {
     let signals = Signals {
         worker: AtomicU64::new(NOBODY),
         held: AtomicU64::new(0),
@@ -135,32 +79,31 @@ fn seen_on<J: House + Send + Sync, R: Threads + Wait + Sync>(
     let ((), done) = join(
         rt,
         || desk.hold(rt, &signals),
-        || planned_and_asked(rt, desk, &mut seat, &digits, &id, &signals),
+        || planned_and_asked(rt, desk, seat, &signals),
     );
-    Some(Seen {
-        worker: signals.worker.load(Ordering::SeqCst),
-        plan: signals.saw_plan.load(Ordering::SeqCst) == 1,
-        answer: signals.saw_answer.load(Ordering::SeqCst) == 1,
-        done,
-    })
+    let worker = signals.worker.load(Ordering::SeqCst);
+    let plan = signals.saw_plan.load(Ordering::SeqCst);
+    let answer = signals.saw_answer.load(Ordering::SeqCst);
+    (worker, plan, answer, done) == (0, 1, 0, Some((true, true)))
 }
 
 /// Once the lock is held, makes a plan and says so; then asks an event, and says when it was
-/// answered. None if the lock was not seen to be held.
+/// answered. Whether the plan was made, and the event recorded. None if the lock was not seen to be
+/// held.
 fn planned_and_asked<J: House, R: Wait>(
     rt: &R,
     desk: &Desk<J>,
     seat: &mut Seat<J>,
-    digits: &Dialled,
-    id: &Name,
     signals: &Signals,
-) -> Option<Done> {
+) -> Option<(bool, bool)> {
+    let digits = Dialled::read(b"4085551234").ok()?;
+    let id = Name::read(b"nobody").ok()?;
     if !is_set(&signals.held, PATIENCE) {
         return None;
     }
-    let planned = seat.route(digits).is_ok();
+    let planned = seat.route(&digits).is_ok();
     signals.planned.store(1, Ordering::SeqCst);
-    let recorded = seat.ask(rt, desk, Event::Unregister { id: *id }).is_ok();
+    let recorded = seat.ask(rt, desk, Event::Unregister { id }).is_ok();
     signals.answered.store(1, Ordering::SeqCst);
-    Some(Done { planned, recorded })
+    Some((planned, recorded))
 }

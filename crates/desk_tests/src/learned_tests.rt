@@ -1,84 +1,41 @@
 //! Technology prefixes that a gateway gives on one seat, and the calls of another.
 
-ghost use Rattle.std.specs.Prelude.{◌≡◌};
-ghost use Rattle.std.specs.Arc.{arc_value};
-
-use crate::given::{TEXT, blank_of, gateway_with, name_led_to, tables_of, terminal, two_seats};
-use admission::{Event, Limits, STATED_LIMITS};
-use compiler::Tables;
+use crate::desks::{Steps, goes_right};
+use crate::given::{asked, gateway, leads_to, terminal};
+use admission::{Event, STATED_LIMITS};
 use gk_terms::{Dialled, Name};
-use live_desk::{Blank, Desk, House};
+use live_desk::{Desk, House, Seat};
 use std::alloc::Global;
-use std::marker::Brand;
-use std::sync::{Arc, Wait};
-use std::test::Fail;
+use std::sync::Wait;
 
-/// Whether calls of one seat to 9123 went to the remote zone before another seat's gateway gave 91,
-/// to that gateway afterwards, and to the zone again once it had left; and whether a plan was made
-/// before each of them without the lock.
-#[derive(Clone, Copy, Debug, PartialEq, Eq)]
-struct Learned {
-    to_zone: bool,
-    to_gateway: bool,
-    to_zone_again: bool,
-    planned: bool,
-}
-
+/// Calls of one seat to 9123 go to the remote zone before another seat's gateway gives 91, to that
+/// gateway afterwards, and to the zone again once it has left; and a plan is made before each of
+/// them without the lock.
 #[test]
-fn a_gateway_on_one_seat_routes_the_calls_of_another(rt: HostRuntime) -> Result<(), Fail> {
-    let tables = tables_of(rt.alloc(), TEXT).ok_or("no tables")?;
-    let learned = learned_from::<Brand, _>(&rt, rt.alloc(), blank_of(2), tables, STATED_LIMITS, 2);
-    let wanted = Learned {
-        to_zone: true,
-        to_gateway: true,
-        to_zone_again: true,
-        planned: true,
-    };
-    assert!(&rt; learned == Some(wanted));
-    Ok(())
-}
-
-fn learned_from<J: House, R: Wait>(
-    rt: &R,
-    alloc: Global,
-    blank: Blank,
-    tables: Arc<Tables>,
-    limits: Limits,
-    seats: u32,
-) -> Option<Learned>
-    requires ledger { (blank.ledger.name ≡ J.name) × (blank.ledger.parts ≡ J.parts) }
-    requires parts { (J.all ≡ J.parts) × (seats ≡ J.all) }
-    requires publisher { blank.publisher ≡ J.book }
-    requires opening { (J.begun ≡ (arc_value tables).commands) × (J.limits ≡ limits) }
-{
-    let Ok(desk) = Desk::<J>::open(alloc, blank, tables, limits, seats) else {
-        return None;
-    };
-    let learned = learned_on(rt, alloc, &desk);
-    desk.close(rt);
-    learned
+fn a_gateway_on_one_seat_routes_the_calls_of_another(rt: HostRuntime) {
+    assert!(&rt; goes_right(&rt, rt.alloc(), STATED_LIMITS, 2, Steps::Learn));
 }
 
 /// The second seat routes and asks before the first one registers the gateway, after it, and after
-/// it has left.
-fn learned_on<J: House, R: Wait>(rt: &R, alloc: Global, desk: &Desk<J>) -> Option<Learned> {
-    let id = Name::read(b"gc").ok()?;
-    let zone = Name::read(b"gk-y").ok()?;
-    let digits = Dialled::read(b"9123").ok()?;
-    let (mut first, mut second) = two_seats(rt, desk)?;
-    let _terminal = first.ask(rt, desk, terminal(alloc)?);
-    let mut planned = second.route(&digits).is_ok();
-    let before = name_led_to(rt, desk, &mut second, 1001, b"9123")?;
-    let _gateway = first.ask(rt, desk, gateway_with(alloc, b"gc", b"91")?);
-    planned = planned && second.route(&digits).is_ok();
-    let there = name_led_to(rt, desk, &mut second, 1002, b"9123")?;
-    let _left = first.ask(rt, desk, Event::Unregister { id });
-    planned = planned && second.route(&digits).is_ok();
-    let after = name_led_to(rt, desk, &mut second, 1003, b"9123")?;
-    Some(Learned {
-        to_zone: before == zone,
-        to_gateway: there == id,
-        to_zone_again: after == zone,
-        planned,
-    })
+/// it has left. Whether each call went where it should, and each plan was made.
+pub(crate) fn is_learned<J: House, R: Wait>(
+    rt: &R,
+    alloc: Global,
+    desk: &Desk<J>,
+    first: &mut Seat<J>,
+    second: &mut Seat<J>,
+) -> bool {
+    let (Ok(id), Ok(digits)) = (Name::read(b"gc"), Dialled::read(b"9123")) else {
+        return false;
+    };
+    let _terminal = asked(rt, desk, first, terminal(alloc));
+    let before = second.route(&digits).is_ok();
+    let to_zone = leads_to(rt, desk, second, 1001, b"9123", b"gk-y");
+    let _gateway = asked(rt, desk, first, gateway(alloc, b"gc", b"91"));
+    let there = second.route(&digits).is_ok();
+    let to_gateway = leads_to(rt, desk, second, 1002, b"9123", b"gc");
+    let _left = asked(rt, desk, first, Some(Event::Unregister { id }));
+    let after = second.route(&digits).is_ok();
+    let to_zone_again = leads_to(rt, desk, second, 1003, b"9123", b"gk-y");
+    to_zone && to_gateway && to_zone_again && before && there && after
 }

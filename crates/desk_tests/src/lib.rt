@@ -4,6 +4,8 @@
 #[cfg(test)]
 mod client_tests;
 #[cfg(test)]
+mod desks;
+#[cfg(test)]
 mod given;
 #[cfg(test)]
 mod hold_tests;
@@ -17,3 +19,5 @@ mod seat_tests;
 mod storm_tests;
 #[cfg(test)]
 mod thread_tests;
+#[cfg(test)]
+mod workers;
