@@ -1,5 +1,7 @@
 //! Seats at work in threads of their own, and what they got.
 
+ghost use Rattle.std.specs.Prelude.{◌≡◌};
+
 use crate::given::reloaded;
 use crate::seat_tests::ended;
 use crate::storm_tests::{ask_once_more, is_right_storm, register_both, storm};
