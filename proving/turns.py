@@ -38,7 +38,7 @@ def stop_on_unread(root, crates):
     """Stops if an edit stands where nothing reads it."""
     top = f"{root}/wrong_bodies"
     for name in sorted(os.listdir(top)):
-        if name in ("try", "tried", "tests"):
+        if name in ("try", "since", "tests"):
             continue
         if name not in crates:
             sys.exit(f"wrong_bodies/{name}: crates.txt names no such crate")
@@ -68,15 +68,15 @@ def git(root, *words):
 
 
 def has_turn(root, crate, edit):
-    """Whether the edit is in the tenth that the last commit draws."""
-    drawn = f"{git(root, 'rev-parse', 'HEAD')} {crate.name}/{edit.name}"
+    """Whether the edit is in the tenth that the crates as they stand in the last commit draw."""
+    drawn = f"{git(root, 'rev-parse', 'HEAD:crates')} {crate.name}/{edit.name}"
     return int.from_bytes(hashlib.sha256(drawn.encode()).digest()[:4], "big") % TURNS == 0
 
 
 def has_changed(root, crate):
-    """Whether the crate, one below it, its edits, or what judges them may differ from the commit at
-    which all were tried."""
-    file = f"{root}/wrong_bodies/tried"
+    """Whether the crate, one below it, its edits, or what judges them may differ from the commit
+    that wrong_bodies/since names."""
+    file = f"{root}/wrong_bodies/since"
     commit = open(file, encoding="utf-8").read().split()[0] if os.path.isfile(file) else ""
     names = [it.name for it in [crate, *crate.below()]]
     parts = [f"crates/{name}/{part}" for name in names for part in PARTS]
