@@ -62,9 +62,10 @@ def are_proved(crate, gate):
 
 
 def most_at_once(gate):
-    """How many checks may run: half of the processors beside a gate that proves."""
+    """How many checks may run: beside a gate that proves, and that goes before them, one less than
+    there are processors, since each takes memory too."""
     processors = len(os.sched_getaffinity(0))
-    return max(1, processors // 2) if gate and not gate.has_ended() else processors
+    return max(1, processors - 1) if gate and not gate.has_ended() else processors
 
 
 def tell(tried):
