@@ -22,16 +22,14 @@ PROOF_FILES = ("Answers.antt", "Invariants.antt", "Proof.antt")
 
 @dataclasses.dataclass(frozen=True)
 class Copy:
-    """A copy of a function: its name, the edit that it has, or none if it is the control; where it
-    stands in its file, as the numbers of its first and last line, counted from 1; and the goals for
-    which answers stand in its proof files."""
+    """A copy of a function: its name, the edit that it has, or none if it is the control, and where
+    it stands in its file, as the numbers of its first and last line, counted from 1."""
 
     function: object
     edit: object
     name: str
     first_line: int = 0
     last_line: int = 0
-    answered: frozenset = frozenset()
 
     @property
     def path(self):
@@ -42,6 +40,9 @@ class Copy:
 
     def has_proofs_in(self, file):
         return os.path.dirname(os.path.normpath(file)) == "/".join(["proofs", *self.path])
+
+    def has_answers_in(self, file):
+        return self.has_proofs_in(file) and os.path.basename(file) == "Answers.antt"
 
 
 def edited_function(crate, edit):
@@ -113,7 +114,8 @@ class Room:
         self.copies = []
         for file in sorted({it.function.file for it in copies}):
             self.write_copies(file, [it for it in copies if it.function.file == file])
-        self.copies = [self.with_proofs(it) for it in self.copies]
+        for copy in self.copies:
+            self.copy_proofs(copy)
         cycles = in_cycles(crate)
         for function in functions_of(crate):
             if not function.is_of_trait and function not in cycles and function.name != "main":
@@ -149,9 +151,8 @@ class Room:
                 text = replaced(text, pair)
         return text.split("\n")
 
-    def with_proofs(self, copy):
-        """Writes the function's proof files once more, for the copy, with the edit's pairs, and
-        gives the copy with the goals that they answer."""
+    def copy_proofs(self, copy):
+        """Writes the function's proof files once more, for the copy, with the edit's pairs."""
         proofs = f"{self.folder}/proofs"
         of, to = "/".join(copy.function.path), "/".join(copy.path)
         was = ".".join(["Rattle", self.crate.name, "proofs", *copy.function.path])
@@ -168,10 +169,6 @@ class Room:
             os.makedirs(f"{proofs}/{to}", exist_ok=True)
             with open(f"{proofs}/{to}/{name}", "w", encoding="utf-8") as out:
                 out.write(text)
-            if name == "Answers.antt":
-                answered = frozenset(re.findall(r"^pub (\S+) : goal\.\1$", text, re.M))
-                copy = dataclasses.replace(copy, answered=answered)
-        return copy
 
     def leave_open(self, function):
         """Makes the function's proof a hole."""

@@ -7,7 +7,8 @@ import re
 VERDICT = re.compile(r"fn (\S+): (.*)")
 GOAL = re.compile(r"(?:note: )?(?:\./)?(src/\S+?):(\d+):\d+: (?:error: )?(it is not proved .*)")
 ERROR = re.compile(r"(?:\./)?((?:src|specs|proofs)/\S+?):(\d+):\d+: (error\b.*)")
-# An answer, by its goal's name, that is no proof of the goal; and one that names what is not there.
+# An answer, by its name, that is no proof of what it has to be; and one that names what is not
+# there.
 ANSWER = re.compile(r"error: `([^`]+)`: (.*)")
 NAMES = re.compile(
     r"module `|`goal\.|is not in scope|has no field|has no `|is no name|was not admitted"
@@ -53,11 +54,11 @@ class Said:
 
     def goals_in(self, copy):
         """The goals of the copy that stay open, and why: those that the search leaves, and those
-        whose answers are no proofs of them for what they say, and not for a name alone."""
+        whose answers, or what these stand on in the same file, are no proofs for what they say, and
+        not for a name alone."""
         found = [why for file, line, why in self.goals if copy.holds(file, line)]
-        answers = [ANSWER.match(why) for file, _, why in self.errors if copy.has_proofs_in(file)]
-        answers = [it for it in answers if it and it[1] in copy.answered]
-        wrong = [it for it in answers if not NAMES.search(it[2])]
+        answers = [ANSWER.match(why) for file, _, why in self.errors if copy.has_answers_in(file)]
+        wrong = [it for it in answers if it and not NAMES.search(it[2])]
         return found + [f"{BY_ANSWER} `{it[1]}`: {it[2]}" for it in wrong]
 
     def errors_in(self, copy):
